@@ -1,0 +1,193 @@
+// Runs the table's four public calls on the cases of standard input, and prints every answer.
+// A line of the input is a case. `table` gives a width, the lengths of the three lists and their entries
+// (value/length>hop), for this line and those below it, and asks the check; `zone` asks for a prefix's zone
+// in that table; `shared` for the shared length of two prefixes.
+use libc::STDIN_FILENO;
+use libc::STDOUT_FILENO;
+use table::Outcome;
+use table::Shared;
+use table::Span;
+
+// The table of the lines below, as the lengths of its lists, and the next place of the text.
+struct Held {
+    width: u32,
+    values: usize,
+    lengths: usize,
+    hops: usize,
+    at: usize,
+}
+
+fn say(word: &[u8]) {
+    io::write_all(STDOUT_FILENO, word);
+}
+
+fn put(n: u64) {
+    say(b" ");
+    io::print_decimal(STDOUT_FILENO, n);
+}
+
+fn put_value(value: u32) {
+    put(value as u64);
+}
+
+fn say_refused(number: u32, detail: u64) {
+    say(b"refused");
+    put(number as u64);
+    put(detail);
+}
+
+fn say_outcome(outcome: Outcome) {
+    match outcome {
+        Outcome::Accepted => say(b"accepted"),
+        Outcome::Refused { number, detail } => say_refused(number, detail),
+    }
+}
+
+fn say_shared(shared: Shared) {
+    match shared {
+        Shared::Length(bits) => {
+            say(b"length");
+            put(bits as u64);
+        }
+        Shared::Refused { number, detail } => say_refused(number, detail),
+    }
+}
+
+fn say_span(span: Span) {
+    match span {
+        Span::Part { index, count } => {
+            say(b"part");
+            put(index as u64);
+            put(count as u64);
+        }
+        Span::Refused { number, detail } => say_refused(number, detail),
+    }
+}
+
+// The part handed back: its length, then its values.
+fn say_part(part: &[u32]) {
+    say(b" holds");
+    put(part.len() as u64);
+    say(b":");
+    let mut i = 0;
+    while i < part.len() {
+        put_value(part[i]);
+        i += 1;
+    }
+}
+
+fn table_line(
+    text: &[u8],
+    at: usize,
+    values: &mut [u32],
+    lengths: &mut [u8],
+    hops: &mut [u16],
+) -> Held {
+    let width = cases::number(text, at);
+    let v = cases::number(text, width.next);
+    let l = cases::number(text, v.next);
+    let h = cases::number(text, l.next);
+    let rows = cases::rows(text, h.next, values, lengths, hops);
+    Held {
+        width: cases::held32(width.value),
+        values: v.value as usize,
+        lengths: l.value as usize,
+        hops: h.value as usize,
+        at: rows.next,
+    }
+}
+
+fn check_held(held: Held, values: &[u32], lengths: &[u8], hops: &[u16]) {
+    let v = cases::front32(values, held.values);
+    let l = cases::front8(lengths, held.lengths);
+    let h = cases::front16(hops, held.hops);
+    say_outcome(table::check_table(held.width, v, l, h));
+}
+
+fn zone_line(
+    text: &[u8],
+    at: usize,
+    held: Held,
+    values: &[u32],
+    lengths: &[u8],
+    hops: &[u16],
+) -> usize {
+    let value = cases::number(text, at);
+    let length = cases::number(text, value.next);
+    let prefix = cases::held32(value.value);
+    let bits = cases::held8(length.value);
+    let v = cases::front32(values, held.values);
+    let l = cases::front8(lengths, held.lengths);
+    let h = cases::front16(hops, held.hops);
+    say_span(table::zone_span(held.width, v, l, h, prefix, bits));
+    say_part(table::zone(held.width, v, l, h, prefix, bits));
+    length.next
+}
+
+fn shared_line(text: &[u8], at: usize) -> usize {
+    let width = cases::number(text, at);
+    let a = cases::number(text, width.next);
+    let a_length = cases::number(text, a.next);
+    let b = cases::number(text, a_length.next);
+    let b_length = cases::number(text, b.next);
+    say_shared(table::shared_length(
+        cases::held32(width.value),
+        cases::held32(a.value),
+        cases::held8(a_length.value),
+        cases::held32(b.value),
+        cases::held8(b_length.value),
+    ));
+    b_length.next
+}
+
+// The byte at a place, 0 past the end.
+fn byte(text: &[u8], at: usize) -> u8 {
+    if at < text.len() {
+        return text[at];
+    }
+    0
+}
+
+// One case: its first letter says which.
+fn line(text: &[u8], held: Held, values: &mut [u32], lengths: &mut [u8], hops: &mut [u16]) -> Held {
+    let at = cases::seek(text, held.at, b'a', b'z');
+    let letter = byte(text, at);
+    if letter == b't' {
+        let new = table_line(text, at, values, lengths, hops);
+        check_held(new, values, lengths, hops);
+        return new;
+    }
+    let mut next = held;
+    if letter == b'z' {
+        next.at = zone_line(text, at, held, values, lengths, hops);
+        return next;
+    }
+    next.at = shared_line(text, at);
+    next
+}
+
+fn run(text: &[u8], values: &mut [u32], lengths: &mut [u8], hops: &mut [u16]) {
+    let count = cases::number(text, 0);
+    let mut held = Held {
+        width: 0,
+        values: 0,
+        lengths: 0,
+        hops: 0,
+        at: count.next,
+    };
+    let mut left = count.value;
+    while left > 0 {
+        held = line(text, held, values, lengths, hops);
+        say(b"\n");
+        left -= 1;
+    }
+}
+
+fn main() {
+    let mut page = cases::page();
+    let n = io::read_full(STDIN_FILENO, &mut page);
+    let mut values = cases::values();
+    let mut lengths = cases::lengths();
+    let mut hops = cases::hops();
+    run(&page[..n], &mut values, &mut lengths, &mut hops);
+}

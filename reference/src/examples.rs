@@ -1,0 +1,155 @@
+//! 01's own examples, line by line, and brute force against recurrence on random small tries.
+
+use crate::build::{build, chosen, lay, Elements, Record, SCRATCH_ROW};
+use crate::choices::*;
+use crate::lookup::{lookup, Found};
+use crate::random::Random;
+use crate::table::{shared_length, Refusal, Table};
+use crate::tablet;
+use crate::trie::Trie;
+
+/// A table from bit strings and hops.
+fn table(width: u32, entries: &[(&str, u16)]) -> Table {
+    let mut table = Table { width, ..Table::default() };
+    for (bits, hop) in entries {
+        let number = u64::from_str_radix(&format!("0{bits}"), 2).unwrap();
+        table.value.push((number << (width - bits.len() as u32)) as u32);
+        table.length.push(bits.len() as u8);
+        table.hop.push(*hop);
+    }
+    table
+}
+
+fn eight() -> Table {
+    table(7, &[("0", 1), ("1", 2), ("10001", 5), ("101", 4), ("11", 3), ("1100", 6), ("110000", 7), ("1100000", 8)])
+}
+
+fn room(n: usize) -> Elements {
+    Elements { hop: vec![0; n], link: vec![0; n], stride: vec![0; n] }
+}
+
+fn built(
+    kind: Kind,
+    levels: u32,
+    table: &Table,
+    rows: usize,
+    elements: usize,
+) -> (Result<(), Refusal>, Record, Elements) {
+    let mut lent = room(elements);
+    let (outcome, record) = build(kind, levels, table, &mut vec![7; rows * SCRATCH_ROW], &mut lent);
+    (outcome, record, lent)
+}
+
+fn number(bits: &str) -> u32 {
+    u32::from_str_radix(bits, 2).unwrap()
+}
+
+#[test]
+fn whole_run() {
+    let input = "width=3\nkind=vst\nlevels=2\nentries=2\nbits=1\nhop=1\nbits=101\nhop=2\nqueries=3\naddress=101\naddress=111\naddress=011\n";
+    let output = "refusal=0\ndetail=0\nelements=6\nroot=1\naddress=101\nhop=2\nreads=2\naddress=111\nhop=1\nreads=2\naddress=011\nhop=0\nreads=1\n";
+    assert_eq!(tablet::run(input.as_bytes()), output);
+    let small = table(3, &[("1", 1), ("101", 2)]);
+    let trie = Trie::of(&small);
+    let rows = lay(&small, &trie, &choose(Kind::Variable, &trie, 2));
+    assert_eq!(rows.hop, [0, 1, 0, 2, 0, 0]);
+    assert_eq!(rows.link, [0, 2, 0, 0, 0, 0]);
+    assert_eq!(rows.stride, [0, 2, 0, 0, 0, 0]);
+}
+
+#[test]
+fn eight_prefix_nodes_and_costs() {
+    let trie = Trie::of(&eight());
+    assert_eq!((0..7).map(|i| trie.nodes_at(i)).collect::<Vec<_>>(), [1, 1, 2, 2, 2, 1, 1]);
+    let costs = |kind| (1..=4).map(|k| choose(kind, &trie, k).cost).collect::<Vec<_>>();
+    assert_eq!(costs(Kind::Fixed), [128, 32, 20, 18]);
+    assert_eq!(costs(Kind::Variable), [128, 26, 20, 18]);
+    assert_eq!(fixed(&trie, 2).list, [4, 3]);
+    assert_eq!(fixed(&trie, 3).list, [3, 2, 2]);
+    assert_eq!(fixed(&trie, 4).list, [1, 2, 2, 2]);
+    assert_eq!(fixed_cost(&trie, &[1, 3, 1, 2]), 18);
+}
+
+#[test]
+fn eight_prefix_answers() {
+    let table = eight();
+    let matches = [("1100001", 7), ("1100000", 8), ("1100111", 6), ("1101000", 3), ("1000111", 5), ("1001111", 2)];
+    for (address, hop) in matches {
+        assert_eq!(table.answer(number(address)), hop);
+    }
+    assert_eq!(shared_length(7, number("1000100"), 5, number("1010000"), 3), Ok(2));
+    assert_eq!(table.zone(number("1100000"), 4), Ok((5, 3)));
+}
+
+#[test]
+fn eight_prefix_build() {
+    let (outcome, record, rows) = built(Kind::Variable, 2, &eight(), 10, 26);
+    assert_eq!(outcome, Ok(()));
+    assert_eq!((record.elements, record.strides), (26, [4, 0, 0, 0, 0, 0, 0, 0]));
+    let links: Vec<(u32, u8)> =
+        (0..26).filter(|&i| rows.link[i] != 0).map(|i| (rows.link[i], rows.stride[i])).collect();
+    assert_eq!(links, [(16, 1), (18, 3)]);
+    assert_eq!(lookup(&record, &rows, number("1100001")).unwrap().reads, 2);
+    assert_eq!(lookup(&record, &rows, 0).unwrap().reads, 1);
+    assert_eq!(lookup(&record, &rows, 128), Err(Refusal { number: 8, detail: 0 }));
+    assert_eq!(lookup(&record, &rows, 127).unwrap().hop, 3);
+    assert_eq!(built(Kind::Variable, 2, &eight(), 10, 25).0, Err(Refusal { number: 7, detail: 26 }));
+    assert_eq!(built(Kind::Variable, 2, &eight(), 9, 26).0, Err(Refusal { number: 6, detail: 10 }));
+    assert_eq!(built(Kind::Variable, 8, &eight(), 10, 26).0, Ok(()));
+    assert_eq!(built(Kind::Variable, 9, &eight(), 10, 26).0, Err(Refusal { number: 2, detail: 0 }));
+    let (outcome, record, rows) = built(Kind::Fixed, 3, &table(7, &[]), 0, 0);
+    assert_eq!(outcome, Ok(()));
+    assert_eq!(lookup(&record, &rows, 127), Ok(Found { hop: 0, reads: 0 }));
+}
+
+#[test]
+fn brute_force_is_the_recurrence() {
+    let mut random = Random::new(1);
+    let mut compared = 0;
+    for _ in 0..400 {
+        let width = random.within(1, 6) as u32;
+        let n = random.within(0, 10) as usize;
+        let trie = Trie::of(&random.table(width, n));
+        for k in 1..=LEVELS as u32 {
+            assert_eq!(fixed_brute(&trie, k), fixed(&trie, k));
+            if !trie.has("") || variable_count(&trie, "", k) <= 2000 {
+                assert_eq!(variable_brute(&trie, k), variable(&trie, k));
+                compared += 1;
+            }
+            assert!(variable(&trie, k).cost <= fixed(&trie, k).cost);
+            assert!(k == 1 || variable(&trie, k).cost <= variable(&trie, k - 1).cost);
+            assert!(k == 1 || fixed(&trie, k).cost <= fixed(&trie, k - 1).cost);
+        }
+    }
+    assert!(compared > 1000, "only {compared} variable choices were small enough");
+}
+
+#[test]
+fn builds_answer_longest_match() {
+    let mut random = Random::new(2);
+    for _ in 0..300 {
+        let width = random.within(1, 8) as u32;
+        let n = random.within(0, 20) as usize;
+        let table = random.table(width, n);
+        assert_eq!(table.check(), Ok(()));
+        for (kind, k) in [(Kind::Fixed, 1), (Kind::Variable, 2), (Kind::Fixed, 3), (Kind::Variable, 8)] {
+            let (outcome, record, rows) = built(kind, k, &table, 256, 256);
+            assert_eq!(outcome, Ok(()));
+            for address in 0..1u32 << width {
+                let found = lookup(&record, &rows, address).unwrap();
+                assert_eq!(found.hop, table.answer(address));
+                assert!(found.reads <= k);
+            }
+        }
+    }
+}
+
+#[test]
+fn scratch_is_zeroed_or_kept() {
+    let mut scratch = vec![7; 10 * SCRATCH_ROW + 5];
+    assert_eq!(chosen(Kind::Fixed, 2, &eight(), &mut scratch), (Ok(()), 32, [4, 3, 0, 0, 0, 0, 0, 0]));
+    assert!(scratch.iter().all(|x| *x == 0));
+    let mut scratch = vec![7; 10 * SCRATCH_ROW - 1];
+    assert_eq!(chosen(Kind::Fixed, 2, &eight(), &mut scratch).0, Err(Refusal { number: 6, detail: 10 }));
+    assert!(scratch.iter().all(|x| *x == 7));
+}

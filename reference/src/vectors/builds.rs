@@ -1,0 +1,477 @@
+//! The cases of build and lookup. A `table` line sets the table of the builds below it. A `fixed` or
+//! `variable` line gives the level limit, the length of scratch (filled with sevens) and of the three
+//! element lists hop, link and stride (filled with nines); its answer is the outcome, the record, scratch's
+//! zeros and sevens, and how many nines stand in each element list past row E. `print` prints rows 0 to E-1
+//! as hop/link/stride. `look` asks one address of the last record and lists, `sweep` all addresses below a
+//! number, as hop/reads, or r with the refusal. A `record` line sets a record and lists of its own, the
+//! rows as link/stride>hop; of its strides all but the first are the number called others.
+
+use super::choosers::{name, KINDS, SCRATCH};
+use super::tables::{damaged, width};
+use super::{eight, of, outcome, table_line, Vectors};
+use crate::build::{build, Elements, Record, SCRATCH_ROW};
+use crate::choices::{Kind, LEVELS};
+use crate::lookup::{lookup, walk, Damage};
+use crate::random::Random;
+use crate::table::Table;
+use crate::trie::Trie;
+
+/// The program's element lists have no more places.
+const ROOM: usize = 20_000;
+
+const WANTED: &[&str] = &[
+    "fixed accepted",
+    "fixed refused 1",
+    "fixed refused 2",
+    "fixed refused 3",
+    "fixed refused 4",
+    "fixed refused 5",
+    "fixed refused 6",
+    "fixed refused 7",
+    "variable accepted",
+    "variable refused 1",
+    "variable refused 2",
+    "variable refused 3",
+    "variable refused 4",
+    "variable refused 5",
+    "variable refused 6",
+    "variable refused 7",
+    "lookup match",
+    "lookup no route",
+    "lookup refused 1",
+    "lookup refused 2",
+    "lookup refused 8",
+    "lookup refused 9",
+    "damage ListsTooShort",
+    "damage RootStrideZero",
+    "damage StrideZero",
+    "damage StrideTooLong",
+    "damage RowPastEnd",
+    "damage BlockAfterLast",
+    "damaged row off the path",
+    "link backwards followed",
+];
+
+/// What the last build or `record` line left.
+#[derive(Clone)]
+struct Left {
+    record: Record,
+    rows: Elements,
+}
+
+fn table(vectors: &mut Vectors, table: &Table) {
+    vectors.case(table_line(table), "table".to_string());
+}
+
+fn nines<T: Copy + Into<u32>>(list: &[T], from: u32) -> usize {
+    list.iter().skip(from as usize).filter(|x| (**x).into() == 9).count()
+}
+
+/// Lengths of scratch, and of the hop, link and stride list.
+type Lent = (usize, usize, usize, usize);
+
+fn built(vectors: &mut Vectors, table: &Table, kind: Kind, levels: u32, lent: Lent) -> Left {
+    let (places, hop, link, stride) = lent;
+    assert!(places <= SCRATCH && hop.max(link).max(stride) <= ROOM);
+    let mut scratch = vec![7; places];
+    let mut rows = Elements { hop: vec![9; hop], link: vec![9; link], stride: vec![9; stride] };
+    let (answer, record) = build(kind, levels, table, &mut scratch, &mut rows);
+    vectors.outcome(name(kind), &answer);
+    let zeros = scratch.iter().filter(|x| **x == 0).count();
+    let strides: String = record.strides.iter().map(|s| format!(" {s}")).collect();
+    let e = record.elements;
+    vectors.case(
+        format!("{} levels {levels} scratch {places} lists {hop} {link} {stride}", name(kind)),
+        format!(
+            "{} width {} levels {} elements {e} floor {} strides{strides} zeros {zeros} sevens {} nines {} {} {}",
+            outcome(answer),
+            record.width,
+            record.levels,
+            record.floor,
+            places - zeros,
+            nines(&rows.hop, e),
+            nines(&rows.link, e),
+            nines(&rows.stride, e)
+        ),
+    );
+    Left { record, rows }
+}
+
+fn rows(vectors: &mut Vectors, left: &Left) {
+    let rows: String = (0..left.record.elements as usize)
+        .map(|i| format!(" {}/{}/{}", left.rows.hop[i], left.rows.link[i], left.rows.stride[i]))
+        .collect();
+    vectors.case("print".to_string(), format!("rows{rows}"));
+}
+
+/// Counts what a lookup met.
+fn count(vectors: &mut Vectors, left: &Left, address: u32) {
+    match lookup(&left.record, &left.rows, address) {
+        Ok(found) if found.hop > 0 => vectors.hit("lookup match"),
+        Ok(_) => vectors.hit("lookup no route"),
+        Err(refusal) => {
+            vectors.hit(&format!("lookup refused {}", refusal.number));
+            if refusal.number == 9 {
+                let damage: Damage = walk(&left.record, &left.rows, address).unwrap_err();
+                vectors.hit(&format!("damage {damage:?}"));
+            }
+        }
+    }
+}
+
+fn look(vectors: &mut Vectors, left: &Left, address: u32) {
+    count(vectors, left, address);
+    let answer = match lookup(&left.record, &left.rows, address) {
+        Ok(found) if found.hop > 0 => format!("match {} reads {}", found.hop, found.reads),
+        Ok(found) => format!("none reads {}", found.reads),
+        Err(refusal) => format!("refused {}", refusal.number),
+    };
+    vectors.case(format!("look {address}"), answer);
+}
+
+fn sweep(vectors: &mut Vectors, left: &Left, below: u32) {
+    let mut answers = "sweep".to_string();
+    for address in 0..below {
+        count(vectors, left, address);
+        answers += &match lookup(&left.record, &left.rows, address) {
+            Ok(found) => format!(" {}/{}", found.hop, found.reads),
+            Err(refusal) => format!(" r{}", refusal.number),
+        };
+    }
+    vectors.case(format!("sweep {below}"), answers);
+}
+
+/// All addresses of an accepted build, held to longest match besides.
+fn sweep_all(vectors: &mut Vectors, table: &Table, left: &Left) {
+    for address in 0..1u32 << table.width {
+        let found = lookup(&left.record, &left.rows, address).expect("an accepted build is not damaged");
+        assert!(found.hop == table.answer(address) && found.reads <= left.record.levels);
+    }
+    sweep(vectors, left, 1 << table.width);
+}
+
+/// A record and lists of its own; `others` stands in every place of its strides but the first.
+fn record(vectors: &mut Vectors, left: &mut Left, others: u8) {
+    for s in &mut left.record.strides[1..] {
+        *s = others;
+    }
+    let (r, e) = (&left.record, &left.rows);
+    let n = e.hop.len().max(e.link.len()).max(e.stride.len());
+    let mut line = format!(
+        "record width {} levels {} elements {} floor {} stride {} others {others} lists {} {} {} rows {n}:",
+        r.width,
+        r.levels,
+        r.elements,
+        r.floor,
+        r.strides[0],
+        e.hop.len(),
+        e.link.len(),
+        e.stride.len()
+    );
+    for i in 0..n {
+        let link = e.link.get(i).copied().unwrap_or(0);
+        let stride = e.stride.get(i).copied().unwrap_or(0);
+        let hop = e.hop.get(i).copied().unwrap_or(0);
+        line += &format!(" {link}/{stride}>{hop}");
+    }
+    vectors.case(line, "record".to_string());
+}
+
+fn nodes(table: &Table) -> usize {
+    Trie::of(table).size() * SCRATCH_ROW
+}
+
+fn examples(vectors: &mut Vectors) {
+    let small = of(3, &[(4, 1, 1), (5, 3, 2)]);
+    table(vectors, &small);
+    let left = built(vectors, &small, Kind::Variable, 2, (72, 6, 6, 6));
+    rows(vectors, &left);
+    sweep_all(vectors, &small, &left);
+    let eight = eight();
+    table(vectors, &eight);
+    let left = built(vectors, &eight, Kind::Variable, 2, (240, 26, 26, 26));
+    rows(vectors, &left);
+    for address in [97, 96, 103, 104, 71, 79, 0, 127, 128, 4294967295] {
+        look(vectors, &left, address);
+    }
+    for kind in KINDS {
+        for levels in 0..=9 {
+            let left = built(vectors, &eight, kind, levels, (240, 128, 130, 129));
+            rows(vectors, &left);
+            if left.record.width > 0 {
+                sweep_all(vectors, &eight, &left);
+            }
+        }
+        for lent in [
+            (240, 25, 26, 26),
+            (240, 26, 25, 26),
+            (240, 26, 26, 25),
+            (240, 26, 26, 27),
+            (216, 26, 26, 26),
+            (239, 26, 26, 26),
+            (0, 0, 0, 0),
+        ] {
+            built(vectors, &eight, kind, 2, lent);
+        }
+    }
+}
+
+fn edges(vectors: &mut Vectors) {
+    let tables = [
+        of(7, &[]),
+        of(7, &[(0, 0, 65534)]),
+        of(1, &[(0, 0, 9), (0, 1, 1), (1, 1, 65534)]),
+        of(32, &[(4294967295, 32, 7)]),
+        of(32, &[(0, 0, 1), (0, 32, 2), (2147483648, 1, 4), (4294967294, 31, 5), (4294967295, 32, 3)]),
+        of(32, &[(0, 24, 3)]),
+        of(32, &[(0, 25, 3)]),
+    ];
+    for made in tables {
+        table(vectors, &made);
+        for kind in KINDS {
+            for levels in 1..=LEVELS as u32 {
+                let left = built(vectors, &made, kind, levels, (nodes(&made), 4096, 4096, 4096));
+                if left.record.width == 0 {
+                    continue;
+                }
+                for address in [0, 1, 127, 128, 2147483647, 2147483648, 4294967294, 4294967295] {
+                    look(vectors, &left, address);
+                }
+            }
+        }
+        built(vectors, &made, Kind::Variable, 1, (nodes(&made), 0, 0, 0));
+    }
+}
+
+/// Small tables with all k and all addresses; the rows of one k of each kind.
+fn small(vectors: &mut Vectors, random: &mut Random) {
+    for _ in 0..320 {
+        let width = if random.one_in(6) { random.within(5, 6) } else { random.within(1, 4) } as u32;
+        let n = random.within(0, 8) as usize;
+        let made = random.table(width, n);
+        table(vectors, &made);
+        for kind in KINDS {
+            let shown = random.within(1, width as u64) as u32;
+            for levels in 1..=width + 1 {
+                let room = 64 + random.within(0, 9) as usize;
+                let left = built(vectors, &made, kind, levels, (nodes(&made) + 5, room, room + 1, 80));
+                if levels == shown {
+                    rows(vectors, &left);
+                }
+                sweep_all(vectors, &made, &left);
+            }
+        }
+    }
+}
+
+/// Wider tables: addresses at and around the entries.
+fn wide(vectors: &mut Vectors, random: &mut Random) {
+    for _ in 0..60 {
+        let width = random.within(7, 32) as u32;
+        let n = random.within(1, 12) as usize;
+        let made = random.table(width, n);
+        table(vectors, &made);
+        for kind in KINDS {
+            let levels = random.within(3, 8) as u32;
+            let left = built(vectors, &made, kind, levels, (nodes(&made), ROOM, ROOM, ROOM));
+            if left.record.width == 0 {
+                continue;
+            }
+            for i in 0..made.value.len().min(5) {
+                let last = made.value[i] as u64 + (1u64 << (width - made.length[i] as u32)) - 1;
+                for address in
+                    [made.value[i], last as u32, last.wrapping_add(1) as u32, random.prefix(width, width, width).0]
+                {
+                    look(vectors, &left, address);
+                    if (address as u64) < 1 << width {
+                        let found = lookup(&left.record, &left.rows, address).unwrap();
+                        assert!(found.hop == made.answer(address));
+                    }
+                }
+            }
+        }
+    }
+    let made = of(13, &(0..4096).map(|i| (2 * i, 12, 1 + (i % 1000) as u16)).collect::<Vec<_>>());
+    table(vectors, &made);
+    for kind in KINDS {
+        let left = built(vectors, &made, kind, 3, (nodes(&made), ROOM, ROOM, ROOM));
+        for address in [0, 1, 2, 4095, 4096, 8190, 8191, 8192] {
+            look(vectors, &left, address);
+        }
+    }
+}
+
+/// Refusals of the build, and room that is just enough or just too little.
+fn refusals(vectors: &mut Vectors, random: &mut Random) {
+    for turn in 0..180 {
+        let kind = turn % 9;
+        let width = if kind == 3 { width(random).min(31) } else { width(random) };
+        let n = random.within(6, 12) as usize;
+        let mut made = random.table(width, n);
+        if made.value.len() < 2 {
+            continue;
+        }
+        damaged(random, &mut made, kind);
+        table(vectors, &made);
+        for kind in KINDS {
+            let levels = if random.one_in(4) {
+                [0, 9, 4294967295][random.within(0, 2) as usize]
+            } else {
+                random.within(1, 8) as u32
+            };
+            let places = random.within(0, 60) as usize;
+            built(vectors, &made, kind, levels, (places, 10, 11, 12));
+        }
+    }
+    for _ in 0..60 {
+        let made = random.table(6, 6);
+        if !Trie::of(&made).has("") {
+            continue;
+        }
+        table(vectors, &made);
+        for kind in KINDS {
+            let levels = random.within(1, 4) as u32;
+            let left = built(vectors, &made, kind, levels, (nodes(&made), 64, 64, 64));
+            let e = left.record.elements as usize;
+            let lent = match random.within(0, 3) {
+                0 => (nodes(&made), e - 1, e, e + 2),
+                1 => (nodes(&made), e + 2, e - 1, e),
+                2 => (nodes(&made) + 23, e, e + 2, e - 1),
+                _ => (nodes(&made) - 1, e, e, e),
+            };
+            built(vectors, &made, kind, levels, lent);
+            built(vectors, &made, kind, levels, (nodes(&made), e, e, e));
+        }
+    }
+}
+
+/// One thing changed in a good record or its rows.
+fn harm(random: &mut Random, left: &mut Left, kind: u64) {
+    let n = left.rows.hop.len() as u64;
+    let i = random.within(0, n - 1) as usize;
+    let linked: Vec<usize> = (0..n as usize).filter(|&i| left.rows.link[i] > 0).collect();
+    let row = if linked.is_empty() { i } else { linked[random.within(0, linked.len() as u64 - 1) as usize] };
+    match kind {
+        0 => left.record.elements += random.within(1, 3) as u32,
+        1 if random.one_in(2) => drop(left.rows.hop.pop()),
+        1 => drop(left.rows.link.pop()),
+        2 => drop(left.rows.stride.pop()),
+        3 => left.record.strides[0] = 0,
+        4 => left.rows.stride[row] = 0,
+        5 => left.rows.stride[row] = random.within(1, 255) as u8,
+        6 => left.record.strides[0] = random.within(1, 255) as u8,
+        7 => left.record.elements = random.within(0, n) as u32,
+        8 => {
+            left.rows.link[row] =
+                [n as u32, n as u32 + 1, 4294967295, left.record.elements][random.within(0, 3) as usize]
+        }
+        9 => left.record.levels = random.within(1, 2) as u32,
+        10 => {
+            left.rows.link[i] = random.within(1, n) as u32;
+            left.rows.stride[i] = random.within(1, 3) as u8;
+        }
+        11 => left.rows.link[row] = random.within(0, row as u64) as u32,
+        12 => left.rows.hop[i] = [0, 1, 65535][random.within(0, 2) as usize],
+        13 => left.record.floor = [0, 65535, 77][random.within(0, 2) as usize],
+        14 => left.record.width = [0, 33, 256, 4294967295, left.record.width + 1][random.within(0, 4) as usize],
+        15 => left.record.levels = [0, 9, 4294967295][random.within(0, 2) as usize],
+        16 => left.rows.stride[i] = random.within(0, 255) as u8,
+        _ => left.record.elements = left.record.elements.wrapping_sub(1),
+    }
+}
+
+fn harmed(vectors: &mut Vectors, random: &mut Random) {
+    for turn in 0..420 {
+        let width = random.within(2, 5) as u32;
+        let n = random.within(2, 8) as usize;
+        let made = random.table(width, n);
+        let kind = KINDS[turn as usize % 2];
+        let levels = random.within(1, 3) as u32;
+        let mut elements = Elements { hop: vec![0; 64], link: vec![0; 64], stride: vec![0; 64] };
+        let mut scratch = vec![0; nodes(&made)];
+        let (_, good) = build(kind, levels, &made, &mut scratch, &mut elements);
+        let e = good.elements as usize;
+        if e == 0 {
+            continue;
+        }
+        elements.hop.truncate(e);
+        elements.link.truncate(e);
+        elements.stride.truncate(e);
+        let mut left = Left { record: good, rows: elements };
+        let sound = left.clone();
+        harm(random, &mut left, turn % 18);
+        if random.one_in(3) && left.rows.shortest() == e {
+            harm(random, &mut left, random_kind(turn));
+        }
+        let others = random.within(0, 255) as u8;
+        record(vectors, &mut left, others);
+        let below = 1u32 << width;
+        sweep(vectors, &left, below);
+        for address in [below - 1, below, 4294967295] {
+            look(vectors, &left, address);
+        }
+        count_paths(vectors, &left, &sound, below);
+    }
+}
+
+/// Counts records in which an accepted walk follows a link backwards, or passes by a changed row.
+fn count_paths(vectors: &mut Vectors, left: &Left, sound: &Left, below: u32) {
+    let accepted = |address| lookup(&left.record, &left.rows, address).is_ok();
+    let paths: Vec<Vec<usize>> =
+        (0..below).filter(|a| accepted(*a)).map(|a| walk(&left.record, &left.rows, a).unwrap().1).collect();
+    let back = |path: &Vec<usize>| path.windows(2).any(|w| (left.rows.link[w[0]] as usize) <= w[0]);
+    if paths.iter().any(back) {
+        vectors.hit("link backwards followed");
+    }
+    let changed: Vec<usize> = (0..left.rows.shortest())
+        .filter(|&i| {
+            let (a, b) = (&left.rows, &sound.rows);
+            (a.hop[i], a.link[i], a.stride[i]) != (b.hop[i], b.link[i], b.stride[i])
+        })
+        .collect();
+    if paths.iter().any(|path| changed.iter().any(|i| !path.contains(i))) {
+        vectors.hit("damaged row off the path");
+    }
+}
+
+/// Another kind of harm than the turn's own.
+fn random_kind(turn: u64) -> u64 {
+    (turn * 7 + 5) % 18
+}
+
+/// Rows and records of any numbers.
+fn noise(vectors: &mut Vectors, random: &mut Random) {
+    for _ in 0..150 {
+        let n = random.within(1, 24) as usize;
+        let width = random.within(1, 5) as u32;
+        let mut left = Left { record: Record::default(), rows: Elements::default() };
+        for _ in 0..n {
+            left.rows.hop.push(if random.one_in(2) { 0 } else { random.next() as u16 });
+            left.rows.link.push(if random.one_in(2) { 0 } else { random.within(0, n as u64) as u32 });
+            left.rows.stride.push(random.within(0, 3) as u8);
+        }
+        left.record = Record {
+            width,
+            levels: random.within(1, 8) as u32,
+            elements: random.within(n as u64 / 2, n as u64) as u32,
+            floor: random.within(0, 3) as u16,
+            strides: [random.within(0, 4) as u8; LEVELS],
+        };
+        let others = random.within(0, 9) as u8;
+        record(vectors, &mut left, others);
+        sweep(vectors, &left, 1 << width);
+    }
+}
+
+pub fn write(top: &str) {
+    let mut vectors = Vectors::default();
+    let mut random = Random::new(5);
+    examples(&mut vectors);
+    edges(&mut vectors);
+    small(&mut vectors, &mut random);
+    wide(&mut vectors, &mut random);
+    refusals(&mut vectors, &mut random);
+    harmed(&mut vectors, &mut random);
+    noise(&mut vectors, &mut random);
+    vectors.write(top, "build_cases", WANTED);
+}

@@ -1,0 +1,307 @@
+//! The cases of the tablet's text. A case is the word `text` with the number of bytes, a line end, the bytes
+//! themselves and a line end; its answer is the whole report and a line `end`.
+
+use super::Vectors;
+use crate::random::Random;
+use crate::table::bits;
+use crate::tablet;
+
+const WANTED: &[&str] = &[
+    "refusal 0",
+    "refusal 1",
+    "refusal 2",
+    "refusal 4",
+    "refusal 5",
+    "refusal 6",
+    "refusal 7",
+    "refusal 8",
+    "refusal 11",
+    "bad width line",
+    "bad kind line",
+    "bad levels line",
+    "bad entries line",
+    "bad bits line",
+    "bad hop line",
+    "bad queries line",
+    "bad address line",
+    "text after the end",
+];
+
+fn text(vectors: &mut Vectors, text: &[u8]) {
+    let report = tablet::run(text);
+    let refusal = report.lines().next().and_then(|l| l.strip_prefix("refusal=")).expect("a report begins so");
+    vectors.hit(&format!("refusal {refusal}"));
+    let mut line = format!("text {}\n", text.len()).into_bytes();
+    line.extend(text);
+    vectors.raw_case(&line, format!("{report}end"));
+}
+
+const WHOLE: &str = "width=3\nkind=vst\nlevels=2\nentries=2\nbits=1\nhop=1\nbits=101\nhop=2\nqueries=3\naddress=101\naddress=111\naddress=011\n";
+
+/// A text as its lines, so that one of them can be changed.
+#[derive(Clone)]
+struct Draft {
+    lines: Vec<String>,
+}
+
+impl Draft {
+    fn text(&self) -> Vec<u8> {
+        self.lines.iter().flat_map(|l| l.bytes().chain([b'\n'])).collect()
+    }
+
+    fn key(&self, at: usize) -> &str {
+        self.lines[at].split('=').next().unwrap()
+    }
+
+    /// The lines with a key.
+    fn with(&self, key: &str) -> Vec<usize> {
+        (0..self.lines.len()).filter(|&i| self.key(i) == key).collect()
+    }
+}
+
+struct Sizes {
+    width: u32,
+    levels: u32,
+    entries: usize,
+    queries: usize,
+}
+
+/// A text of a sorted table, with addresses of the right number of digits.
+fn draft(random: &mut Random, sizes: Sizes) -> Draft {
+    let table = random.table(sizes.width, sizes.entries);
+    let kind = if random.one_in(2) { "fst" } else { "vst" };
+    let mut lines = vec![
+        format!("width={}", sizes.width),
+        format!("kind={kind}"),
+        format!("levels={}", sizes.levels),
+        format!("entries={}", table.value.len()),
+    ];
+    for i in 0..table.value.len() {
+        lines.push(format!("bits={}", table.entry(i)));
+        lines.push(format!("hop={}", table.hop[i]));
+    }
+    lines.push(format!("queries={}", sizes.queries));
+    for _ in 0..sizes.queries {
+        let n = table.value.len() as u64;
+        let address = if n > 0 && random.one_in(2) {
+            let i = random.within(0, n - 1) as usize;
+            random.relative(sizes.width, (table.value[i], table.length[i])).0
+        } else {
+            random.prefix(sizes.width, sizes.width, sizes.width).0
+        };
+        lines.push(format!("address={}", bits(sizes.width, address, sizes.width)));
+    }
+    Draft { lines }
+}
+
+fn any_draft(random: &mut Random) -> Draft {
+    let sizes = Sizes {
+        width: random.within(1, 32) as u32,
+        levels: random.within(1, 8) as u32,
+        entries: random.within(1, 8) as usize,
+        queries: random.within(1, 6) as usize,
+    };
+    draft(random, sizes)
+}
+
+fn sound(vectors: &mut Vectors, random: &mut Random) {
+    for width in 1..=32 {
+        for turn in 0..3 {
+            let entries = random.within(0, 10) as usize;
+            let levels = if width > 10 { 3 + turn } else { 1 + turn };
+            let queries = random.within(0, 8) as usize;
+            let made = draft(random, Sizes { width, levels, entries, queries });
+            text(vectors, &made.text());
+        }
+    }
+    for width in [6, 7, 8] {
+        let mut made = draft(random, Sizes { width, levels: 3, entries: 64, queries: 64 });
+        text(vectors, &made.text());
+        made.lines[1] = if made.lines[1] == "kind=fst" { "kind=vst" } else { "kind=fst" }.to_string();
+        text(vectors, &made.text());
+    }
+}
+
+/// 01's own run, cut off at every byte, and with one byte more or another one.
+fn cuts(vectors: &mut Vectors, random: &mut Random) {
+    for end in 0..=WHOLE.len() {
+        text(vectors, &WHOLE.as_bytes()[..end]);
+    }
+    for _ in 0..80 {
+        let mut bytes = WHOLE.as_bytes().to_vec();
+        let at = random.within(0, bytes.len() as u64 - 1) as usize;
+        let byte = [b'\n', b'\r', b' ', b'=', b'0', b'1', b'9', 0, 200, b'A', b'+'][random.within(0, 10) as usize];
+        match random.within(0, 2) {
+            0 => bytes[at] = byte,
+            1 => bytes.insert(at, byte),
+            _ => drop(bytes.remove(at)),
+        }
+        text(vectors, &bytes);
+    }
+    for tail in
+        ["\n", " ", "x", "\0", "=", "queries=0\n", "address=101\n", "width=3\n", "hop=1\n", "address=000", "\n\n\n"]
+    {
+        text(vectors, format!("{WHOLE}{tail}").as_bytes());
+        vectors.hit("text after the end");
+    }
+    text(vectors, format!("\u{feff}{WHOLE}").as_bytes());
+    text(vectors, WHOLE.replace('\n', "\r\n").as_bytes());
+    text(vectors, WHOLE.replace('\n', "\n\n").as_bytes());
+    text(vectors, WHOLE.repeat(200).as_bytes());
+    text(vectors, "a".repeat(9000).as_bytes());
+}
+
+/// Values that a line with the key cannot have.
+fn bad_values(key: &str) -> Vec<String> {
+    let numbers =
+        ["", "00", "01", "007", "+3", "-1", "3 ", " 3", "3x", "x", "0x3", "100000", "123456", "3\r", "3=3", "3.", "٣"];
+    let long = "1".repeat(33);
+    let mut values: Vec<String> = match key {
+        "kind" => {
+            ["", "FST", "Vst", "fst ", " fst", "vs", "vstx", "fpl", "0", "fst\r", "fst=vst"].map(String::from).to_vec()
+        }
+        "bits" => ["2", "01x", " 01", "01 ", "1=", "-", "*", "1\r", &long].map(String::from).to_vec(),
+        "address" => ["", "2", "01x", " 01", "01 ", "1=", "1\r", &long].map(String::from).to_vec(),
+        _ => numbers.map(String::from).to_vec(),
+    };
+    match key {
+        "entries" | "queries" => values.extend(["65", "64000", "99999"].map(String::from)),
+        "hop" => values.extend(["65536", "65537", "99999"].map(String::from)),
+        _ => (),
+    }
+    values.push("1".repeat(1000));
+    values
+}
+
+fn malformed(vectors: &mut Vectors, random: &mut Random) {
+    for key in ["width", "kind", "levels", "entries", "bits", "hop", "queries", "address"] {
+        for value in bad_values(key) {
+            let mut made = any_draft(random);
+            let at = made.with(key);
+            let at = at[random.within(0, at.len() as u64 - 1) as usize];
+            made.lines[at] = format!("{key}={value}");
+            bad_line(vectors, &made, at, key);
+        }
+        for line in [
+            "",
+            " ",
+            "=",
+            key,
+            &key.to_uppercase(),
+            &format!("{key} =1"),
+            &format!(" {key}=1"),
+            &format!("{key}:1"),
+            &format!("{}=1", &key[1..]),
+            "hops=1",
+        ] {
+            let mut made = any_draft(random);
+            let at = made.with(key)[0];
+            made.lines[at] = line.to_string();
+            bad_line(vectors, &made, at, key);
+        }
+    }
+}
+
+fn bad_line(vectors: &mut Vectors, made: &Draft, at: usize, key: &str) {
+    let report = tablet::run(&made.text());
+    assert!(report == format!("refusal=11\ndetail={}\n", at + 1), "line {} of {:?}: {report}", at + 1, made.lines);
+    vectors.hit(&format!("bad {key} line"));
+    text(vectors, &made.text());
+}
+
+/// Lines left out, doubled or exchanged, and counts that are one off.
+fn order(vectors: &mut Vectors, random: &mut Random) {
+    for turn in 0..80 {
+        let mut made = any_draft(random);
+        let n = made.lines.len();
+        let at = random.within(0, n as u64 - 1) as usize;
+        match turn % 5 {
+            0 => drop(made.lines.remove(at)),
+            1 => made.lines.insert(at, made.lines[at].clone()),
+            2 => made.lines.swap(at.max(1) - 1, at.max(1)),
+            _ => {
+                let key = if turn % 5 == 3 { "entries" } else { "queries" };
+                let at = made.with(key)[0];
+                let count: u32 = made.lines[at].split('=').nth(1).unwrap().parse().unwrap();
+                let other = if random.one_in(2) { count + 1 } else { count.saturating_sub(1) };
+                made.lines[at] = format!("{key}={other}");
+            }
+        }
+        text(vectors, &made.text());
+    }
+}
+
+/// A fault of the build or of an address, some with a second one of another number.
+fn faults(vectors: &mut Vectors, random: &mut Random) {
+    for turn in 0..230 {
+        let mut made = any_draft(random);
+        fault(random, &mut made, turn % 11);
+        if random.one_in(3) {
+            let other = random.within(0, 10);
+            fault(random, &mut made, other);
+        }
+        text(vectors, &made.text());
+    }
+    for width in [13, 14, 16, 24, 25, 31, 32] {
+        for kind in ["fst", "vst"] {
+            let text_of = |levels| {
+                let ones = "1".repeat(width);
+                format!("width={width}\nkind={kind}\nlevels={levels}\nentries=1\nbits={ones}\nhop=9\nqueries=2\naddress={ones}\naddress=0\n")
+            };
+            text(vectors, text_of(1).as_bytes());
+            text(vectors, text_of(8).as_bytes());
+        }
+    }
+    for _ in 0..14 {
+        let made = draft(random, Sizes { width: 32, levels: 8, entries: 64, queries: 1 });
+        text(vectors, &made.text());
+    }
+}
+
+fn fault(random: &mut Random, made: &mut Draft, kind: u64) {
+    let one_of = |random: &mut Random, lines: &[usize]| lines[random.within(0, lines.len() as u64 - 1) as usize];
+    let (all_bits, hops, addresses) = (made.with("bits"), made.with("hop"), made.with("address"));
+    match kind {
+        0 => {
+            made.lines[0] =
+                format!("width={}", [0, 33, 34, 259, 288, 65535, 65537, 65568, 99999][random.within(0, 8) as usize])
+        }
+        1 => {
+            made.lines[2] =
+                format!("levels={}", [0, 9, 10, 257, 258, 65537, 65538, 99999][random.within(0, 7) as usize])
+        }
+        2 => {
+            let at = one_of(random, &all_bits);
+            made.lines[at] = format!("bits={}", "01".repeat(16));
+        }
+        3 => made.lines[one_of(random, &hops)] = "hop=0".to_string(),
+        4 => made.lines[one_of(random, &hops)] = "hop=65535".to_string(),
+        5 | 6 => {
+            let (a, b) = (one_of(random, &all_bits), one_of(random, &all_bits));
+            if kind == 5 {
+                made.lines.swap(a, b);
+            } else {
+                made.lines[b] = made.lines[a].clone();
+            }
+        }
+        7 | 8 => {
+            let at = one_of(random, &addresses);
+            made.lines[at] = format!("address={}", "1".repeat(random.within(1, 32) as usize));
+        }
+        9 => made.lines[0] = format!("width={}", random.within(1, 32)),
+        _ => made.lines[2] = "levels=1".to_string(),
+    }
+}
+
+pub fn write(top: &str) {
+    let mut vectors = Vectors::default();
+    let mut random = Random::new(6);
+    text(&mut vectors, WHOLE.as_bytes());
+    text(&mut vectors, b"");
+    sound(&mut vectors, &mut random);
+    cuts(&mut vectors, &mut random);
+    malformed(&mut vectors, &mut random);
+    order(&mut vectors, &mut random);
+    faults(&mut vectors, &mut random);
+    vectors.write(top, "sheet_cases", WANTED);
+}

@@ -1,0 +1,324 @@
+//! The cases of the crate `table`: its check, zones and shared lengths. A `table` line sets the table of
+//! the `zone` lines below it.
+
+use super::{eight, full, of, outcome, refused, table_line, Vectors};
+use crate::random::{cut, Random};
+use crate::table::{shared_length, Table};
+
+const WANTED: &[&str] = &[
+    "check accepted",
+    "check refused 1",
+    "check refused 3",
+    "check refused 4",
+    "check refused 5",
+    "zone accepted",
+    "zone refused 1",
+    "zone refused 3",
+    "zone refused 4",
+    "zone refused 5",
+    "zone refused 10",
+    "zone with entries",
+    "zone of all entries",
+    "zone empty before an entry",
+    "zone empty at n",
+    "shared accepted",
+    "shared refused 1",
+    "shared refused 10",
+    "damage width",
+    "damage lists unequal",
+    "damage length above the width",
+    "damage value too large",
+    "damage bit past the length",
+    "damage hop 0",
+    "damage hop 65535",
+    "damage entry twice",
+    "damage entries exchanged",
+];
+
+fn table(vectors: &mut Vectors, table: &Table) {
+    let answer = table.check();
+    vectors.outcome("check", &answer);
+    vectors.case(table_line(table), outcome(answer));
+}
+
+/// A zone of the table that the last `table` line gave: index and count or the refusal, then the part
+/// of the value list, which is empty on a refusal.
+fn zone(vectors: &mut Vectors, table: &Table, prefix: u32, length: u8) {
+    let answer = table.zone(prefix, length);
+    vectors.outcome("zone", &answer);
+    let (span, part) = match answer {
+        Ok((index, count)) => (format!("part {index} {count}"), &table.value[index..index + count]),
+        Err(refusal) => (refused(refusal), &table.value[0..0]),
+    };
+    if let Ok((index, count)) = answer {
+        let n = table.value.len();
+        match (index, count) {
+            (i, 0) if i == n => vectors.hit("zone empty at n"),
+            (_, 0) => vectors.hit("zone empty before an entry"),
+            (0, c) if c == n => vectors.hit("zone of all entries"),
+            _ => vectors.hit("zone with entries"),
+        }
+    }
+    let values: String = part.iter().map(|v| format!(" {v}")).collect();
+    vectors.case(format!("zone {prefix} length {length}"), format!("{span} holds {}:{values}", part.len()));
+}
+
+fn shared(vectors: &mut Vectors, width: u32, a: (u32, u8), b: (u32, u8)) {
+    let answer = shared_length(width, a.0, a.1, b.0, b.1);
+    vectors.outcome("shared", &answer);
+    let line = format!("shared width {width}: {} length {}, {} length {}", a.0, a.1, b.0, b.1);
+    vectors.case(line, answer.map_or_else(refused, |bits| format!("length {bits}")));
+}
+
+fn eight_prefixes(vectors: &mut Vectors) {
+    let eight = eight();
+    shared(vectors, 7, (68, 5), (80, 3));
+    table(vectors, &eight);
+    zone(vectors, &eight, 96, 4);
+    for i in 0..eight.value.len() {
+        zone(vectors, &eight, eight.value[i], eight.length[i]);
+        for j in 0..eight.value.len() {
+            shared(vectors, 7, (eight.value[i], eight.length[i]), (eight.value[j], eight.length[j]));
+        }
+    }
+    for (prefix, length) in [(0, 0), (0, 2), (32, 2), (120, 4), (127, 7), (112, 3), (97, 4), (96, 8), (128, 1)] {
+        zone(vectors, &eight, prefix, length);
+    }
+    for width in [0, 1, 2, 6, 8, 32, 33, 4294967295] {
+        let mut other = eight.clone();
+        other.width = width;
+        table(vectors, &other);
+        zone(vectors, &other, 96, 4);
+        shared(vectors, width, (68, 5), (80, 3));
+    }
+}
+
+/// The two ends of every range: widths, hops, values, and tables of no entry or only a length 0 entry.
+fn edges(vectors: &mut Vectors) {
+    for width in [0, 1, 2, 31, 32, 33, 34, 64, 255, 256, 288, 65536, 65568, 4294967295] {
+        let empty = of(width, &[]);
+        table(vectors, &empty);
+        zone(vectors, &empty, 0, 0);
+        zone(vectors, &empty, 1, 1);
+        let floor = of(width, &[(0, 0, 65534)]);
+        table(vectors, &floor);
+        zone(vectors, &floor, 0, 0);
+        zone(vectors, &floor, 0, 1);
+        zone(vectors, &floor, 2147483648, 1);
+        shared(vectors, width, (0, 0), (0, 0));
+    }
+    for hop in [0, 1, 2, 65533, 65534, 65535] {
+        for entries in [vec![(0, 0, hop)], vec![(0, 1, 1), (128, 1, hop)], vec![(0, 1, hop), (64, 2, 9)]] {
+            let table_of = of(8, &entries);
+            table(vectors, &table_of);
+            zone(vectors, &table_of, 0, 1);
+        }
+    }
+    let top = of(
+        32,
+        &[(0, 0, 1), (0, 32, 2), (2147483648, 1, 3), (4294967294, 31, 4), (4294967294, 32, 5), (4294967295, 32, 6)],
+    );
+    table(vectors, &top);
+    for (prefix, length) in
+        [(0, 0), (0, 32), (4294967295, 32), (4294967294, 31), (4294967294, 32), (1, 32), (2147483648, 2)]
+    {
+        zone(vectors, &top, prefix, length);
+    }
+    for length in [0, 1, 31, 32, 33, 255] {
+        for value in [0, 1, 2147483648, 4294967294, 4294967295] {
+            shared(vectors, 32, (4294967295, 32), (value, length));
+            shared(vectors, 32, (value, length), (0, 0));
+        }
+    }
+}
+
+/// n at its limit: 4,096 is accepted, 4,097 is refused, and the last entry is tested too.
+fn large(vectors: &mut Vectors, random: &mut Random) {
+    let rising = |n: u32| of(13, &(0..n).map(|i| (2 * i, 12, 1)).collect::<Vec<_>>());
+    let most = rising(4096);
+    table(vectors, &most);
+    for (prefix, length) in [(4096, 3), (8190, 12), (8191, 13), (0, 13), (8190, 11), (64, 7)] {
+        zone(vectors, &most, prefix, length);
+    }
+    let mut hop = most.clone();
+    hop.hop[4095] = 65535;
+    table(vectors, &hop);
+    let mut order = rising(4095);
+    order.value.push(8188);
+    order.length.push(12);
+    order.hop.push(2);
+    table(vectors, &order);
+    zone(vectors, &order, 0, 0);
+    let mut more = most.clone();
+    more.value.push(8191);
+    more.length.push(13);
+    more.hop.push(1);
+    table(vectors, &more);
+    zone(vectors, &more, 0, 0);
+    let wide = full(random, 32, 4096);
+    table(vectors, &wide);
+    for i in [0, 1, 1000, 4000] {
+        let of = (wide.value[i], wide.length[i]);
+        zone(vectors, &wide, of.0, of.1);
+        let near = random.relative(32, of);
+        zone(vectors, &wide, near.0, near.1);
+    }
+}
+
+/// Small widths more often than large ones: there prefixes meet.
+pub(super) fn width(random: &mut Random) -> u32 {
+    match random.within(0, 9) {
+        0..=4 => random.within(1, 6) as u32,
+        5..=7 => random.within(7, 31) as u32,
+        _ => 32,
+    }
+}
+
+/// A prefix to ask about: an entry, one near an entry, or any; some malformed.
+fn asked(random: &mut Random, table: &Table, width: u32) -> (u32, u8) {
+    let n = table.value.len().min(table.length.len());
+    let near = if n > 0 { random.within(0, n as u64 - 1) as usize } else { 0 };
+    let good = |length: u8| length as u32 <= width;
+    let mut prefix = match random.within(0, 3) {
+        0 if n > 0 => (table.value[near], table.length[near]),
+        1 | 2 if n > 0 && good(table.length[near]) => random.relative(width, (table.value[near], table.length[near])),
+        _ => random.prefix(width, 0, width),
+    };
+    if random.one_in(8) {
+        match random.within(0, 2) {
+            0 => prefix.1 = random.within(width as u64 + 1, 255) as u8,
+            1 => prefix.0 = prefix.0.wrapping_add(1 << random.within(0, 31)),
+            _ => prefix.0 = random.next() as u32,
+        }
+    }
+    prefix
+}
+
+fn sound(vectors: &mut Vectors, random: &mut Random) {
+    for _ in 0..330 {
+        let width = width(random);
+        let n = random.within(0, 14) as usize;
+        let made = random.table(width, n);
+        table(vectors, &made);
+        for _ in 0..3 {
+            let (prefix, length) = asked(random, &made, width);
+            zone(vectors, &made, prefix, length);
+        }
+        let a = asked(random, &made, width);
+        let b = asked(random, &made, width);
+        shared(vectors, width, a, b);
+    }
+}
+
+/// One thing wrong with a good table of at least two entries, and its name.
+pub(super) fn damaged(random: &mut Random, made: &mut Table, kind: u64) -> &'static str {
+    let (width, n) = (made.width as u64, made.value.len() as u64);
+    let i = random.within(0, n - 1) as usize;
+    match kind {
+        0 => {
+            made.width = [0, 33, 40, 256, 65536, 4294967295][random.within(0, 5) as usize];
+            "damage width"
+        }
+        1 => {
+            match random.within(0, 5) {
+                0 => drop(made.value.pop()),
+                1 => drop(made.length.pop()),
+                2 => drop(made.hop.pop()),
+                3 => made.value.push(4294967295),
+                4 => made.length.push(0),
+                _ => made.hop.push(1),
+            }
+            "damage lists unequal"
+        }
+        2 => {
+            made.length[i] = random.within(width + 1, 255) as u8;
+            "damage length above the width"
+        }
+        3 => {
+            made.value[i] |= 1 << random.within(width, 31);
+            "damage value too large"
+        }
+        4 => {
+            made.length[i] = random.within(0, width - 1) as u8;
+            let past = width - made.length[i] as u64;
+            made.value[i] =
+                cut(width as u32, made.value[i] as u64, made.length[i] as u32) | 1 << random.within(0, past - 1);
+            "damage bit past the length"
+        }
+        5 => {
+            made.hop[i] = 0;
+            "damage hop 0"
+        }
+        6 => {
+            made.hop[i] = 65535;
+            "damage hop 65535"
+        }
+        7 => {
+            made.value.insert(i, made.value[i]);
+            made.length.insert(i, made.length[i]);
+            made.hop.insert(i, 7);
+            "damage entry twice"
+        }
+        _ => {
+            let i = i.max(1);
+            made.value.swap(i - 1, i);
+            made.length.swap(i - 1, i);
+            "damage entries exchanged"
+        }
+    }
+}
+
+fn broken(vectors: &mut Vectors, random: &mut Random) {
+    for turn in 0..360 {
+        let kind = turn % 9;
+        let mut width = width(random);
+        if kind == 3 {
+            width = width.min(31);
+        }
+        let n = random.within(6, 14) as usize;
+        let mut made = random.table(width, n);
+        if made.value.len() < 2 {
+            continue;
+        }
+        let what = damaged(random, &mut made, kind);
+        vectors.hit(what);
+        assert!(made.check().is_err(), "{what} did no damage");
+        // Half of them are damaged twice: the first test in 01's order decides.
+        if random.one_in(2)
+            && made.width == width
+            && made.value.len() == made.length.len()
+            && made.value.len() == made.hop.len()
+        {
+            let second = random.within(0, 8);
+            if second != 3 || width < 32 {
+                damaged(random, &mut made, second);
+            }
+        }
+        table(vectors, &made);
+        let (prefix, length) = asked(random, &made, width);
+        zone(vectors, &made, prefix, length);
+    }
+}
+
+/// Shared lengths of prefixes near each other, at good and bad widths.
+fn pairs(vectors: &mut Vectors, random: &mut Random) {
+    for _ in 0..300 {
+        let width = width(random);
+        let a = random.prefix(width, 0, width);
+        let b = if random.one_in(4) { random.prefix(width, 0, width) } else { random.relative(width, a) };
+        let asked = if random.one_in(12) { [0, 33, 4294967295][random.within(0, 2) as usize] } else { width };
+        shared(vectors, asked, a, b);
+    }
+}
+
+pub fn write(top: &str) {
+    let mut vectors = Vectors::default();
+    let mut random = Random::new(3);
+    eight_prefixes(&mut vectors);
+    edges(&mut vectors);
+    large(&mut vectors, &mut random);
+    sound(&mut vectors, &mut random);
+    broken(&mut vectors, &mut random);
+    pairs(&mut vectors, &mut random);
+    vectors.write(top, "table_cases", WANTED);
+}
