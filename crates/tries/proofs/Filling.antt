@@ -1,0 +1,215 @@
+-- Writing the rows below a node: one row at the end of a path, else the half of each side. What each part asks, and how what it
+-- gives goes together.
+use Prim.Native.Nat.{ℕ, suc, _+_, _-_, _*_, _/_, _%_, _^_, _≤_, _<_}
+use mathlib.Core.Path.{_≡_, sym, ap, _∙_}
+use mathlib.Core.Logic.{⊎-elim}
+use mathlib.Core.List.{List}
+use native.Mathlib.Omega.{arith}
+use native.Mathlib.Nat.{zero-add, add-zero, add-assoc, one-mul, pow-suc, div-eq-of-lt}
+use native.Mathlib.Decide.{decLe}
+use lib.ListN.{length, set}
+use lib.Seq.{getD-set-same, getD-set-other}
+use lib.Pow.{pow-mono, low, high}
+use Rattle.strides.specs.Trie.{Trie, left, right, leftMark, rightMark, bit, newer, markAlong, subAlong}
+use Rattle.strides.proofs.Paths.{bit-mod, mark-same, sub-same}
+use Rattle.tries.specs.Limits.{WIDTH, LEVELS, ELEMENTS}
+use Rattle.tries.specs.Rows.{Lists, lists, shortest, rowAt}
+use Rattle.tries.specs.Scratch.{ROW, ask, strideAt}
+use Rattle.tries.specs.Blocks.{Strides, wide, leftOf, linkTo, rowBelow}
+use Rattle.tries.specs.Filling.{Room, FillAsks, FillGives}
+use Rattle.tries.proofs.Blocks.{wide-sides, left-same}
+use Rattle.tries.proofs.Standing.{zero?, mark-left, mark-right, trunk-fits, trunk-left, trunk-right, trunk-child}
+
+-- ---- the two halves of the rows below a node
+bit-low : (c x : ℕ) → x < 2 ^ c → bit c x ≡ 0
+unfolding bit
+bit-low c x h = ap (λ (v : ℕ). v % 2) (div-eq-of-lt h)
+
+bit-high : (c x : ℕ) → x < 2 ^ c → bit c (2 ^ c + x) ≡ 1
+unfolding bit
+bit-high c x h = ap (λ (v : ℕ). (v + x) / 2 ^ c % 2) (sym (one-mul (2 ^ c))) ∙ ap (λ (v : ℕ). v % 2) (high 1 c h)
+
+same-high : (c x j : ℕ) → x < 2 ^ c → j < c → bit j (2 ^ c + x) ≡ bit j x
+same-high c x j h g =
+    let e : (2 ^ c + x) % 2 ^ c ≡ x = ap (λ (v : ℕ). (v + x) % 2 ^ c) (sym (one-mul (2 ^ c))) ∙ low 1 c h in
+    sym (bit-mod j c (2 ^ c + x) g) ∙ ap (bit j) e
+
+module _ (σ : Strides) (c r : ℕ) (t : Trie) (best free x : ℕ) (h : x < 2 ^ c) where
+  row-left : rowBelow σ (suc c) r t best free x ≡ rowBelow σ c r (left t) (newer (leftMark t) best) free x
+  unfolding rowBelow markAlong subAlong leftOf
+  row-left = rw (bit-low c x h, zero-add (leftOf σ c (left t) c 0 r x))
+
+  row-right : rowBelow σ (suc c) r t best free (2 ^ c + x)
+      ≡ rowBelow σ c r (right t) (newer (rightMark t) best) (free + wide σ (left t) c 0 r) x
+  unfolding rowBelow markAlong subAlong leftOf
+  row-right =
+      let s : (j : ℕ) → j < c → bit j (2 ^ c + x) ≡ bit j x = λ j g. same-high c x j h g in
+      rw (
+        bit-high c x h,
+        mark-same c (right t) (2 ^ c + x) x (newer (rightMark t) best) s,
+        sub-same c (right t) (2 ^ c + x) x s,
+        left-same σ c (right t) c 0 r (2 ^ c + x) x s,
+        ← add-assoc free (wide σ (left t) c 0 r) (leftOf σ c (right t) c 0 r x),
+      )
+
+-- ---- small things that the code's numbers need
+pub given-most : {k v u m : ℕ} → (0 < k → v ≡ u) × (k ≡ 0 → v ≡ 0) → u ≤ m → v ≤ m
+given-most {k} e h = ⊎-elim (λ z. omega (arith, e .1 z)) (λ z. omega (arith, e .0 z)) (zero? k)
+
+pub power-most : {s p : ℕ} → p ≡ 2 ^ s → s ≤ WIDTH → p ≤ 2 ^ WIDTH
+power-most {s} e h = omega (arith, pow-mono h)
+
+-- lists as long as others have their room
+pub room-kept : {e : ℕ} {ls ls′ : Lists} → shortest ls′ ≡ shortest ls → Room e ls → Room e ls′
+room-kept s r = record { fits = omega (arith, r .fits); few = r .few }
+
+-- ---- one row written
+module _ (hop link stride : List ℕ) (i h l s : ℕ) {hop′ link′ stride′ : List ℕ}
+    (e0 : hop′ ≡ set hop i h) (e1 : link′ ≡ set link i l) (e2 : stride′ ≡ set stride i s) where
+  row-other : (j : ℕ) → (j ≡ i → ⊥) → rowAt (lists hop′ link′ stride′) j ≡ rowAt (lists hop link stride) j
+  row-other j ne = rw (e0, e1, e2, getD-set-other hop i j h 0 ne, getD-set-other link i j l 0 ne, getD-set-other stride i j s 0 ne)
+
+  row-same : i < shortest (lists hop link stride) → rowAt (lists hop′ link′ stride′) i ≡ record { hop = h; link = l; stride = s }
+  row-same b =
+      let h0 : i < length hop = omega arith in
+      let h1 : i < length link = omega arith in
+      let h2 : i < length stride = omega arith in
+      rw (e0, e1, e2, getD-set-same hop i h 0 h0, getD-set-same link i l 0 h1, getD-set-same stride i s 0 h2)
+
+-- ---- the row at the end of a path
+pub record LeafBounds (rows plan : List ℕ) (k r base free : ℕ) (ls : Lists) : Type 0 where
+  pub fits : k * ROW ≤ length rows
+  pub level : 0 < k → 0 < r
+  pub levels : r ≤ length plan
+  pub planned : length plan ≤ LEVELS
+  pub own : base < shortest ls
+  pub children : free ≤ ELEMENTS
+  pub stride : strideAt rows plan k r ≤ WIDTH
+
+module _ {σ : Strides} {t : Trie} {rows plan : List ℕ} {k r base free : ℕ} {ls : Lists}
+    (g : FillAsks σ t rows plan k 0 r base free ls) where
+  pub leaf-bounds : LeafBounds rows plan k r base free ls
+  leaf-bounds = record {
+    fits = trunk-fits (g .trunk);
+    level = trunk-child (g .trunk) .level;
+    levels = g .trunk .levels;
+    planned = g .trunk .planned;
+    own = omega (arith, g .own, g .room .fits);
+    children = omega (arith, g .children, g .room .few);
+    stride = trunk-child (g .trunk) .small;
+  }
+
+  -- s: the stride read; l: the link given; v: the rows of the child block
+  module _ (best : ℕ) {s l v p : ℕ} {ls′ : Lists} (es : s ≡ strideAt rows plan k r) (el : (0 < k → l ≡ free) × (k ≡ 0 → l ≡ 0))
+      (ep : p ≡ 2 ^ s) (ev : (0 < k → v ≡ p) × (k ≡ 0 → v ≡ 0))
+      (e0 : ls′ .hop ≡ set (ls .hop) base best) (e1 : ls′ .link ≡ set (ls .link) base l) (e2 : ls′ .stride ≡ set (ls .stride) base s) where
+    made : record { hop = best; link = l; stride = s } ≡ rowBelow σ 0 r t best free 0
+    unfolding rowBelow markAlong subAlong leftOf
+    made =
+        let b = trunk-child (g .trunk) in
+        let lk : l ≡ linkTo t (free + 0) =
+        ⊎-elim (λ z. el .1 z ∙ sym (b .none z .1 (free + 0))) (λ z. el .0 z ∙ sym (add-zero free) ∙ sym (b .some z .1 (free + 0))) (zero? k) in
+        rw (← lk, es, b .stride)
+
+    pub leaf-gives : FillGives σ t 0 r base best free ls (free + v) ls′
+    leaf-gives =
+        let b = trunk-child (g .trunk) in
+        let vw : v ≡ wide σ t 0 0 r =
+        ⊎-elim (λ z. ev .1 z ∙ sym (b .none z .0)) (λ z. ev .0 z ∙ ep ∙ ap (λ (j : ℕ). 2 ^ j) es ∙ sym (b .some z .0)) (zero? k) in
+        record {
+          next = omega arith;
+          wrote = λ x h.
+              let z : x ≡ 0 = omega arith in
+              rw (z, add-zero) (row-same (ls .hop) (ls .link) (ls .stride) base best l s e0 e1 e2 (leaf-bounds .own) ∙ made);
+          before = λ i h. row-other (ls .hop) (ls .link) (ls .stride) base best l s e0 e1 e2 i (λ e. omega arith);
+          after = λ i h. row-other (ls .hop) (ls .link) (ls .stride) base best l s e0 e1 e2 i (λ e. omega arith);
+        }
+
+-- ---- no bit left
+pub at-leaf : {σ : Strides} {t : Trie} {rows plan : List ℕ} {k c r base free : ℕ} {ls : Lists} → c ≡ 0
+    → FillAsks σ t rows plan k c r base free ls → FillAsks σ t rows plan k 0 r base free ls
+at-leaf z g = rw z at g
+
+pub from-leaf : {σ : Strides} {t : Trie} {c r base best free free′ : ℕ} {ls ls′ : Lists} → c ≡ 0
+    → FillGives σ t 0 r base best free ls free′ ls′ → FillGives σ t c r base best free ls free′ ls′
+from-leaf z o = rw z o
+
+-- ---- the two halves
+pub record HalfBounds (rows : List ℕ) (k c base : ℕ) : Type 0 where
+  pub fits : k * ROW ≤ length rows
+  pub small0 : ask rows k 2 < 65536
+  pub small1 : ask rows k 3 < 65536
+  pub short : c ≤ WIDTH
+  pub own : base ≤ ELEMENTS
+
+module _ {σ : Strides} {t : Trie} {rows plan : List ℕ} {k c r base free : ℕ} {ls : Lists}
+    (g : FillAsks σ t rows plan k c r base free ls) where
+  pub half-bounds : HalfBounds rows k c base
+  half-bounds = record {
+    fits = trunk-fits (g .trunk);
+    small0 = mark-left σ rows plan k t (g .trunk .stands) .1;
+    small1 = mark-right σ rows plan k t (g .trunk .stands) .1;
+    short = g .short;
+    own = omega (arith, g .own, g .room .few);
+  }
+
+  module _ {d : ℕ} (dc : c ≡ suc d) where
+    halves : 2 ^ c ≡ 2 ^ d + 2 ^ d
+    halves = ap (λ (v : ℕ). 2 ^ v) dc ∙ omega (arith, pow-suc 2 d)
+
+    sides : wide σ t c 0 r ≡ wide σ (left t) d 0 r + wide σ (right t) d 0 r
+    sides = rw dc (wide-sides σ t d 0 r)
+
+    pub left-asks : {k0 : ℕ} → k0 ≡ ask rows k 0 → FillAsks σ (left t) rows plan k0 d r base free ls
+    left-asks q = record {
+      w = g .w - 1;
+      trunk = trunk-left (g .trunk) dc q;
+      short = omega (arith, g .short);
+      e = g .e;
+      own = omega (arith, g .own, halves);
+      children = omega (arith, g .children, sides);
+      room = g .room;
+    }
+
+    module _ {h0 f1 : ℕ} {ls1 : Lists} (s : shortest ls1 ≡ shortest ls) (o : FillGives σ (left t) d r base h0 free ls f1 ls1)
+        {m : ℕ} (em : m ≡ 2 ^ d) where
+      pub right-asks : {k1 : ℕ} → k1 ≡ ask rows k 1 → FillAsks σ (right t) rows plan k1 d r (base + m) f1 ls1
+      right-asks q = record {
+        w = g .w - 1;
+        trunk = trunk-right (g .trunk) dc q;
+        short = omega (arith, g .short);
+        e = g .e;
+        own = omega (arith, g .own, halves);
+        children = omega (arith, g .children, sides, o .next);
+        room = room-kept s (g .room);
+      }
+
+      pub halves-give : {best h1 f2 : ℕ} {ls2 : Lists} → h0 ≡ newer (ask rows k 2) best → h1 ≡ newer (ask rows k 3) best
+          → FillGives σ (right t) d r (base + m) h1 f1 ls1 f2 ls2 → FillGives σ t c r base best free ls f2 ls2
+      halves-give {best} {h1} {f2} {ls2} e0 e1 u = record {
+        next = omega (arith, sides, o .next, u .next);
+        wrote = λ x h. elim (decLe (2 ^ d) x) [
+          | yes p ↦ high-half (x - 2 ^ d) x (omega arith) (omega (arith, halves))
+          | no p ↦ low-half x (omega arith)
+        ];
+        before = λ i h. u .before i (omega arith) ∙ o .before i h;
+        after = λ i h. u .after i (omega (arith, halves)) ∙ o .after i (omega (arith, halves));
+      }
+        where
+          hl : h0 ≡ newer (leftMark t) best
+          hl = e0 ∙ ap (λ (v : ℕ). newer v best) (mark-left σ rows plan k t (g .trunk .stands) .0)
+
+          hr : h1 ≡ newer (rightMark t) best
+          hr = e1 ∙ ap (λ (v : ℕ). newer v best) (mark-right σ rows plan k t (g .trunk .stands) .0)
+
+          low-half : (x : ℕ) → x < 2 ^ d → rowAt ls2 (base + x) ≡ rowBelow σ c r t best free x
+          low-half x h =
+              let eq : rowBelow σ c r t best free x ≡ rowBelow σ d r (left t) h0 free x = rw (dc, hl) (row-left σ d r t best free x h) in
+              u .before (base + x) (omega arith) ∙ o .wrote x h ∙ sym eq
+
+          high-half : (y x : ℕ) → x ≡ 2 ^ d + y → y < 2 ^ d → rowAt ls2 (base + x) ≡ rowBelow σ c r t best free x
+          high-half y x e h =
+              let eq : rowBelow σ c r t best free (2 ^ d + y) ≡ rowBelow σ d r (right t) h1 f1 y =
+              rw (dc, hr, o .next) (row-right σ d r t best free y h) in
+              let at : base + (2 ^ d + y) ≡ base + m + y = omega arith in
+              rw (e, eq, at) (u .wrote y h)

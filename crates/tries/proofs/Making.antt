@@ -1,0 +1,242 @@
+-- The tree of a table's entries is its 1-bit trie, with one row for each node: what each step of the making asks and gives.
+use mathlib.Core.Path.{_≡_, refl, ap, ap₂, sym, subst, _∙_}
+use mathlib.Core.List.{List}
+use mathlib.Core.Logic.{_⊎_, inl, inr, ⊎-elim}
+use Prim.Native.Nat.{ℕ, zero, suc, max, _+_, _-_, _*_, _≤_, _<_}
+use native.Mathlib.Nat.{le-refl, add-zero, add-suc}
+use native.Mathlib.Omega.{arith}
+use native.Mathlib.Numerals.{sub-one, add-one}
+use lib.ListN.{length, getD}
+use Rattle.table.specs.Prefix.{start, IsPrefix}
+use Rattle.table.specs.Table.{at}
+use Rattle.strides.specs.Trie.{Trie, none, node, left, right, leftMark, rightMark, kid, markOn, bit, size}
+use Rattle.strides.specs.Entries.{trieOf}
+use Rattle.strides.specs.Insertion.{insertT, place, markFor, nodeCount}
+use Rattle.strides.proofs.Insertion.{trie-insert, trie-empty}
+use Rattle.strides.proofs.Counting.{node-count}
+use Rattle.tries.specs.Limits.{WIDTH}
+use Rattle.tries.specs.Scratch.{ROW}
+use Rattle.tries.specs.Trees.{Tree, nil, fork, shape, linkOf, rowAt, next, side, setSide, setMark, lt, rt, lmark, rmark, Stand, Has, Apart, Under, insertR, countR, addEntry, treeOf}
+use Rattle.tries.specs.Inserting.{InsertIn, Inserted}
+use Rattle.tries.specs.Making.{Prefixes, InRows, AddIn, AddOut, Added, MakeIn, MakeOut}
+use Rattle.tries.proofs.Inserting.{made, next-le, made-insert, made-count, made-apart, made-under, count-grows, under-insert, apart-insert, link-insert}
+
+-- ---- a tree and its trie
+
+side-shape : (s : ℕ) (t : Tree) → shape (side s t) ≡ kid s (shape t)
+unfolding shape
+side-shape zero nil = refl
+side-shape (suc s) nil = refl
+side-shape zero (fork x p l q r) = refl
+side-shape (suc s) (fork x p l q r) = refl
+
+mark-shape : (s x h : ℕ) (t : Tree) → shape (setMark s x t h) ≡ place s h (kid s (shape t)) (shape t)
+unfolding shape
+mark-shape zero x h nil = refl
+mark-shape (suc s) x h nil = refl
+mark-shape zero x h (fork y p l q r) = refl
+mark-shape (suc s) x h (fork y p l q r) = refl
+
+set-shape : (s x : ℕ) (t k : Tree) → shape (setSide s x t k) ≡ place s (markOn s (shape t)) (shape k) (shape t)
+unfolding shape
+set-shape zero x nil k = refl
+set-shape (suc s) x nil k = refl
+set-shape zero x (fork y p l q r) k = refl
+set-shape (suc s) x (fork y p l q r) k = refl
+
+pub insert-shape : (n u : ℕ) (t : Tree) (v h : ℕ) → shape (insertR n u t v h) ≡ insertT (suc n) v h (shape t)
+unfolding insertR insertT
+insert-shape zero u t v h = mark-shape (bit 0 v) (rowAt u t) h t
+insert-shape (suc n) u t v h =
+    let s = bit (suc n) v in
+    set-shape s (rowAt u t) t (insertR n (next u t) (side s t) v h)
+    ∙ ap (λ (k : Trie). place s (markOn s (shape t)) k (shape t)) (insert-shape n (next u t) (side s t) v h ∙ ap (insertT (suc n) v h) (side-shape s t))
+
+pub add-shape : (l u : ℕ) (t : Tree) (v h : ℕ) → shape (addEntry l u t v h) ≡ insertT l v h (shape t)
+unfolding addEntry insertT
+add-shape zero u t v h = refl
+add-shape (suc n) u t v h = insert-shape n u t v h
+
+-- as many rows are taken as nodes are new
+size-mark : (s u h : ℕ) (t : Tree) → next u t + size (shape t) ≡ u + size (shape (setMark s (rowAt u t) t h))
+unfolding shape size
+size-mark zero u h nil = omega arith
+size-mark (suc s) u h nil = omega arith
+size-mark zero u h (fork x p l q r) = omega arith
+size-mark (suc s) u h (fork x p l q r) = omega arith
+
+size-set : (s u : ℕ) (t k : Tree) → u + (size (shape (setSide s (rowAt u t) t k)) + size (shape (side s t))) ≡ next u t + (size (shape t) + size (shape k))
+unfolding shape size
+size-set zero u nil k = omega arith
+size-set (suc s) u nil k = omega arith
+size-set zero u (fork x p l q r) k = omega arith
+size-set (suc s) u (fork x p l q r) k = omega arith
+
+insert-count : (n u : ℕ) (t : Tree) (v h : ℕ) → countR n u t v + size (shape t) ≡ u + size (shape (insertR n u t v h))
+unfolding insertR countR
+insert-count zero u t v h = size-mark (bit 0 v) u h t
+insert-count (suc n) u t v h =
+    let s = bit (suc n) v in
+    omega (arith, insert-count n (next u t) (side s t) v h, size-set s u t (insertR n (next u t) (side s t) v h))
+
+-- ---- one entry more
+
+size-none : (t : Tree) → size (shape t) ≡ 0 → t ≡ nil
+unfolding shape size
+size-none nil e = refl
+size-none (fork x p l q r) e = absurd (omega arith)
+
+-- the root's row is taken with the first node
+open-next : (t : Tree) → max (size (shape t)) 1 ≡ next (size (shape t)) t
+unfolding shape size
+open-next nil = refl
+open-next (fork x p l q r) = omega arith
+
+row-root : (t : Tree) (u : ℕ) → rowAt 0 t ≡ 0 → u ≡ size (shape t) → rowAt u t ≡ 0
+unfolding shape size
+row-root nil u e f = f
+row-root (fork x p l q r) u e f = e
+
+made-stand : (rows : List ℕ) (t : Tree) → InRows rows t → Stand rows (made (size (shape t)) t)
+unfolding shape size
+made-stand rows nil a =
+    (record { link0 = a .blank 0 (omega arith); link1 = a .blank 1 (omega arith); mark0 = a .blank 2 (omega arith); mark1 = a .blank 3 (omega arith) }, tt, tt)
+made-stand rows (fork x p l q r) a = a .stand
+
+link-row : (t : Tree) → linkOf t ≡ 0 + 1 → rowAt 0 t ≡ 0
+link-row nil e = absurd (omega arith)
+link-row (fork x p l q r) e = omega arith
+
+-- the root, opened, is a node at row 0
+module _ (rows : List ℕ) (t : Tree) (a : InRows rows t) where
+  open-in : (v n h : ℕ) → n < 64 → size (shape (insertR n (size (shape t)) t v h)) * ROW ≤ length rows → InsertIn rows 0 (next (size (shape t)) t) v n
+  open-in v n h s room =
+      let u = size (shape t) in
+      rw (← (row-root t u (a .rooted) refl))
+      (record {
+        p = lmark t;
+        l = lt t;
+        q = rmark t;
+        r = rt t;
+        stand = made-stand rows t a;
+        apart = made-apart u t (a .apart);
+        under = made-under u t (a .under);
+        room = omega (arith, made-count n u t v, insert-count n u t v h);
+        blank = λ i b. a .blank i (omega (arith, next-le u t));
+        short = s;
+      })
+
+  open-out : (v n h used' : ℕ) (rows' : List ℕ) → Inserted rows 0 (next (size (shape t)) t) v n h used' rows'
+      → InRows rows' (insertR n (size (shape t)) t v h) × (used' ≡ size (shape (insertR n (size (shape t)) t v h)))
+  open-out v n h used' rows' ins =
+      let u = size (shape t) in
+      let ins' = rw (← (row-root t u (a .rooted) refl)) at ins in
+      let o = ins' .tree (lmark t) (lt t) (rmark t) (rt t) (made-stand rows t a) (made-apart u t (a .apart)) (made-under u t (a .under)) in
+      let c : used' ≡ size (shape (insertR n u t v h)) = omega (arith, o .count, made-count n u t v, insert-count n u t v h) in
+      let b : countR n u t v ≡ size (shape (insertR n u t v h)) = omega (arith, insert-count n u t v h) in (
+        record {
+          stand = rw (made-insert n u t v h) at (o .stands);
+          apart = apart-insert n u t v h (a .apart) (a .under);
+          under = rw b at (under-insert n u t v h (a .under));
+          rooted = link-row (insertR n u t v h) (link-insert n u t v h ∙ ap (λ (x : ℕ). x + 1) (row-root t u (a .rooted) refl));
+          blank = λ i l. ins .after i (omega arith) ∙ a .blank i (omega (arith, count-grows n u t v));
+        },
+        c,
+      )
+
+module _ (rows : List ℕ) (used W v l h : ℕ) where
+  pub add-in : AddIn rows used W v l h → (l ≡ 0 → ⊥) → InsertIn rows 0 (max used 1) (start W l v) (l - 1)
+  unfolding addEntry
+  add-in g ne = go l ne (g .short) (g .room)
+    where
+      go : (l : ℕ) → (l ≡ 0 → ⊥) → l ≤ W → size (shape (addEntry l used (g .tree) (start W l v) h)) * ROW ≤ length rows
+          → InsertIn rows 0 (max used 1) (start W l v) (l - 1)
+      go zero ne s r = absurd (ne refl)
+      go (suc n) ne s r =
+          rw (sub-one (suc n), g .count, open-next (g .tree))
+          (open-in rows (g .tree) (g .laid) (start W (suc n) v) n h (omega (arith, g .width)) (rw (g .count) at r))
+
+  pub add-out : (rows' : List ℕ) (used' : ℕ) → (l ≡ 0 → ⊥) → Inserted rows 0 (max used 1) (start W l v) (l - 1) h used' rows' → Added rows used W v l h used' rows'
+  unfolding addEntry
+  add-out rows' used' ne ins t a e = go l ne ins
+    where
+      go : (l : ℕ) → (l ≡ 0 → ⊥) → Inserted rows 0 (max used 1) (start W l v) (l - 1) h used' rows' → AddOut used W v l h t used' rows'
+      go zero ne ins = absurd (ne refl)
+      go (suc n) ne ins =
+          let o = open-out rows t a (start W (suc n) v) n h used' rows' (rw (sub-one (suc n), e, open-next t) at ins) in
+          rw e (record { laid = o .0; count = o .1 })
+
+  pub add-none : l ≡ 0 → Added rows used W v l h used rows
+  unfolding addEntry
+  add-none z t a e = rw z (record { laid = a; count = e })
+
+-- ---- the whole table
+
+module _ (W : ℕ) (val len mark : ℕ → ℕ) where
+  pub tree-shape : (n : ℕ) → ((i : ℕ) → i < n → IsPrefix W (val i) (len i)) → shape (treeOf W val len mark n) ≡ trieOf W val len mark n
+  unfolding treeOf shape
+  tree-shape zero h = sym (trie-empty W val len mark)
+  tree-shape (suc n) h =
+      let t = treeOf W val len mark n in
+      add-shape (len n) (size (shape t)) t (start W (len n) (val n)) (mark n)
+      ∙ ap (insertT (len n) (start W (len n) (val n)) (mark n)) (tree-shape n (λ i l. h i (omega arith)))
+      ∙ sym (trie-insert W val len mark n h)
+
+count-mono : (W : ℕ) (val len : ℕ → ℕ) (i k : ℕ) → nodeCount W val len i ≤ nodeCount W val len (i + k)
+unfolding nodeCount
+count-mono W val len i zero = omega (arith, ap (nodeCount W val len) (add-zero i))
+count-mono W val len i (suc k) = omega (arith, count-mono W val len i k, ap (nodeCount W val len) (add-suc i k))
+
+link-one : (t : Tree) → rowAt 0 t ≡ 0 → (0 < size (shape t) → linkOf t ≡ 1) × (size (shape t) ≡ 0 → linkOf t ≡ 0)
+unfolding shape size
+link-one nil e = (λ h. absurd (omega arith), λ z. refl)
+link-one (fork x p l q r) e = (λ h. omega arith, λ z. absurd (omega arith))
+
+module _ (W : ℕ) (vs ls hs : List ℕ) (p : Prefixes W vs ls) where
+  abbrev tree : ℕ → Tree
+  tree i = treeOf W (at vs) (at ls) (at hs) i
+
+  -- the trie of the first entries is no larger than that of all
+  tree-room : (i : ℕ) → i ≤ length vs → size (shape (tree i)) ≤ size (trieOf W (at vs) (at ls) (at hs) (length vs))
+  tree-room i h =
+      let n = length vs in
+      let c : (j : ℕ) → j ≤ n → nodeCount W (at vs) (at ls) j ≡ size (trieOf W (at vs) (at ls) (at hs) j)
+      = λ j l. node-count W (at vs) (at ls) n (p .prefix) (p .rises) (at hs) j l in
+      let s = ap size (tree-shape W (at vs) (at ls) (at hs) i (λ j l. p .prefix j (omega arith))) in
+      let e : i + (n - i) ≡ n = omega arith in
+      omega (arith, c i h, c n (le-refl n), rw e at (count-mono W (at vs) (at ls) i (n - i)))
+
+  pub make-add : (rows : List ℕ) (i used : ℕ) → size (trieOf W (at vs) (at ls) (at hs) (length vs)) * ROW ≤ length rows → i < length vs
+      → InRows rows (tree i) → used ≡ size (shape (tree i)) → AddIn rows used W (at vs i) (at ls i) (at hs i)
+  unfolding treeOf
+  make-add rows i used room h a e = record {
+    tree = tree i;
+    laid = a;
+    count = e;
+    room = rw e (omega (arith, tree-room (suc i) h));
+    short = p .prefix i h .short;
+    width = p .width;
+  }
+
+  pub make-next : (rows rows' : List ℕ) (i used used' : ℕ) → InRows rows (tree i) → used ≡ size (shape (tree i)) → Added rows used W (at vs i) (at ls i) (at hs i) used' rows'
+      → InRows rows' (tree (i + 1)) × (used' ≡ size (shape (tree (i + 1))))
+  unfolding treeOf
+  make-next rows rows' i used used' a e d =
+      let o = d (tree i) a e in
+      rw (add-one i, ← e) (o .laid, o .count)
+
+pub make-start : (W : ℕ) (vs ls hs rows : List ℕ) → ((i : ℕ) → getD rows i 0 ≡ 0) → InRows rows (treeOf W (at vs) (at ls) (at hs) 0) × (0 ≡ size (shape (treeOf W (at vs) (at ls) (at hs) 0)))
+unfolding treeOf shape size
+make-start W vs ls hs rows z = (record { stand = tt; apart = tt; under = λ y h. absurd h; rooted = refl; blank = λ i h. z i }, refl)
+
+pub make-done : (W : ℕ) (vs ls hs rows : List ℕ) (i used root : ℕ) → i ≡ length vs → InRows rows (treeOf W (at vs) (at ls) (at hs) i) → used ≡ size (shape (treeOf W (at vs) (at ls) (at hs) i))
+    → (0 < used → root ≡ 1) → (used ≡ 0 → root ≡ 0) → MakeOut W vs ls hs root rows
+make-done W vs ls hs rows i used root h a e one nil′ =
+    let t = treeOf W (at vs) (at ls) (at hs) i in
+    let l = link-one t (a .rooted) in
+    let k : root ≡ linkOf t = ⊎-elim (λ z. nil′ z ∙ sym (l .1 (sym e ∙ z))) (λ q. one q ∙ sym (l .0 (rw e at q))) (zero-or used) in
+    record { laid = rw (← h) a; link = rw (← h) k }
+  where
+    zero-or : (u : ℕ) → (u ≡ 0) ⊎ (0 < u)
+    zero-or zero = inl refl
+    zero-or (suc u) = inr (omega arith)

@@ -1,0 +1,117 @@
+-- The cheapest stride: a scan over the strides turn by turn, and that a row's choices are the recurrence's.
+use mathlib.Core.Path.{_≡_, refl, ap, ap₂, sym, subst, _∙_}
+use mathlib.Core.Bool.{Bool, true, false, cond}
+use mathlib.Core.List.{List}
+use mathlib.Core.Logic.{_⊎_, inl, inr, ⊎-elim}
+use Prim.Native.Nat.{ℕ, zero, suc, pred, max, _+_, _-_, _*_, _^_, _≤_, _<_}
+use native.Mathlib.Nat.{le-refl, one-mul, mul-le-mul}
+use native.Mathlib.Numerals.{add-one}
+use native.Mathlib.Omega.{arith}
+use lib.Dec.{leb}
+use lib.ListN.{length, getD, set}
+use lib.Seq.{getD-set-same, getD-set-other}
+use borrow.Author.Tests.{leb-true, leb-false}
+use Rattle.strides.specs.Trie.{Trie, none, node, depth, sumBelow, sumBy}
+use Rattle.strides.specs.Recurrence.{atCap, keeps, scan, withFirst, optBy, pickBy}
+use Rattle.strides.proofs.Capped.{sum-capped, opt-capped}
+use Rattle.tries.specs.Limits.{WIDTH, LEVELS, ENTRIES, COST_CAP}
+use Rattle.tries.specs.Scratch.{ROW, ask}
+use Rattle.tries.specs.Trees.{col}
+use Rattle.tries.specs.Costs.{held, slot, price, bestCost, bestStride, Stored}
+use Rattle.tries.proofs.Gathering.{same?}
+
+-- ---- the scan
+
+pub scan-next : (g : ℕ → ℕ) (n : ℕ) {bc bp c rc rp : ℕ} → bc ≡ scan g n .1 → bp ≡ scan g n .0 → c ≡ g (n + 1)
+    → (bc ≤ c → (rc ≡ bc) × (rp ≡ bp)) → (c < bc → (rc ≡ c) × (rp ≡ n + 1)) → (rc ≡ scan g (n + 1) .1) × (rp ≡ scan g (n + 1) .0)
+unfolding scan keeps
+scan-next g n {bc} {bp} {c} {rc} {rp} e f h old new = rw (add-one n) (go (leb (scan g n .1) (g (suc n))) refl)
+  where
+    at : c ≡ g (suc n)
+    at = h ∙ ap g (add-one n)
+
+    go : (b : Bool) → leb (scan g n .1) (g (suc n)) ≡ b → (rc ≡ cond b (scan g n) (suc n, g (suc n)) .1) × (rp ≡ cond b (scan g n) (suc n, g (suc n)) .0)
+    go true t = let o = old (omega (arith, e, at, leb-true (scan g n .1) (g (suc n)) t)) in (o .0 ∙ e, o .1 ∙ f)
+    go false t = let o = new (omega (arith, e, at, leb-false (scan g n .1) (g (suc n)) t)) in (o .0 ∙ at, o .1 ∙ add-one n)
+
+pub scan-same : (g h : ℕ → ℕ) (n : ℕ) → ((j : ℕ) → j ≤ n → g j ≡ h j) → scan g n ≡ scan h n
+unfolding scan keeps
+scan-same g h zero e = ap (λ (x : ℕ). (0, x)) (e 0 (le-refl 0))
+scan-same g h (suc n) e = rw (scan-same g h n (λ j l. e j (omega arith)), e (suc n) (le-refl (suc n)))
+
+-- ---- the choices are the recurrence's
+
+-- a machine word holds what the blocks of a level cost together
+pub blocks-fit : (n p x : ℕ) → n ≤ ENTRIES → p ≡ held x → n * p ≤ 35184372088832
+blocks-fit n p x h e = let le : p ≤ COST_CAP = omega arith in omega (arith, mul-le-mul h le)
+
+held-sum : (x y : ℕ) → held (x + y) ≡ held (held x + held y)
+held-sum x y = omega arith
+
+module _ (levels : ℕ) (sums : List ℕ) (a b : Trie)
+    (sum : (j q : ℕ) → j ≤ max (depth a) (depth b) → q < levels → slot sums j q ≡ held (sumBelow j (optBy held q) a + sumBelow j (optBy held q) b)) where
+  price-first : (q j : ℕ) → q < levels → j ≤ max (depth a) (depth b) → price sums 1 q j ≡ withFirst held (optBy held q) a b j
+  unfolding price withFirst
+  price-first q j l h =
+      let f = optBy held q in
+      let low : (u : Trie) → f u ≡ held (f u) = λ u. omega (arith, opt-capped COST_CAP q u) in
+      rw (one-mul (held (2 ^ suc j)))
+      (ap (λ (s : ℕ). held (held (2 ^ suc j) + s))
+      (sum j q h l ∙ held-sum (sumBelow j f a) (sumBelow j f b) ∙ ap₂ (λ (x y : ℕ). held (x + y)) (sym (sum-capped COST_CAP f f low j a)) (sym (sum-capped COST_CAP f f low j b))))
+
+  pub best-cost : (p q r : ℕ) → r < levels → bestCost sums 1 (suc (max (depth a) (depth b))) r ≡ optBy held r (node p a q b)
+  unfolding bestCost optBy
+  best-cost p q zero l = omega (arith, one-mul (held (2 ^ suc (max (depth a) (depth b)))))
+  best-cost p q (suc m) l = ap (λ (x : ℕ × ℕ). x .1) (scan-same (price sums 1 m) (withFirst held (optBy held m) a b) (max (depth a) (depth b)) (λ j h. price-first m j (omega arith) h))
+
+  pub best-stride : (p q r : ℕ) → r < levels → bestStride sums 1 (suc (max (depth a) (depth b))) r ≡ pickBy held r (node p a q b)
+  unfolding bestStride pickBy
+  best-stride p q zero l = refl
+  best-stride p q (suc m) l = ap (λ (x : ℕ × ℕ). suc (x .0)) (scan-same (price sums 1 m) (withFirst held (optBy held m) a b) (max (depth a) (depth b)) (λ j h. price-first m j (omega arith) h))
+
+-- with more than one level left
+pub choice-more : (sums : List ℕ) (n d r : ℕ) → (r ≡ 0 → ⊥)
+    → (scan (price sums n (r - 1)) (d - 1) .1 ≡ bestCost sums n d r) × (scan (price sums n (r - 1)) (d - 1) .0 + 1 ≡ bestStride sums n d r)
+unfolding bestCost bestStride
+choice-more sums n d zero ne = absurd (ne refl)
+choice-more sums n d (suc q) ne =
+    let e : suc q - 1 ≡ q = omega arith in
+    let f : d - 1 ≡ pred d = omega arith in
+    rw (e, f) (refl, add-one (scan (price sums n q) (pred d) .0))
+
+-- ---- storing them, number by number
+
+pub store-start : (rows : List ℕ) (x d : ℕ) (sums : List ℕ) → Stored 0 rows x d sums rows
+store-start rows x d sums = record {
+  cost = λ r h. absurd (omega arith);
+  stride = λ r h. absurd (omega arith);
+  before = λ i h. refl;
+  after = λ i h. refl;
+  costs-above = λ r h g. refl;
+  strides-above = λ r h g. refl;
+}
+
+pub store-next : (rows : List ℕ) (x d : ℕ) (sums rows1 rows2 rows3 : List ℕ) (m c s : ℕ) → m < LEVELS → (x + 1) * ROW ≤ length rows1 → (x + 1) * ROW ≤ length rows2
+    → Stored m rows x d sums rows1 → c ≡ bestCost sums 1 d m → s ≡ bestStride sums 1 d m
+    → rows2 ≡ set rows1 (x * ROW + (8 + m)) c → rows3 ≡ set rows2 (x * ROW + (16 + m)) s → Stored (m + 1) rows x d sums rows3
+store-next rows x d sums rows1 rows2 rows3 m c s hm f1 f2 st ec es e2 e3 =
+    let one : (i : ℕ) → (i ≡ x * ROW + (8 + m) → ⊥) → getD rows2 i 0 ≡ getD rows1 i 0
+    = λ i ne. ap (λ (l : List ℕ). getD l i 0) e2 ∙ getD-set-other rows1 (x * ROW + (8 + m)) i c 0 ne in
+    let two : (i : ℕ) → (i ≡ x * ROW + (16 + m) → ⊥) → getD rows3 i 0 ≡ getD rows2 i 0
+    = λ i ne. ap (λ (l : List ℕ). getD l i 0) e3 ∙ getD-set-other rows2 (x * ROW + (16 + m)) i s 0 ne in
+    let far : (i : ℕ) → (i ≡ x * ROW + (8 + m) → ⊥) → (i ≡ x * ROW + (16 + m) → ⊥) → getD rows3 i 0 ≡ getD rows1 i 0
+    = λ i n1 n2. two i n2 ∙ one i n1 in
+    let cost : col rows3 x (8 + m) ≡ bestCost sums 1 d m
+    = two (x * ROW + (8 + m)) (λ q. omega arith) ∙ ap (λ (l : List ℕ). getD l (x * ROW + (8 + m)) 0) e2 ∙ getD-set-same rows1 (x * ROW + (8 + m)) c 0 (omega arith) ∙ ec in
+    let stride : col rows3 x (16 + m) ≡ bestStride sums 1 d m
+    = ap (λ (l : List ℕ). getD l (x * ROW + (16 + m)) 0) e3 ∙ getD-set-same rows2 (x * ROW + (16 + m)) s 0 (omega arith) ∙ es in
+    record {
+      cost = λ r h. ⊎-elim (λ (z : r ≡ m). subst (λ (y : ℕ). col rows3 x (8 + y) ≡ bestCost sums 1 d y) (sym z) cost)
+          (λ (z : r ≡ m → ⊥). far (x * ROW + (8 + r)) (λ q. omega arith) (λ q. omega arith) ∙ st .cost r (omega arith)) (same? r m);
+      stride = λ r h. ⊎-elim (λ (z : r ≡ m). subst (λ (y : ℕ). col rows3 x (16 + y) ≡ bestStride sums 1 d y) (sym z) stride)
+          (λ (z : r ≡ m → ⊥). far (x * ROW + (16 + r)) (λ q. omega arith) (λ q. omega arith) ∙ st .stride r (omega arith)) (same? r m);
+      before = λ i h. far i (λ q. omega arith) (λ q. omega arith) ∙ st .before i h;
+      after = λ i h. far i (λ q. omega arith) (λ q. omega arith) ∙ st .after i h;
+      costs-above = λ r h g. far (x * ROW + (8 + r)) (λ q. omega arith) (λ q. omega arith) ∙ st .costs-above r (omega arith) g;
+      strides-above = λ r h g. far (x * ROW + (16 + r)) (λ q. omega arith) (λ q. omega arith) ∙ st .strides-above r (omega arith) g;
+    }

@@ -1,0 +1,183 @@
+use Prim.Native.Nat.{suc, _+_, _-_, _*_}
+use mathlib.Core.Path.{_≡_}
+use native.Mathlib.Omega.{arith}
+use borrow.Author.Needs.{needs}
+use Rattle.strides.specs.Trie.{left, right}
+use Rattle.tries.proofs.Levels.{nothing-gives, at-block, from-block, at-own, from-own, block-bounds, stride-positive, below-asks, below-gives, side-bounds, first-asks, second-asks, sides-give}
+use Prim.Native.Nat.{ℕ, _<_}
+use borrow.Fn.Kinds.{In}
+use borrow.Fn.PlainCycle.{Measures, is, falls, and}
+use Rattle.tries.proofs.builder.level.Reads as level
+use Rattle.tries.proofs.builder.level.Kinds as level-kinds
+use Rattle.tries.proofs.builder.+level.Lts-level as level-lts
+use Rattle.tries.proofs.builder.block.Reads as block-reads
+use Rattle.tries.proofs.scratch.asked.Reads as asked-reads
+use Rattle.tries.proofs.scratch.stride_at.Reads as stride-at-reads
+use Rattle.tries.proofs.builder.+level.{statement}
+use Rattle.tries.proofs.builder.+level.Tie.{close}
+
+abbrev μ-level : Measures 5 level-kinds.ps ℕ
+μ-level κs a = a .1 .1 .1 .0 * 2 + (1 - a .1 .1 .1 .1 .0)
+
+abbrev level-at : ℕ → In 5 level-kinds.ps
+level-at t = and 5 level-kinds.ps (is 5 level-kinds.ps μ-level t) level.Pre
+
+abbrev level-below : ℕ → In 5 level-kinds.ps
+level-below t = and 5 level-kinds.ps (falls 5 level-kinds.ps _<_ μ-level t) level.Pre
+
+abbrev cs : ℕ → level-lts.Claims
+cs t = (block-reads.Asked, block-reads.Learnt, stride-at-reads.Asked, stride-at-reads.Learnt, level-below t, level.Post, asked-reads.Asked, asked-reads.Learnt)
+
+level-returns : (t : ℕ) → level-lts.Need-returns (cs t) (level-at t) level.Post
+level-returns t c = λ σ u g. nothing-gives (c .if1 .taken) g
+
+level-block-requires : (t : ℕ) → level-lts.Need-block-requires (cs t) (level-at t) level.Post
+level-block-requires t c κs =
+    let S = c .before .before .before .before .before .before .before .before .before .before .before in
+    (omega arith, (S .args .w, (S .pre .1 .0, S .pre .1 .1, at-own (c .before .before .before .if3 .taken) (at-block (c .before .before .before .before .if2 .taken) (S .pre .1 .2)))))
+
+level-same-length : (t : ℕ) → level-lts.Need-same-length (cs t) (level-at t) level.Post
+level-same-length t c = search needs
+
+level-same-length-2 : (t : ℕ) → level-lts.Need-same-length-2 (cs t) (level-at t) level.Post
+level-same-length-2 t c = search needs
+
+level-same-length-3 : (t : ℕ) → level-lts.Need-same-length-3 (cs t) (level-at t) level.Post
+level-same-length-3 t c = search needs
+
+level-returns-2 : (t : ℕ) → level-lts.Need-returns-2 (cs t) (level-at t) level.Post
+level-returns-2 t c =
+    let S = c .before .before .before .before .before .before .before .before .before .before .before .before .before .before .before .before .before .before in
+    let zc = c .before .before .before .before .before .before .before .before .before .before .before .if2 .taken in
+    let zn = c .before .before .before .before .before .before .before .before .before .before .if3 .taken in
+    λ σ u g. from-block zc (from-own zn (c .before .before .before .before .before .before .block .ensures (S .args .w) σ u (at-own zn (at-block zc g))))
+
+level-stride-at-requires : (t : ℕ) → level-lts.Need-stride-at-requires (cs t) (level-at t) level.Post
+level-stride-at-requires t c κs =
+    let S = c .before .before .before .before .before .before .before .before in
+    let b = block-bounds (at-block (c .before .if2 .taken) (S .pre .1 .2)) (omega arith) in
+    (b .fits, λ s. b .level, b .levels, b .planned)
+
+level-sub-level : (t : ℕ) → level-lts.Need-sub-level (cs t) (level-at t) level.Post
+level-sub-level t c = omega arith
+
+level-sub-level-2 : (t : ℕ) → level-lts.Need-sub-level-2 (cs t) (level-at t) level.Post
+level-sub-level-2 t c =
+    let S = c .before .before .before .before .before .before .before .before .before in
+    block-bounds (at-block (c .before .before .if2 .taken) (S .pre .1 .2)) (omega arith) .level
+
+level-level-requires : (t : ℕ) → level-lts.Need-level-requires (cs t) (level-at t) level.Post
+level-level-requires t c κs =
+    let S = c .before .before .before .before .before .before .before .before .before .before .before .before in
+    let g = at-block (c .before .before .before .before .before .if2 .taken) (S .pre .1 .2) in
+    let b = block-bounds g (omega arith) in
+    let q = c .before .before .before .stride-at .ensures in
+    let e : S .args .r ≡ suc (S .args .r - 1) = omega arith in
+    let s = stride-positive g (omega arith) q e in
+    (omega arith, (S .pre .1 .0, S .pre .1 .1, below-asks g (omega arith) q e (omega arith)))
+
+level-same-length-4 : (t : ℕ) → level-lts.Need-same-length-4 (cs t) (level-at t) level.Post
+level-same-length-4 t c = search needs
+
+level-same-length-5 : (t : ℕ) → level-lts.Need-same-length-5 (cs t) (level-at t) level.Post
+level-same-length-5 t c = search needs
+
+level-same-length-6 : (t : ℕ) → level-lts.Need-same-length-6 (cs t) (level-at t) level.Post
+level-same-length-6 t c = search needs
+
+level-returns-3 : (t : ℕ) → level-lts.Need-returns-3 (cs t) (level-at t) level.Post
+level-returns-3 t c =
+    let S = c .before .before .before .before .before .before .before .before .before .before .before .before .before .before .before .before .before .before .before in
+    let k : 0 < S .args .k = omega (arith, c .before .before .before .before .before .before .before .before .before .before .before .before .before .if1 .left) in
+    let zc = c .before .before .before .before .before .before .before .before .before .before .before .before .if2 .taken in
+    let q = c .before .before .before .before .before .before .before .before .before .before .stride-at .ensures in
+    let b = block-bounds (at-block zc (S .pre .1 .2)) k in
+    let er : S .args .r ≡ suc (S .args .r - 1) = omega (arith, b .level) in
+    let en : S .args .n ≡ suc (S .args .n - 1) = omega (arith, c .before .before .before .before .before .before .before .before .before .before .before .if3 .left) in
+    λ σ u g. let h = at-block zc g in from-block zc (below-gives h k q er en (c .before .before .before .before .before .before .level .ensures σ u (below-asks h k q er en)))
+
+level-asked-requires : (t : ℕ) → level-lts.Need-asked-requires (cs t) (level-at t) level.Post
+level-asked-requires t c κs = omega (arith, side-bounds (c .before .before .before .before .before .before .before .pre .1 .2) (omega arith))
+
+level-asked-requires-2 : (t : ℕ) → level-lts.Need-asked-requires-2 (cs t) (level-at t) level.Post
+level-asked-requires-2 t c κs = omega (arith, side-bounds (c .before .before .before .before .before .before .before .before .pre .1 .2) (omega arith))
+
+level-sub-level-3 : (t : ℕ) → level-lts.Need-sub-level-3 (cs t) (level-at t) level.Post
+level-sub-level-3 t c = omega (arith, side-bounds (c .before .before .before .before .before .before .before .before .before .pre .1 .2) (omega arith))
+
+level-sub-level-4 : (t : ℕ) → level-lts.Need-sub-level-4 (cs t) (level-at t) level.Post
+level-sub-level-4 t c = omega arith
+
+level-level-requires-2 : (t : ℕ) → level-lts.Need-level-requires-2 (cs t) (level-at t) level.Post
+level-level-requires-2 t c κs =
+    let S = c .before .before .before .before .before .before .before .before .before .before .before .before in
+    let b = side-bounds (S .pre .1 .2) (omega arith) in
+    (omega arith, (S .pre .1 .0, left (S .pre .1 .1), first-asks (S .pre .1 .2) (omega arith) (c .before .before .before .before .asked .ensures)))
+
+level-sub-level-5 : (t : ℕ) → level-lts.Need-sub-level-5 (cs t) (level-at t) level.Post
+level-sub-level-5 t c = omega (arith, side-bounds (c .before .before .before .before .before .before .before .before .before .before .before .before .before .before .before .before .before .before .before .pre .1 .2) (omega arith))
+
+level-sub-level-6 : (t : ℕ) → level-lts.Need-sub-level-6 (cs t) (level-at t) level.Post
+level-sub-level-6 t c = omega arith
+
+level-level-requires-3 : (t : ℕ) → level-lts.Need-level-requires-3 (cs t) (level-at t) level.Post
+level-level-requires-3 t c κs =
+    let S = c .before .before .before .before .before .before .before .before .before .before .before .before .before .before .before .before .before .before .before .before .before .before in
+    let F = c .before .before .before .before .before .before .before .before .before .level2 in
+    let ne = c .before .before .before .before .before .before .before .before .before .before .before .before .before .before .before .if2 .left in
+    let b = side-bounds (S .pre .1 .2) (omega (arith, c .before .before .before .before .before .before .before .before .before .before .before .before .before .before .before .before .if1 .left)) in
+    let e : S .args .c ≡ suc (S .args .c - 1) = omega (arith, ne) in
+    let o = F .ensures (S .pre .1 .0) (left (S .pre .1 .1)) (first-asks (S .pre .1 .2) e (c .before .before .before .before .before .before .before .before .before .before .before .before .before .before .asked .ensures)) in (
+      omega (arith, ne, b, S .pre .0),
+      (S .pre .1 .0, right (S .pre .1 .1), second-asks (S .pre .1 .2) e (omega (arith, F .kept)) o (c .before .before .before .before .before .before .before .before .before .before .before .before .before .asked2 .ensures)),
+    )
+
+level-same-length-7 : (t : ℕ) → level-lts.Need-same-length-7 (cs t) (level-at t) level.Post
+level-same-length-7 t c = search needs
+
+level-same-length-8 : (t : ℕ) → level-lts.Need-same-length-8 (cs t) (level-at t) level.Post
+level-same-length-8 t c = search needs
+
+level-same-length-9 : (t : ℕ) → level-lts.Need-same-length-9 (cs t) (level-at t) level.Post
+level-same-length-9 t c = search needs
+
+level-returns-4 : (t : ℕ) → level-lts.Need-returns-4 (cs t) (level-at t) level.Post
+level-returns-4 t c =
+    let S = c .before .before .before .before .before .before .before .before .before .before .before .before .before .before .before .before .before .before .before .before .before .before .before .before .before .before .before .before .before in
+    let F = c .before .before .before .before .before .before .before .before .before .before .before .before .before .before .before .before .level2 in
+    let e : S .args .c ≡ suc (S .args .c - 1) = omega (arith, c .before .before .before .before .before .before .before .before .before .before .before .before .before .before .before .before .before .before .before .before .before .before .if2 .left) in
+    λ σ u g.
+    let o = F .ensures σ (left u) (first-asks g e (c .before .before .before .before .before .before .before .before .before .before .before .before .before .before .before .before .before .before .before .before .before .asked .ensures)) in
+    sides-give g e (omega (arith, F .kept)) o
+    (c .before .before .before .before .before .before .level3 .ensures σ (right u) (second-asks g e (omega (arith, F .kept)) o (c .before .before .before .before .before .before .before .before .before .before .before .before .before .before .before .before .before .before .before .before .asked2 .ensures)))
+
+pub +level-spec : {M : Type 1} → statement M
++level-spec = close μ-level λ t. level-lts.spec (cs t)
+    (level-at t)
+    level.Post
+    (level-returns t)
+    (level-block-requires t)
+    (level-same-length t)
+    (level-same-length-2 t)
+    (level-same-length-3 t)
+    (level-returns-2 t)
+    (level-stride-at-requires t)
+    (level-sub-level t)
+    (level-sub-level-2 t)
+    (level-level-requires t)
+    (level-same-length-4 t)
+    (level-same-length-5 t)
+    (level-same-length-6 t)
+    (level-returns-3 t)
+    (level-asked-requires t)
+    (level-asked-requires-2 t)
+    (level-sub-level-3 t)
+    (level-sub-level-4 t)
+    (level-level-requires-2 t)
+    (level-sub-level-5 t)
+    (level-sub-level-6 t)
+    (level-level-requires-3 t)
+    (level-same-length-7 t)
+    (level-same-length-8 t)
+    (level-same-length-9 t)
+    (level-returns-4 t)

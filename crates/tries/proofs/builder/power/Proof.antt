@@ -1,0 +1,16 @@
+use native.Mathlib.Omega.{arith}
+use Rattle.tries.proofs.Bits.{one-shl}
+use borrow.Author.Needs.{needs}
+use Rattle.tries.proofs.builder.power.Statement.{statement}
+use Rattle.tries.proofs.builder.power.Tie as tie
+
+-- src/builder.rt:19:5
+shl-result : tie.Need-shl-result
+shl-result c = search needs
+
+-- src/builder.rt:15:1
+returns : tie.Need-returns
+returns c = one-shl 64 (c .args .n) (omega arith)
+
+pub power-spec : {M : Type 1} → statement M
+power-spec = tie.close (tie.spec shl-result returns)

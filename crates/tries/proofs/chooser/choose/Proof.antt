@@ -1,0 +1,52 @@
+use Prim.Native.Nat.{ℕ}
+use mathlib.Core.Path.{_≡_, sym, ap, _∙_}
+use lib.ListN.{length, replicate}
+use native.Mathlib.Omega.{arith}
+use Rattle.tries.proofs.Choosing.{accepted-plan, refused-is, chosen-is}
+use borrow.Author.Needs.{needs}
+use Rattle.tries.proofs.chooser.choose.Statement.{statement}
+use Rattle.tries.proofs.chooser.choose.Tie as tie
+
+tested-requires : tie.Need-tested-requires
+tested-requires c κs = search needs
+
+enum-known-outcome : tie.Need-enum-known-outcome
+enum-known-outcome c = search needs
+
+returns : tie.Need-returns
+returns c =
+    let S = c .before .before .before .before .before .before .before .before in
+    refused-is _ (S .args .width) (S .args .levels) (S .args .value .now) (S .args .length .now) (S .args .hop .now) (S .args .scratch .now) (c .before .before .before .tested .ensures) (c .before .outcome .given .1)
+
+enum-told : tie.Need-enum-told
+enum-told c = search needs
+
+planned-requires : tie.Need-planned-requires
+planned-requires c κs =
+    let S = c .before .before .before .before .before .before .before .before in
+    accepted-plan (S .args .width) (S .args .levels) (S .args .value .now) (S .args .length .now) (S .args .hop .now) (S .args .scratch .now) (λ i. omega (arith, c .before .before .before .before .before .shared-slice-known3 .given i)) (sym (c .before .before .before .tested .ensures) ∙ c .before .enum-told .given .1)
+
+zero-requires : tie.Need-zero-requires
+zero-requires c κs = search needs
+
+same-length : tie.Need-same-length
+same-length c = search needs
+
+returns-2 : tie.Need-returns-2
+returns-2 c =
+    let S = c .before .before .before .before .before .before .before .before .before .before .before .before .before .before .before .before in
+    let e : length (c .before .before .before .before .before .before .before .planned .last .1 .1 .1 .1 .1 .1 .0) ≡ length (S .args .scratch .now) = omega arith in
+    chosen-is _ (S .args .width) (S .args .levels) (S .args .value .now) (S .args .length .now) (S .args .hop .now) (S .args .scratch .now) (sym (c .before .before .before .before .before .before .before .before .before .before .before .tested .ensures) ∙ c .before .before .before .before .before .before .before .before .before .enum-told .given .1) (c .before .before .before .before .before .before .before .planned .ensures) (c .before .before .before .zero .ensures ∙ ap (λ (n : ℕ). replicate n 0) e)
+
+pub choose-spec : {M : Type 1} → statement M
+choose-spec =
+    tie.close
+    (tie.spec
+    tested-requires
+    enum-known-outcome
+    returns
+    enum-told
+    planned-requires
+    zero-requires
+    same-length
+    returns-2)

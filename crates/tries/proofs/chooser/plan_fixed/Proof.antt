@@ -1,0 +1,28 @@
+use native.Mathlib.Omega.{arith}
+use Rattle.tries.proofs.Choosing.{plan-prefixes, make-in, plan-fixed}
+use borrow.Author.Needs.{needs}
+use Rattle.tries.proofs.chooser.plan_fixed.Statement.{statement}
+use Rattle.tries.proofs.chooser.plan_fixed.Tie as tie
+
+zero-requires : tie.Need-zero-requires
+zero-requires c κs = search needs
+
+make-rows-requires : tie.Need-make-rows-requires
+make-rows-requires c κs =
+    let S = c .before .before .before .before .before .before .before .before .before in
+    rw (c .before .before .before .zero .ensures) (make-in (S .args .width) (S .args .levels) (S .args .vals .now) (S .args .lens .now) (S .args .hops .now) (S .args .scratch .now) (S .pre))
+
+fixed-choice-requires : tie.Need-fixed-choice-requires
+fixed-choice-requires c κs = let S = c .before .before .before .before .before .before .before .before .before .before .before .before in (plan-prefixes (S .args .width) (S .args .levels) (S .args .vals .now) (S .args .lens .now) (S .args .hops .now) (S .args .scratch .now) (S .pre), S .pre .table .few, S .pre .levels .0, S .pre .levels .1)
+
+same-length : tie.Need-same-length
+same-length c = search needs
+
+returns : tie.Need-returns
+returns c =
+    let S = c .before .before .before .before .before .before .before .before .before .before .before .before .before .before in
+    plan-fixed (S .args .width) (S .args .levels) (S .args .vals .now) (S .args .lens .now) (S .args .hops .now) (S .args .scratch .now) (S .pre) _ _ (c .before .before .before .before .make-rows .ensures) (omega arith) _ _ (c .before .fixed-choice .ensures)
+
+pub plan-fixed-spec : {M : Type 1} → statement M
+plan-fixed-spec =
+    tie.close (tie.spec zero-requires make-rows-requires fixed-choice-requires same-length returns)

@@ -1,0 +1,66 @@
+use mathlib.Core.Path.{_≡_, sym, _∙_}
+use Rattle.table.proofs.Table.{accepted-table}
+use Rattle.tries.proofs.Choosing.{table-prefixes, tests-width, tests-levels, tests-table, count-size, tests-scratch, tests-pass}
+use borrow.Author.Needs.{needs}
+use Rattle.tries.proofs.chooser.tested.Statement.{statement}
+use Rattle.tries.proofs.chooser.tested.Tie as tie
+
+is-outside-requires : tie.Need-is-outside-requires
+is-outside-requires c κs = search needs
+
+returns : tie.Need-returns
+returns c = let S = c .before .before .before .before .before in sym (tests-width (S .args .width) (S .args .levels) (S .args .value .now) (S .args .length .now) (S .args .hop .now) (S .args .words) (sym (c .before .is-outside .ensures) ∙ c .if1 .taken))
+
+is-outside-requires-2 : tie.Need-is-outside-requires-2
+is-outside-requires-2 c κs = search needs
+
+returns-2 : tie.Need-returns-2
+returns-2 c = let S = c .before .before .before .before .before .before .before in sym (tests-levels (S .args .width) (S .args .levels) (S .args .value .now) (S .args .length .now) (S .args .hop .now) (S .args .words) (sym (c .before .before .before .is-outside .ensures) ∙ c .before .before .if1 .left) (sym (c .before .is-outside2 .ensures) ∙ c .if2 .taken))
+
+check-table-requires : tie.Need-check-table-requires
+check-table-requires c κs = search needs
+
+enum-known-checked : tie.Need-enum-known-checked
+enum-known-checked c = search needs
+
+returns-3 : tie.Need-returns-3
+returns-3 c = let S = c .before .before .before .before .before .before .before .before .before .before .before in sym (tests-table (S .args .width) (S .args .levels) (S .args .value .now) (S .args .length .now) (S .args .hop .now) (S .args .words) (sym (c .before .before .before .before .before .before .before .is-outside .ensures) ∙ c .before .before .before .before .before .before .if1 .left) (sym (c .before .before .before .before .before .is-outside2 .ensures) ∙ c .before .before .before .before .if2 .left) (sym (c .before .before .before .check-table .ensures .0) ∙ c .before .checked .given .1))
+
+enum-told : tie.Need-enum-told
+enum-told c = search needs
+
+node-count-requires : tie.Need-node-count-requires
+node-count-requires c κs =
+    let S = c .before .before .before .before .before .before .before .before .before .before in
+    let t = accepted-table _ _ _ _ (sym (c .before .before .check-table .ensures .0) ∙ c .enum-told .given .1) in
+    (table-prefixes _ _ _ _ t, t .few)
+
+returns-4 : tie.Need-returns-4
+returns-4 c =
+    let S = c .before .before .before .before .before .before .before .before .before .before .before .before in
+    let e = sym (c .before .before .before .before .check-table .ensures .0) ∙ c .before .before .enum-told .given .1 in
+    let n = count-size (S .args .width) (S .args .levels) (S .args .value .now) (S .args .length .now) (S .args .hop .now) (S .args .words) (sym (c .before .before .before .before .before .before .before .before .is-outside .ensures) ∙ c .before .before .before .before .before .before .before .if1 .left) (sym (c .before .before .before .before .before .before .is-outside2 .ensures) ∙ c .before .before .before .before .before .if2 .left) (accepted-table _ _ _ _ e) _ (c .before .node-count .ensures) in
+    sym (tests-scratch (S .args .width) (S .args .levels) (S .args .value .now) (S .args .length .now) (S .args .hop .now) (S .args .words) (sym (c .before .before .before .before .before .before .before .before .is-outside .ensures) ∙ c .before .before .before .before .before .before .before .if1 .left) (sym (c .before .before .before .before .before .before .is-outside2 .ensures) ∙ c .before .before .before .before .before .if2 .left) e _ n (c .if3 .taken))
+
+returns-5 : tie.Need-returns-5
+returns-5 c =
+    let S = c .before .before .before .before .before .before .before .before .before .before .before .before in
+    let e = sym (c .before .before .before .before .check-table .ensures .0) ∙ c .before .before .enum-told .given .1 in
+    let n = count-size (S .args .width) (S .args .levels) (S .args .value .now) (S .args .length .now) (S .args .hop .now) (S .args .words) (sym (c .before .before .before .before .before .before .before .before .is-outside .ensures) ∙ c .before .before .before .before .before .before .before .if1 .left) (sym (c .before .before .before .before .before .before .is-outside2 .ensures) ∙ c .before .before .before .before .before .if2 .left) (accepted-table _ _ _ _ e) _ (c .before .node-count .ensures) in
+    sym (tests-pass (S .args .width) (S .args .levels) (S .args .value .now) (S .args .length .now) (S .args .hop .now) (S .args .words) (sym (c .before .before .before .before .before .before .before .before .is-outside .ensures) ∙ c .before .before .before .before .before .before .before .if1 .left) (sym (c .before .before .before .before .before .before .is-outside2 .ensures) ∙ c .before .before .before .before .before .if2 .left) e _ n (c .if3 .left))
+
+pub tested-spec : {M : Type 1} → statement M
+tested-spec =
+    tie.close
+    (tie.spec
+    is-outside-requires
+    returns
+    is-outside-requires-2
+    returns-2
+    check-table-requires
+    enum-known-checked
+    returns-3
+    enum-told
+    node-count-requires
+    returns-4
+    returns-5)

@@ -1,0 +1,99 @@
+-- What the functions that write element rows ask and give: the rows below a node (fill), the blocks of a level (level), all
+-- levels (lay). Each asks for some trie and strides that stand in the scratch rows, and gives the rows of every such trie and
+-- strides, so that nobody has to show that two of them are one. The rows before and after those it writes it keeps.
+use Prim.Native.Nat.{ℕ, suc, _+_, _^_, _≤_, _<_}
+use mathlib.Core.Path.{_≡_}
+use mathlib.Core.List.{List}
+use lib.ListN.{length}
+use Rattle.strides.specs.Trie.{Trie}
+use Rattle.strides.specs.Strides.{Good}
+use Rattle.tries.specs.Limits.{WIDTH, LEVELS, ELEMENTS}
+use Rattle.tries.specs.Rows.{Lists, shortest, rowAt}
+use Rattle.tries.specs.Scratch.{Stands}
+use Rattle.tries.specs.Blocks.{Strides, wide, rowBelow, levelRows, rowsOf, rowCount, Hold}
+
+-- the lists have e rows, and that is not too many (refusal 7)
+pub record Room (e : ℕ) (ls : Lists) : Type 0 where
+  pub fits : e ≤ shortest ls
+  pub few : e ≤ ELEMENTS
+
+-- the link k stands for t, whose blocks have at most r levels and at most w address bits; the next begins c levels lower
+pub record Trunk (σ : Strides) (t : Trie) (rows plan : List ℕ) (k w c r : ℕ) : Type 0 where
+  pub stands : Stands σ rows plan k t
+  pub good : Good σ t w c r
+  pub narrow : w ≤ WIDTH
+  pub levels : r ≤ length plan
+  pub planned : length plan ≤ LEVELS
+
+-- ---- the 2 ^ c rows from `base` on, below the trie at link k; child blocks lie from row `free` on
+pub record FillAsks (σ : Strides) (t : Trie) (rows plan : List ℕ) (k c r base free : ℕ) (ls : Lists) : Type 0 where
+  pub w : ℕ
+  pub trunk : Trunk σ t rows plan k w c r
+  pub short : c ≤ WIDTH
+  pub e : ℕ
+  pub own : base + 2 ^ c ≤ e
+  pub children : free + wide σ t c 0 r ≤ e
+  pub room : Room e ls
+
+-- where `best` is the hop so far in the block; the next free row is then free′
+pub record FillGives (σ : Strides) (t : Trie) (c r base best free : ℕ) (ls : Lists) (free′ : ℕ) (ls′ : Lists) : Type 0 where
+  pub next : free′ ≡ free + wide σ t c 0 r
+  pub wrote : (x : ℕ) → x < 2 ^ c → rowAt ls′ (base + x) ≡ rowBelow σ c r t best free x
+  pub before : (i : ℕ) → i < base → rowAt ls′ i ≡ rowAt ls i
+  pub after : (i : ℕ) → base + 2 ^ c ≤ i → rowAt ls′ i ≡ rowAt ls i
+
+abbrev pub CanFill : (rows plan : List ℕ) (k c r base free : ℕ) → Lists → Type 0
+CanFill rows plan k c r base free ls = (σ : Strides) × (t : Trie) × FillAsks σ t rows plan k c r base free ls
+
+abbrev pub Fills : (rows plan : List ℕ) (k c r base best free : ℕ) → Lists → (free′ : ℕ) → Lists → Type 0
+Fills rows plan k c r base best free ls free′ ls′ =
+    (σ : Strides) (t : Trie) → FillAsks σ t rows plan k c r base free ls → FillGives σ t c r base best free ls free′ ls′
+
+-- ---- the blocks of level n below the trie at link k, from row `base` on
+pub record LevelAsks (σ : Strides) (t : Trie) (rows plan : List ℕ) (k w c n r base free : ℕ) (ls : Lists) : Type 0 where
+  pub trunk : Trunk σ t rows plan k w c r
+  pub e : ℕ
+  pub own : base + wide σ t c n r ≤ e
+  pub children : free + wide σ t c (suc n) r ≤ e
+  pub room : Room e ls
+
+-- the next block of the level lies at base′, the next child block at free′
+pub record LevelGives (σ : Strides) (t : Trie) (c n r base free : ℕ) (ls : Lists) (base′ free′ : ℕ) (ls′ : Lists) : Type 0 where
+  pub end : base′ ≡ base + wide σ t c n r
+  pub next : free′ ≡ free + wide σ t c (suc n) r
+  pub wrote : Hold ls′ base (levelRows σ t c n r free)
+  pub before : (i : ℕ) → i < base → rowAt ls′ i ≡ rowAt ls i
+  pub after : (i : ℕ) → base′ ≤ i → rowAt ls′ i ≡ rowAt ls i
+
+abbrev pub CanLevel : (rows plan : List ℕ) (k w c n r base free : ℕ) → Lists → Type 0
+CanLevel rows plan k w c n r base free ls =
+    (σ : Strides) × (t : Trie) × LevelAsks σ t rows plan k w c n r base free ls
+
+abbrev pub Levels : (rows plan : List ℕ) (k w c n r base free : ℕ) → Lists → (base′ free′ : ℕ) → Lists → Type 0
+Levels rows plan k w c n r base free ls base′ free′ ls′ =
+    (σ : Strides) (t : Trie) → LevelAsks σ t rows plan k w c n r base free ls
+    → LevelGives σ t c n r base free ls base′ free′ ls′
+
+-- one block: the level that begins here
+abbrev pub CanBlock : (rows plan : List ℕ) (k r base free : ℕ) → Lists → Type 0
+CanBlock rows plan k r base free ls = (w : ℕ) × CanLevel rows plan k w 0 0 r base free ls
+
+abbrev pub Blocks : (rows plan : List ℕ) (k r base free : ℕ) → Lists → (base′ free′ : ℕ) → Lists → Type 0
+Blocks rows plan k r base free ls base′ free′ ls′ = (w : ℕ) → Levels rows plan k w 0 0 r base free ls base′ free′ ls′
+
+-- ---- all rows of the trie at link k, with L levels
+pub record LayAsks (σ : Strides) (t : Trie) (rows plan : List ℕ) (k w L : ℕ) (ls : Lists) : Type 0 where
+  pub trunk : Trunk σ t rows plan k w 0 L
+  pub room : Room (rowCount σ L t) ls
+
+pub record LayGives (σ : Strides) (t : Trie) (L : ℕ) (ls : Lists) (e : ℕ) (ls′ : Lists) : Type 0 where
+  pub count : e ≡ rowCount σ L t
+  pub wrote : Hold ls′ 0 (rowsOf σ L t)
+  pub after : (i : ℕ) → e ≤ i → rowAt ls′ i ≡ rowAt ls i
+
+abbrev pub CanLay : (rows plan : List ℕ) (k w L : ℕ) → Lists → Type 0
+CanLay rows plan k w L ls = (σ : Strides) × (t : Trie) × LayAsks σ t rows plan k w L ls
+
+abbrev pub Lays : (rows plan : List ℕ) (k w L : ℕ) → Lists → (e : ℕ) → Lists → Type 0
+Lays rows plan k w L ls e ls′ =
+    (σ : Strides) (t : Trie) → LayAsks σ t rows plan k w L ls → LayGives σ t L ls e ls′

@@ -1,0 +1,207 @@
+// The element rows of document 01, "The element rows", from the 1-bit trie in the scratch rows: level by level, each level by
+// one walk of the trie that goes left to right and carries the row of the next block and the row of the next child block.
+// The scratch rows are only read. One builder serves every kind of stride choice (proved for any that can be built).
+ghost use mathlib.Core.Path.{_≡_};
+ghost use Prim.Native.Nat.{_+_, _*_, _^_, _<_, _≤_};
+ghost use lib.ListN.{length, set};
+ghost use Rattle.tries.specs.Limits.{WIDTH};
+ghost use Rattle.tries.specs.Rows.{lists};
+ghost use Rattle.strides.specs.Trie.{newer};
+ghost use Rattle.tries.specs.Scratch.{ROW, ask};
+ghost use Rattle.tries.specs.Filling.{CanFill, Fills, CanBlock, Blocks, CanLevel, Levels, CanLay, Lays};
+use crate::scratch::asked;
+use crate::scratch::stride_at;
+
+fn power(n: usize) -> usize
+    requires { ⌜ n ≤ WIDTH ⌝ }
+    ensures { λ r. ⌜ r ≡ 2 ^ n ⌝ }
+{
+    1 << n
+}
+
+// v where the link k names a row, else 0.
+fn given(k: usize, v: usize) -> usize
+    ensures there { λ r. ⌜ (0 < k → r ≡ v) ⌝ }
+    ensures not { λ r. ⌜ (k ≡ 0 → r ≡ 0) ⌝ }
+{
+    if k == 0 { 0 } else { v }
+}
+
+// The best hop below the link k on a side, where `best` is the one so far in the block: a nonzero mark is the new best.
+fn best_below(rows: &[u64], k: usize, side: usize, best: u16) -> u16
+    requires { ⌜ (k * ROW ≤ length (now rows)) × (side < 2) × (ask (now rows) k (2 + side) < 65536) ⌝ }
+    ensures { λ r. ⌜ r ≡ newer (ask (now (rows .entry)) k (2 + side)) best ⌝ }
+{
+    let mark = asked(rows, k, 2 + side);
+    if mark == 0 {
+        return best;
+    }
+    mark as u16
+}
+
+// Writes element row i: the only place that does.
+fn write(hop: &mut [u16], link: &mut [u32], stride: &mut [u8], i: usize, h: u16, l: usize, s: usize)
+    requires { ⌜ (i < length (now hop)) × (i < length (now link)) × (i < length (now stride)) × (l < 2 ^ 32) × (s < 256) ⌝ }
+    ensures hops { λ _. ⌜ now (hop .exit) ≡ set (now (hop .entry)) i h ⌝ }
+    ensures links { λ _. ⌜ now (link .exit) ≡ set (now (link .entry)) i l ⌝ }
+    ensures strides { λ _. ⌜ now (stride .exit) ≡ set (now (stride .entry)) i s ⌝ }
+{
+    hop[i] = h;
+    link[i] = l as u32;
+    stride[i] = s as u8;
+}
+
+// Makes the row at the end of a path: a child block begins at the trie of link k, or there is none. Returns the next free row.
+fn leaf(
+    rows: &[u64],
+    plan: &[u8],
+    k: usize,
+    r: usize,
+    base: usize,
+    best: u16,
+    free: usize,
+    hop: &mut [u16],
+    link: &mut [u32],
+    stride: &mut [u8],
+) -> usize
+    requires { ⌜ CanFill (now rows) (now plan) k 0 r base free (lists (now hop) (now link) (now stride)) ⌝ }
+    ensures { λ f. ⌜ Fills (now (rows .entry)) (now (plan .entry)) k 0 r base best free (lists (now (hop .entry)) (now (link .entry)) (now (stride .entry))) f (lists (now (hop .exit)) (now (link .exit)) (now (stride .exit))) ⌝ }
+{
+    let s = stride_at(rows, plan, k, r);
+    write(hop, link, stride, base, best, given(k, free), s);
+    free + given(k, power(s))
+}
+
+// Writes the 2 ^ c rows from `base` on, below the trie at link k, where `best` is the hop so far in the block. Child blocks have
+// r levels left and lie from row `free` on; returns the row after them.
+fn fill(
+    rows: &[u64],
+    plan: &[u8],
+    k: usize,
+    c: usize,
+    r: usize,
+    base: usize,
+    best: u16,
+    free: usize,
+    hop: &mut [u16],
+    link: &mut [u32],
+    stride: &mut [u8],
+) -> usize
+    requires { ⌜ CanFill (now rows) (now plan) k c r base free (lists (now hop) (now link) (now stride)) ⌝ }
+    ensures { λ f. ⌜ Fills (now (rows .entry)) (now (plan .entry)) k c r base best free (lists (now (hop .entry)) (now (link .entry)) (now (stride .entry))) f (lists (now (hop .exit)) (now (link .exit)) (now (stride .exit))) ⌝ }
+{
+    if c == 0 {
+        return leaf(rows, plan, k, r, base, best, free, hop, link, stride);
+    }
+    let h0 = best_below(rows, k, 0, best);
+    let h1 = best_below(rows, k, 1, best);
+    let k0 = asked(rows, k, 0);
+    let k1 = asked(rows, k, 1);
+    let half = power(c - 1);
+    let f = fill(rows, plan, k0, c - 1, r, base, h0, free, hop, link, stride);
+    fill(
+        rows,
+        plan,
+        k1,
+        c - 1,
+        r,
+        base + half,
+        h1,
+        f,
+        hop,
+        link,
+        stride,
+    )
+}
+
+// Where the next block of a level lies, and where the next child block does.
+struct Front {
+    base: usize,
+    free: usize,
+}
+
+// Writes the block of the node at link k, with r levels left, from row `to.base` on; its child blocks lie from row `to.free` on.
+fn block(
+    rows: &[u64],
+    plan: &[u8],
+    k: usize,
+    r: usize,
+    to: Front,
+    hop: &mut [u16],
+    link: &mut [u32],
+    stride: &mut [u8],
+) -> Front
+    requires { ⌜ (0 < k) × CanBlock (now rows) (now plan) k r (to .base) (to .free) (lists (now hop) (now link) (now stride)) ⌝ }
+    ensures { λ s. ⌜ Blocks (now (rows .entry)) (now (plan .entry)) k r (to .base) (to .free) (lists (now (hop .entry)) (now (link .entry)) (now (stride .entry))) (s .base) (s .free) (lists (now (hop .exit)) (now (link .exit)) (now (stride .exit))) ⌝ }
+{
+    let s = stride_at(rows, plan, k, r);
+    let base = to.base;
+    let free = to.free;
+    let f = fill(rows, plan, k, s, r - 1, base, 0, free, hop, link, stride);
+    Front {
+        base: base + power(s),
+        free: f,
+    }
+}
+
+// Writes the blocks of level n below the trie at link k, left to right, from row `to.base` on. The next block on a path begins c
+// levels lower, with r levels left; w address bits are left.
+fn level(
+    rows: &[u64],
+    plan: &[u8],
+    k: usize,
+    w: usize,
+    c: usize,
+    n: usize,
+    r: usize,
+    to: Front,
+    hop: &mut [u16],
+    link: &mut [u32],
+    stride: &mut [u8],
+) -> Front
+    requires { ⌜ CanLevel (now rows) (now plan) k w c n r (to .base) (to .free) (lists (now hop) (now link) (now stride)) ⌝ }
+    ensures { λ s. ⌜ Levels (now (rows .entry)) (now (plan .entry)) k w c n r (to .base) (to .free) (lists (now (hop .entry)) (now (link .entry)) (now (stride .entry))) (s .base) (s .free) (lists (now (hop .exit)) (now (link .exit)) (now (stride .exit))) ⌝ }
+{
+    if k == 0 {
+        return to;
+    }
+    if c == 0 {
+        if n == 0 {
+            return block(rows, plan, k, r, to, hop, link, stride);
+        }
+        let s = stride_at(rows, plan, k, r);
+        return level(rows, plan, k, w, s, n - 1, r - 1, to, hop, link, stride);
+    }
+    let k0 = asked(rows, k, 0);
+    let k1 = asked(rows, k, 1);
+    let then = level(rows, plan, k0, w - 1, c - 1, n, r, to, hop, link, stride);
+    level(rows, plan, k1, w - 1, c - 1, n, r, then, hop, link, stride)
+}
+
+// Writes all rows of the trie at link `root`, level by level, and returns their number E. `width` is the number of address
+// bits, `levels` the level limit; `plan` has at place r - 1 the stride with r levels left of a fixed choice, else 0.
+pub(crate) fn lay(
+    rows: &[u64],
+    plan: &[u8],
+    root: usize,
+    width: usize,
+    levels: usize,
+    hop: &mut [u16],
+    link: &mut [u32],
+    stride: &mut [u8],
+) -> usize
+    requires { ⌜ CanLay (now rows) (now plan) root width levels (lists (now hop) (now link) (now stride)) ⌝ }
+    ensures { λ e. ⌜ Lays (now (rows .entry)) (now (plan .entry)) root width levels (lists (now (hop .entry)) (now (link .entry)) (now (stride .entry))) e (lists (now (hop .exit)) (now (link .exit)) (now (stride .exit))) ⌝ }
+{
+    let first = given(root, power(stride_at(rows, plan, root, levels)));
+    let mut to = Front {
+        base: 0,
+        free: first,
+    };
+    let mut n = 0;
+    while n < levels {
+        to = level(rows, plan, root, width, 0, n, levels, to, hop, link, stride);
+        n += 1;
+    }
+    to.base
+}

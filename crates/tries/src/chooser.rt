@@ -1,0 +1,202 @@
+// The stride choosers (01, "Stride choices"): the least cost of a kind, and the strides of the record.
+ghost use mathlib.Core.Path.{_≡_};
+ghost use Prim.Native.Nat.{_≤_};
+ghost use lib.ListN.{length};
+ghost use Rattle.table.specs.Refusals.{outcome};
+ghost use Rattle.strides.specs.Cheapest.{fixed, variable};
+ghost use Rattle.tries.specs.Kinds.{kindOf};
+ghost use Rattle.tries.specs.Chooser.{chooseTests, ChosenIs, Chooses, PlanIn, Planned};
+use crate::costs::settle_tree;
+use crate::counting::node_count;
+use crate::fixed::fixed_choice;
+use crate::limits::LEVELS;
+use crate::limits::WIDTH;
+use crate::limits::is_outside;
+use crate::record::Kind;
+use crate::rows::make_rows;
+use crate::scratch::ROW;
+use crate::scratch::asked;
+use crate::scratch::zero;
+use table::Outcome;
+
+pub struct Chosen {
+    pub outcome: Outcome,
+    pub cost: u64,
+    pub strides: [u8; LEVELS as usize],
+}
+
+// Tests 1 to 6, in order: `words` is the length of the lent scratch. No list is touched.
+pub(crate) fn tested(
+    width: u32,
+    levels: u32,
+    value: &[u32],
+    length: &[u8],
+    hop: &[u16],
+    words: usize,
+) -> Outcome
+    ensures { λ r. ⌜ r ≡ outcome (chooseTests width levels (now (value .entry)) (now (length .entry)) (now (hop .entry)) words) ⌝ }
+{
+    if is_outside(width, WIDTH) {
+        return Outcome::Refused {
+            number: 1,
+            detail: 0,
+        };
+    }
+    if is_outside(levels, LEVELS) {
+        return Outcome::Refused {
+            number: 2,
+            detail: 0,
+        };
+    }
+    let checked = table::check_table(width, value, length, hop);
+    if let Outcome::Refused { number, detail } = checked {
+        return Outcome::Refused { number, detail };
+    }
+    let nodes = node_count(width, value, length);
+    if words / ROW < nodes {
+        return Outcome::Refused {
+            number: 6,
+            detail: nodes as u64,
+        };
+    }
+    Outcome::Accepted
+}
+
+// The least cost and the strides of a choice, with the trie in the scratch rows from the link `root` on; `plan` names a
+// fixed choice's strides to the builder, and is 0 where each row has its own.
+pub(crate) struct Plan {
+    pub(crate) cost: u64,
+    pub(crate) strides: [u8; LEVELS as usize],
+    pub(crate) plan: [u8; LEVELS as usize],
+    pub(crate) root: usize,
+}
+
+// A variable choice: the rows hold every node's costs and strides.
+fn plan_variable(
+    width: u32,
+    levels: u32,
+    vals: &[u32],
+    lens: &[u8],
+    hops: &[u16],
+    scratch: &mut [u64],
+) -> Plan
+    requires { ⌜ PlanIn width levels (now vals) (now lens) (now hops) (now scratch) ⌝ }
+    ensures { λ r. ⌜ Planned variable width levels (now (vals .entry)) (now (lens .entry)) (now (hops .entry)) (r .cost) (r .strides) (r .plan) (r .root) (now (scratch .exit)) ⌝ }
+{
+    zero(scratch);
+    let root = make_rows(scratch, width, vals, lens, hops);
+    let k = levels as usize;
+    settle_tree(scratch, root, 0, k);
+    let mut strides = [0u8; LEVELS as usize];
+    strides[0] = (asked(scratch, root, 15 + k) % 256) as u8;
+    Plan {
+        cost: asked(scratch, root, 7 + k) as u64,
+        strides: strides,
+        plan: [0u8; LEVELS as usize],
+        root: root,
+    }
+}
+
+// A fixed choice: the rows hold links and hops only.
+fn plan_fixed(
+    width: u32,
+    levels: u32,
+    vals: &[u32],
+    lens: &[u8],
+    hops: &[u16],
+    scratch: &mut [u64],
+) -> Plan
+    requires { ⌜ PlanIn width levels (now vals) (now lens) (now hops) (now scratch) ⌝ }
+    ensures { λ r. ⌜ Planned fixed width levels (now (vals .entry)) (now (lens .entry)) (now (hops .entry)) (r .cost) (r .strides) (r .plan) (r .root) (now (scratch .exit)) ⌝ }
+{
+    zero(scratch);
+    let root = make_rows(scratch, width, vals, lens, hops);
+    let f = fixed_choice(width, vals, lens, levels as usize);
+    let strides = f.strides;
+    Plan {
+        cost: f.cost,
+        strides: strides,
+        plan: strides,
+        root: root,
+    }
+}
+
+// A choice of either kind.
+pub(crate) fn planned(
+    kind: Kind,
+    width: u32,
+    levels: u32,
+    vals: &[u32],
+    lens: &[u8],
+    hops: &[u16],
+    scratch: &mut [u64],
+) -> Plan
+    requires { ⌜ PlanIn width levels (now vals) (now lens) (now hops) (now scratch) ⌝ }
+    ensures { λ r. ⌜ Planned (kindOf kind) width levels (now (vals .entry)) (now (lens .entry)) (now (hops .entry)) (r .cost) (r .strides) (r .plan) (r .root) (now (scratch .exit)) ⌝ }
+{
+    match kind {
+        Kind::Fixed => plan_fixed(width, levels, vals, lens, hops, scratch),
+        Kind::Variable => plan_variable(width, levels, vals, lens, hops, scratch),
+    }
+}
+
+// The chooser of both kinds.
+fn choose(
+    kind: Kind,
+    width: u32,
+    levels: u32,
+    value: &[u32],
+    length: &[u8],
+    hop: &[u16],
+    scratch: &mut [u64],
+) -> Chosen
+    ensures exact { λ r. ⌜ ChosenIs (kindOf kind) width levels (now (value .entry)) (now (length .entry)) (now (hop .entry)) (now (scratch .entry)) (r .outcome) (r .cost) (r .strides) (now (scratch .exit)) ⌝ }
+{
+    let outcome = tested(width, levels, value, length, hop, scratch.len());
+    if let Outcome::Refused { number, detail } = outcome {
+        return Chosen {
+            outcome: Outcome::Refused { number, detail },
+            cost: 0,
+            strides: [0u8; LEVELS as usize],
+        };
+    }
+    let p = planned(kind, width, levels, value, length, hop, scratch);
+    zero(scratch);
+    let strides = p.strides;
+    Chosen {
+        outcome: Outcome::Accepted,
+        cost: p.cost,
+        strides: strides,
+    }
+}
+
+// The least cost of a fixed choice with at most `levels` levels, and its strides from the front; or the first refusal
+// among 1 to 6, with cost 0 and zero strides. Accepted, all of scratch is zero; refused, no list is changed.
+pub fn choose_fixed(
+    width: u32,
+    levels: u32,
+    value: &[u32],
+    length: &[u8],
+    hop: &[u16],
+    scratch: &mut [u64],
+) -> Chosen
+    ensures exact { λ r. ⌜ ChosenIs fixed width levels (now (value .entry)) (now (length .entry)) (now (hop .entry)) (now (scratch .entry)) (r .outcome) (r .cost) (r .strides) (now (scratch .exit)) ⌝ }
+    ensures meaning { λ r. ⌜ Chooses fixed width levels (now (value .entry)) (now (length .entry)) (now (hop .entry)) (now (scratch .entry)) (r .outcome) (r .cost) (r .strides) (now (scratch .exit)) ⌝ }
+{
+    choose(Kind::Fixed, width, levels, value, length, hop, scratch)
+}
+
+// The same for a variable choice: of its strides only the root's is named.
+pub fn choose_variable(
+    width: u32,
+    levels: u32,
+    value: &[u32],
+    length: &[u8],
+    hop: &[u16],
+    scratch: &mut [u64],
+) -> Chosen
+    ensures exact { λ r. ⌜ ChosenIs variable width levels (now (value .entry)) (now (length .entry)) (now (hop .entry)) (now (scratch .entry)) (r .outcome) (r .cost) (r .strides) (now (scratch .exit)) ⌝ }
+    ensures meaning { λ r. ⌜ Chooses variable width levels (now (value .entry)) (now (length .entry)) (now (hop .entry)) (now (scratch .entry)) (r .outcome) (r .cost) (r .strides) (now (scratch .exit)) ⌝ }
+{
+    choose(Kind::Variable, width, levels, value, length, hop, scratch)
+}

@@ -1,0 +1,127 @@
+// The fixed choice: one stride for all blocks of a level (source document 000). The nodes of each level are counted in the
+// table; then, from the last level up, the cheapest strides for the levels from there on.
+ghost use mathlib.Core.Path.{_≡_};
+ghost use Prim.Native.Nat.{ℕ, _+_, _-_, _*_, _^_, _<_, _≤_};
+ghost use lib.ListN.{length, getD, drop};
+ghost use Rattle.table.specs.Table.{at};
+ghost use Rattle.strides.specs.Entries.{longestLength};
+ghost use Rattle.strides.specs.Recurrence.{listBy};
+ghost use Rattle.tries.specs.Limits.{WIDTH, LEVELS, ENTRIES};
+ghost use Rattle.tries.specs.Costs.{held};
+ghost use Rattle.tries.specs.Making.{Prefixes};
+ghost use Rattle.tries.specs.Levels.{within, levelCount, LEVEL_CELLS, Filled, RowFilled, padded, StridesFilled, SomeNodes, FixedOut};
+use crate::costs::choice;
+use crate::costs::larger;
+use crate::counting::new_at;
+
+// Adds 1 to the levels from `from` up to but not `to`.
+fn add_levels(counts: &mut [u64], from: usize, to: usize)
+    requires { ⌜ (from ≤ to) × (to ≤ WIDTH) × (length (now counts) ≡ WIDTH) ⌝ }
+    requires { ⌜ ((j : ℕ) → j < WIDTH → getD (now counts) j 0 < 2 ^ 60) ⌝ }
+    ensures { λ _. ⌜ ((j : ℕ) → j < WIDTH → getD (now (counts .exit)) j 0 ≡ getD (now (counts .entry)) j 0 + within from to j) ⌝ }
+{
+    let mut j = from;
+    while j < to {
+        counts[j] += 1;
+        j += 1;
+    }
+}
+
+// Counts the nodes of each level, in counts that are all 0.
+pub(crate) fn count_levels(width: u32, vals: &[u32], lens: &[u8], counts: &mut [u64])
+    requires { ⌜ Prefixes width (now vals) (now lens) × (length (now vals) ≤ ENTRIES) ⌝ }
+    requires { ⌜ (length (now counts) ≡ WIDTH) × ((j : ℕ) → j < WIDTH → getD (now counts) j 0 ≡ 0) ⌝ }
+    ensures { λ _. ⌜ ((j : ℕ) → j < WIDTH → getD (now (counts .exit)) j 0 ≡ levelCount width (at (now (vals .entry))) (at (now (lens .entry))) (length (now (vals .entry))) j) ⌝ }
+{
+    let n = vals.len();
+    let mut i = 0;
+    while i < n {
+        let l = lens[i] as usize;
+        let new = new_at(width, vals, lens, i);
+        add_levels(counts, l - new, l);
+        i += 1;
+    }
+}
+
+// The longest length: how many levels the trie has.
+pub(crate) fn longest_length(lens: &[u8]) -> usize
+    ensures { λ r. ⌜ r ≡ longestLength (at (now (lens .entry))) (length (now (lens .entry))) ⌝ }
+{
+    let mut longest = 0;
+    let mut i = 0;
+    while i < lens.len() {
+        longest = larger(lens[i] as usize, longest);
+        i += 1;
+    }
+    longest
+}
+
+// The choices for the d levels from level i on, where level i has n nodes and the rows after i are filled.
+fn fill_row(n: usize, i: usize, d: usize, levels: usize, costs: &mut [u64], strides: &mut [u64])
+    requires { ⌜ (length (now costs) ≡ LEVEL_CELLS) × (length (now strides) ≡ LEVEL_CELLS) ⌝ }
+    requires { ⌜ (n ≤ ENTRIES) × (1 ≤ d) × (i + d ≤ WIDTH) × (levels ≤ LEVELS) ⌝ }
+    ensures { λ _. ⌜ RowFilled levels n d i (now (costs .entry)) (now (strides .entry)) (now (costs .exit)) (now (strides .exit)) (drop ((i + 1) * LEVELS) (now (costs .entry))) ⌝ }
+{
+    let mut r = 0;
+    while r < levels {
+        let from = (i + 1) * 8;
+        let b = choice(&costs[from..], n, r, d);
+        let at = i * 8 + r;
+        costs[at] = b.cost;
+        strides[at] = b.place as u64 + 1;
+        r += 1;
+    }
+}
+
+// Fills the table of fixed strides from the last level up, in tables that are all 0.
+fn fill_table(nodes: &[u64], levels: usize, depth: usize, costs: &mut [u64], strides: &mut [u64])
+    requires { ⌜ (length (now nodes) ≡ WIDTH) × (levels ≤ LEVELS) × (depth ≤ WIDTH) × ((j : ℕ) → getD (now nodes) j 0 ≤ ENTRIES) ⌝ }
+    requires { ⌜ Filled (at (now nodes)) levels depth depth (now costs) (now strides) ⌝ }
+    ensures { λ _. ⌜ Filled (at (now (nodes .entry))) levels depth 0 (now (costs .exit)) (now (strides .exit)) ⌝ }
+{
+    let mut i = depth;
+    while 0 < i {
+        i -= 1;
+        fill_row(nodes[i] as usize, i, depth - i, levels, costs, strides);
+    }
+}
+
+// The strides that the table names, from the first level on: unused places 0.
+fn read_list(strides: &[u64], levels: usize, depth: usize) -> [u8; 8]
+    requires { ⌜ (1 ≤ levels) × (levels ≤ LEVELS) × (depth ≤ WIDTH) × (length (now strides) ≡ LEVEL_CELLS) × SomeNodes levels depth (now strides) ⌝ }
+    ensures { λ r. ⌜ ((nodes : ℕ → ℕ) → StridesFilled nodes levels depth (now (strides .entry)) → r ≡ padded LEVELS (listBy held nodes (levels - 1) 0 depth)) ⌝ }
+{
+    let mut list = [0u8; 8];
+    let mut i = 0;
+    let mut p = 0;
+    while p < levels {
+        let s = strides[i * 8 + (levels - 1 - p)];
+        list[p] = (s % 256) as u8;
+        i += s as usize;
+        p += 1;
+    }
+    list
+}
+
+// What the fixed choice costs, and its strides.
+pub(crate) struct Fixed {
+    pub(crate) cost: u64,
+    pub(crate) strides: [u8; 8],
+}
+
+// The cheapest fixed choice for a table.
+pub(crate) fn fixed_choice(width: u32, vals: &[u32], lens: &[u8], levels: usize) -> Fixed
+    requires { ⌜ Prefixes width (now vals) (now lens) × (length (now vals) ≤ ENTRIES) × (1 ≤ levels) × (levels ≤ LEVELS) ⌝ }
+    ensures { λ r. ⌜ FixedOut width (now (vals .entry)) (now (lens .entry)) levels (r .cost) (r .strides) ⌝ }
+{
+    let mut nodes = [0u64; 32];
+    count_levels(width, vals, lens, &mut nodes);
+    let depth = longest_length(lens);
+    let mut costs = [0u64; 264];
+    let mut strides = [0u64; 264];
+    fill_table(&nodes, levels, depth, &mut costs, &mut strides);
+    Fixed {
+        cost: costs[levels - 1],
+        strides: read_list(&strides, levels, depth),
+    }
+}

@@ -1,0 +1,23 @@
+// The tries: the stride choosers, the builder of element rows, the record that a build hands back, and the lookup.
+mod address;
+mod builder;
+mod chooser;
+mod costs;
+mod counting;
+mod fixed;
+mod limits;
+mod record;
+mod rows;
+mod scratch;
+mod walk;
+
+pub use chooser::Chosen;
+pub use chooser::choose_fixed;
+pub use chooser::choose_variable;
+pub use limits::ELEMENTS;
+pub use limits::LEVELS;
+pub use limits::WIDTH;
+pub use record::Kind;
+pub use record::Record;
+pub use walk::Answer;
+pub use walk::lookup;

@@ -1,0 +1,103 @@
+// The 1-bit trie of a table, made in scratch rows that are all 0: one entry after the other.
+ghost use mathlib.Core.Path.{_≡_};
+ghost use Prim.Native.Nat.{_+_, _*_, _^_, _<_, _≤_, max};
+ghost use lib.ListN.{length};
+ghost use Rattle.tries.specs.Scratch.{ROW};
+ghost use Rattle.tries.specs.Inserting.{Downed, InsertIn, Inserted};
+ghost use Rattle.tries.specs.Making.{AddIn, Added, MakeIn, MakeOut};
+use crate::scratch::ROW;
+use crate::scratch::put;
+
+// The row of the child at side s of row x; where there is none, the row `used` is taken for it.
+fn down(rows: &mut [u64], x: usize, s: usize, used: usize) -> usize
+    requires { ⌜ ((x + 1) * ROW ≤ length (now rows)) × (s < ROW) × (used * ROW ≤ length (now rows)) ⌝ }
+    ensures { λ y. ⌜ Downed (now (rows .entry)) x s used y (now (rows .exit)) ⌝ }
+{
+    let k = rows[x * ROW + s] as usize;
+    if k == 0 {
+        put(rows, x, s, used + 1);
+        used
+    } else {
+        k - 1
+    }
+}
+
+// The next free row, where row y may just have been taken.
+fn grown(used: usize, y: usize) -> usize
+    requires { ⌜ used < 2 ^ 60 ⌝ }
+    ensures { λ r. ⌜ (y ≡ used → r ≡ used + 1) × ((y ≡ used → ⊥) → r ≡ used) ⌝ }
+{
+    if y == used { used + 1 } else { used }
+}
+
+// Puts the entry of the last n + 1 bits of v, with the mark h, into the tree at row x; `used` is the next free row, and
+// the result the one after.
+fn insert(rows: &mut [u64], x: usize, used: usize, v: usize, n: usize, h: usize) -> usize
+    requires { ⌜ InsertIn (now rows) x used v n ⌝ }
+    ensures { λ r. ⌜ Inserted (now (rows .entry)) x used v n h r (now (rows .exit)) ⌝ }
+{
+    let s = (v >> n) % 2;
+    if n == 0 {
+        put(rows, x, 2 + s, h);
+        used
+    } else {
+        let y = down(rows, x, s, used);
+        insert(rows, y, grown(used, y), v, n - 1, h)
+    }
+}
+
+// Row 0 is the root's: it is taken with the first node.
+fn opened(used: usize) -> usize
+    ensures { λ r. ⌜ r ≡ max used 1 ⌝ }
+{
+    if used == 0 { 1 } else { used }
+}
+
+// Lays one entry, the first l bits of v with the mark h, into the first `used` rows; the result is the number of rows
+// then used. A length 0 entry makes no node.
+fn add(rows: &mut [u64], used: usize, width: usize, v: usize, l: usize, h: usize) -> usize
+    requires { ⌜ AddIn (now rows) used width v l h ⌝ }
+    ensures { λ r. ⌜ Added (now (rows .entry)) used width v l h r (now (rows .exit)) ⌝ }
+{
+    if l == 0 {
+        return used;
+    }
+    insert(rows, 0, opened(used), v >> (width - l), l - 1, h)
+}
+
+// The link of the root where some rows are used.
+fn root_link(used: usize) -> usize
+    ensures some { λ r. ⌜ (0 < used → r ≡ 1) ⌝ }
+    ensures none { λ r. ⌜ (used ≡ 0 → r ≡ 0) ⌝ }
+{
+    if used == 0 { 0 } else { 1 }
+}
+
+// Makes the rows of a table's 1-bit trie in rows that are all 0, and returns the root's link.
+pub(crate) fn make_rows(
+    rows: &mut [u64],
+    width: u32,
+    vals: &[u32],
+    lens: &[u8],
+    hops: &[u16],
+) -> usize
+    requires { ⌜ MakeIn width (now vals) (now lens) (now hops) (now rows) ⌝ }
+    ensures { λ r. ⌜ MakeOut width (now (vals .entry)) (now (lens .entry)) (now (hops .entry)) r (now (rows .exit)) ⌝ }
+{
+    let n = vals.len();
+    let w = width as usize;
+    let mut used = 0;
+    let mut i = 0;
+    while i < n {
+        used = add(
+            rows,
+            used,
+            w,
+            vals[i] as usize,
+            lens[i] as usize,
+            hops[i] as usize,
+        );
+        i += 1;
+    }
+    root_link(used)
+}

@@ -1,0 +1,55 @@
+// The scratch rows of the 1-bit trie (specs/Scratch.antt has their columns): how a number of a row is read and written. All
+// that walks the trie goes through these, by links: a link is a row and one, 0 is none.
+ghost use mathlib.Core.Path.{_≡_};
+ghost use Prim.Native.Nat.{_+_, _*_, _<_, _≤_};
+ghost use lib.ListN.{length, replicate, set};
+ghost use Rattle.tries.specs.Limits.{LEVELS};
+ghost use Rattle.tries.specs.Scratch.{ROW, ask, strideAt};
+
+// Numbers in a row.
+pub(crate) const ROW: usize = 24;
+
+// Column c of the row that the link k names; 0 where it names none.
+pub(crate) fn asked(rows: &[u64], k: usize, c: usize) -> usize
+    requires { ⌜ (k * ROW ≤ length (now rows)) × (c < ROW) ⌝ }
+    ensures { λ r. ⌜ r ≡ ask (now (rows .entry)) k c ⌝ }
+{
+    if k == 0 {
+        return 0;
+    }
+    rows[(k - 1) * ROW + c] as usize
+}
+
+// The stride of a block at link k with r levels left: the plan's, where the choice is fixed, else the row's own.
+pub(crate) fn stride_at(rows: &[u64], plan: &[u8], k: usize, r: usize) -> usize
+    requires { ⌜ (k * ROW ≤ length (now rows)) × (0 < k → 0 < r) × (r ≤ length (now plan)) × (length (now plan) ≤ LEVELS) ⌝ }
+    ensures { λ s. ⌜ s ≡ strideAt (now (rows .entry)) (now (plan .entry)) k r ⌝ }
+{
+    if k == 0 {
+        return 0;
+    }
+    if plan[0] == 0 {
+        return asked(rows, k, 15 + r);
+    }
+    plan[plan.len() - r] as usize
+}
+
+// Sets column c of row x.
+pub(crate) fn put(rows: &mut [u64], x: usize, c: usize, v: usize)
+    requires { ⌜ ((x + 1) * ROW ≤ length (now rows)) × (c < ROW) ⌝ }
+    ensures { λ _. ⌜ now (rows .exit) ≡ set (now (rows .entry)) (x * ROW + c) v ⌝ }
+{
+    rows[x * ROW + c] = v as u64;
+}
+
+// Sets all of a list to 0, a part row at its end included.
+pub(crate) fn zero(rows: &mut [u64])
+    ensures { λ _. ⌜ now (rows .exit) ≡ replicate (length (now (rows .entry))) 0 ⌝ }
+{
+    let n = rows.len();
+    let mut i = 0;
+    while i < n {
+        rows[i] = 0;
+        i += 1;
+    }
+}
