@@ -1,2 +1,4 @@
+pub mod Marks
 pub mod Numerals
+pub mod Tables
 pub mod Triples

@@ -87,3 +87,13 @@ pub fn held8(value: u64) -> u8
     }
     255
 }
+
+// The smaller of two numbers: what a list has of the places that a case lends.
+pub fn least(a: usize, b: usize) -> usize
+    ensures { λ r. ⌜ r ≡ min a b ⌝ }
+{
+    if a < b {
+        return a;
+    }
+    b
+}

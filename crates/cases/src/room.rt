@@ -1,4 +1,4 @@
-// Room for the text of a run and for the three lists of a table, on the stack. Each promise gives only
+// Room for the text of a run and for the lists that its calls are lent, on the stack. Each promise gives only
 // the length, which lending the array as a slice needs.
 ghost use mathlib.Core.Path.{_≡_};
 ghost use lib.ListN.{length};
@@ -27,4 +27,30 @@ pub fn hops() -> [u16; 5000]
     ensures { λ r. ⌜ 5000 ≡ length r ⌝ }
 {
     [0; 5000]
+}
+
+// Scratch for the largest trie of the cases.
+pub fn scratch() -> [u64; 200000]
+    ensures { λ r. ⌜ 200000 ≡ length r ⌝ }
+{
+    [0; 200000]
+}
+
+// The three element lists hold the rows of the largest build.
+pub fn row_hops() -> [u16; 20000]
+    ensures { λ r. ⌜ 20000 ≡ length r ⌝ }
+{
+    [0; 20000]
+}
+
+pub fn row_links() -> [u32; 20000]
+    ensures { λ r. ⌜ 20000 ≡ length r ⌝ }
+{
+    [0; 20000]
+}
+
+pub fn row_strides() -> [u8; 20000]
+    ensures { λ r. ⌜ 20000 ≡ length r ⌝ }
+{
+    [0; 20000]
 }

@@ -1,25 +1,16 @@
 // Rows of three numbers, as an entry's value, length and hop, read into three lent slices.
 ghost use mathlib.Core.Path.{_≡_};
-ghost use Prim.Native.Nat.{min};
 ghost use Rattle.cases.specs.Triples.{Reads};
 use crate::numerals::held8;
 use crate::numerals::held16;
 use crate::numerals::held32;
+use crate::numerals::least;
 use crate::numerals::number;
 
 // How many rows were read, and the place past the last.
 pub struct Listed {
     pub count: usize,
     pub next: usize,
-}
-
-fn least(a: usize, b: usize) -> usize
-    ensures { λ r. ⌜ r ≡ min a b ⌝ }
-{
-    if a < b {
-        return a;
-    }
-    b
 }
 
 // Reads how many rows there are, then the rows, as many as the shortest slice has places.

@@ -2,20 +2,12 @@
 // A line of the input is a case. `table` gives a width, the lengths of the three lists and their entries
 // (value/length>hop), for this line and those below it, and asks the check; `zone` asks for a prefix's zone
 // in that table; `shared` for the shared length of two prefixes.
+use cases::Held;
 use libc::STDIN_FILENO;
 use libc::STDOUT_FILENO;
 use table::Outcome;
 use table::Shared;
 use table::Span;
-
-// The table of the lines below, as the lengths of its lists, and the next place of the text.
-struct Held {
-    width: u32,
-    values: usize,
-    lengths: usize,
-    hops: usize,
-    at: usize,
-}
 
 fn say(word: &[u8]) {
     io::write_all(STDOUT_FILENO, word);
@@ -76,27 +68,6 @@ fn say_part(part: &[u32]) {
     }
 }
 
-fn table_line(
-    text: &[u8],
-    at: usize,
-    values: &mut [u32],
-    lengths: &mut [u8],
-    hops: &mut [u16],
-) -> Held {
-    let width = cases::number(text, at);
-    let v = cases::number(text, width.next);
-    let l = cases::number(text, v.next);
-    let h = cases::number(text, l.next);
-    let rows = cases::rows(text, h.next, values, lengths, hops);
-    Held {
-        width: cases::held32(width.value),
-        values: v.value as usize,
-        lengths: l.value as usize,
-        hops: h.value as usize,
-        at: rows.next,
-    }
-}
-
 fn check_held(held: Held, values: &[u32], lengths: &[u8], hops: &[u16]) {
     let v = cases::front32(values, held.values);
     let l = cases::front8(lengths, held.lengths);
@@ -140,20 +111,12 @@ fn shared_line(text: &[u8], at: usize) -> usize {
     b_length.next
 }
 
-// The byte at a place, 0 past the end.
-fn byte(text: &[u8], at: usize) -> u8 {
-    if at < text.len() {
-        return text[at];
-    }
-    0
-}
-
 // One case: its first letter says which.
 fn line(text: &[u8], held: Held, values: &mut [u32], lengths: &mut [u8], hops: &mut [u16]) -> Held {
     let at = cases::seek(text, held.at, b'a', b'z');
-    let letter = byte(text, at);
+    let letter = cases::byte(text, at);
     if letter == b't' {
-        let new = table_line(text, at, values, lengths, hops);
+        let new = cases::table_line(text, at, values, lengths, hops);
         check_held(new, values, lengths, hops);
         return new;
     }
@@ -168,13 +131,7 @@ fn line(text: &[u8], held: Held, values: &mut [u32], lengths: &mut [u8], hops: &
 
 fn run(text: &[u8], values: &mut [u32], lengths: &mut [u8], hops: &mut [u16]) {
     let count = cases::number(text, 0);
-    let mut held = Held {
-        width: 0,
-        values: 0,
-        lengths: 0,
-        hops: 0,
-        at: count.next,
-    };
+    let mut held = cases::no_table(count.next);
     let mut left = count.value;
     while left > 0 {
         held = line(text, held, values, lengths, hops);

@@ -287,8 +287,11 @@ module _ (W k : ℕ) (vs ls hs scratch : List ℕ) (g : PlanIn W k vs ls hs scra
   tree-trie : shape tree ≡ trie
   tree-trie = tree-shape W (at vs) (at ls) (at hs) (length vs) (plan-prefixes .prefix)
 
+  pub plan-depth-width : depth trie ≤ W
+  plan-depth-width = trie-depth-width W (at vs) (at ls) (at hs) (length vs) (plan-prefixes .prefix)
+
   pub plan-depth : depth trie ≤ WIDTH
-  plan-depth = omega (arith, trie-depth-width W (at vs) (at ls) (at hs) (length vs) (plan-prefixes .prefix), g .table .width)
+  plan-depth = omega (arith, plan-depth-width, g .table .width)
 
   two-to-depth : 2 ^ depth trie ≤ 2 ^ 32
   two-to-depth = pow-mono plan-depth
@@ -346,6 +349,7 @@ module _ (W k : ℕ) (vs ls hs scratch : List ℕ) (g : PlanIn W k vs ls hs scra
         record {
           least = o .0 ∙ least-capped COST_CAP fixed k trie ∙ omega arith;
           named = o .1 ∙ ap (padded LEVELS) h;
+          places = ap length (o .1) ∙ padded-length LEVELS (stridesBy held fixed k trie);
           stands = for-trie (chosenBy held fixed k trie) rows plan
               (tree-stands (chosenBy held fixed k trie) rows plan tree (m .laid .stand) (small-tree W (at vs) (at ls) (at hs) (length vs) (g .marks)) rows-fit
               (fixed-strides k trie (chosenBy held fixed k trie) rows plan tree (g .levels .0) (ap depth tree-trie) (read 0 (g .levels .0))
@@ -371,6 +375,7 @@ module _ (W k : ℕ) (vs ls hs scratch : List ℕ) (g : PlanIn W k vs ls hs scra
           least = e ∙ ap (ask rows' root) e7 ∙ costed-cost k rows' root trie c (k - 1) k1 ∙ least-variable k trie (g .levels .0)
               ∙ least-capped COST_CAP variable k trie ∙ omega arith;
           named = root-stride k trie stride (g .levels .0) own plan-depth ∙ ap (padded LEVELS) (strides-capped COST_CAP variable k trie (g .levels .0) b);
+          places = refl;
           stands = for-trie (chosenBy held variable k trie) rows' plan
               (tree-stands (variableStride held) rows' plan tree (o .stand) (small-tree W (at vs) (at ls) (at hs) (length vs) (g .marks)) fits
               (strides-own k rows' plan tree (getD-take {A = ℕ} k (replicate LEVELS 0) 0 0 (g .levels .0)) long (o .priced)));

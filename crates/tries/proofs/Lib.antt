@@ -25,3 +25,4 @@ pub mod Pricing
 pub mod Settling
 pub mod Leveling
 pub mod Choosing
+pub mod Builds

@@ -18,3 +18,4 @@ pub mod Making
 pub mod Levels
 pub mod Kinds
 pub mod Chooser
+pub mod Build

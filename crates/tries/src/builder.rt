@@ -179,7 +179,7 @@ fn level(
 }
 
 // Writes all rows of the trie at link `root`, level by level, and returns their number E. `width` is the number of address
-// bits, `levels` the level limit; `plan` has at place r - 1 the stride with r levels left of a fixed choice, else 0.
+// bits, `levels` the level limit; `plan` has a fixed choice's strides from the front, else 0.
 pub(crate) fn lay(
     rows: &[u64],
     plan: &[u8],

@@ -10,7 +10,7 @@ ghost use Rattle.tries.specs.Limits.{WIDTH, ENTRIES};
 ghost use Rattle.tries.specs.Making.{Prefixes};
 use table::Shared;
 
-fn smaller(a: usize, b: usize) -> usize
+pub(crate) fn smaller(a: usize, b: usize) -> usize
     ensures { λ r. ⌜ r ≡ min a b ⌝ }
 {
     if a < b { a } else { b }

@@ -1,6 +1,7 @@
 // The tries: the stride choosers, the builder of element rows, the record that a build hands back, and the lookup.
 mod address;
 mod builder;
+mod building;
 mod chooser;
 mod costs;
 mod counting;
@@ -11,6 +12,8 @@ mod rows;
 mod scratch;
 mod walk;
 
+pub use building::Built;
+pub use building::build;
 pub use chooser::Chosen;
 pub use chooser::choose_fixed;
 pub use chooser::choose_variable;

@@ -15,6 +15,9 @@ abbrev μ-loop : tie.MeasureT-loop
 number-requires : tie.Need-number-requires Inv-loop μ-loop
 number-requires c κs = search needs
 
+no-table-requires : tie.Need-no-table-requires Inv-loop μ-loop
+no-table-requires c κs = search needs
+
 loop-holds : tie.Need-loop-holds Inv-loop μ-loop
 loop-holds c = search needs
 
@@ -55,6 +58,7 @@ run-spec =
     Inv-loop
     μ-loop
     number-requires
+    no-table-requires
     loop-holds
     line-requires
     slice-aggregate-say

@@ -1,0 +1,514 @@
+// Runs build and lookup on the cases of standard input, and prints every answer.
+// A line of the input is a case. `table` gives the table of the builds below it. `fixed` and `variable` give the
+// level limit and the lengths of scratch, which is filled with sevens, and of the element lists, filled with
+// nines; the answer is the outcome, the record, scratch's zeros and sevens, and how many nines each element
+// list has past row E. `record` gives a record and rows of its own. `print` prints rows 0 to E-1 of the last
+// record, `look` asks it one address, `sweep` all addresses below a number.
+use cases::Held;
+use libc::STDIN_FILENO;
+use libc::STDOUT_FILENO;
+use table::Outcome;
+use tries::Answer;
+use tries::Built;
+use tries::Kind;
+use tries::Record;
+
+// The lengths of the three element lists, and the next place of the text.
+struct Lists {
+    hops: usize,
+    links: usize,
+    strides: usize,
+    at: usize,
+}
+
+// The table, the record and the element lists of the lines below, and the next place of the text.
+struct State {
+    held: Held,
+    record: Record,
+    lists: Lists,
+    at: usize,
+}
+
+fn say(word: &[u8]) {
+    io::write_all(STDOUT_FILENO, word);
+}
+
+fn say_number(n: u64) {
+    io::print_decimal(STDOUT_FILENO, n);
+}
+
+fn put(n: u64) {
+    say(b" ");
+    say_number(n);
+}
+
+fn say_refused(number: u32, detail: u64) {
+    say(b"refused");
+    put(number as u64);
+    put(detail);
+}
+
+fn say_outcome(outcome: Outcome) {
+    match outcome {
+        Outcome::Accepted => say(b"accepted"),
+        Outcome::Refused { number, detail } => say_refused(number, detail),
+    }
+}
+
+fn put_byte(byte: u8) {
+    put(byte as u64);
+}
+
+fn say_strides(strides: &[u8]) {
+    say(b" strides");
+    let mut i = 0;
+    while i < strides.len() {
+        put_byte(strides[i]);
+        i += 1;
+    }
+}
+
+// What scratch holds: the zeros that an accepted call leaves, and the sevens it was lent with.
+fn say_scratch(scratch: &[u64]) {
+    say(b" zeros");
+    put(cases::count64(scratch, 0, 0) as u64);
+    say(b" sevens");
+    put(cases::count64(scratch, 0, 7) as u64);
+}
+
+fn say_record(record: Record) {
+    let strides = record.strides;
+    say(b" width");
+    put(record.width as u64);
+    say(b" levels");
+    put(record.levels as u64);
+    say(b" elements");
+    put(record.elements as u64);
+    say(b" floor");
+    put(record.floor as u64);
+    say_strides(&strides);
+}
+
+// The marks of the rows from a place on, as the build should keep them.
+fn say_kept(from: usize, row_hops: &[u16], row_links: &[u32], row_strides: &[u8]) {
+    say(b" nines");
+    put(cases::count16(row_hops, from, 9) as u64);
+    put(cases::count32(row_links, from, 9) as u64);
+    put(cases::count8(row_strides, from, 9) as u64);
+}
+
+fn say_built(
+    built: Built,
+    scratch: &[u64],
+    row_hops: &[u16],
+    row_links: &[u32],
+    row_strides: &[u8],
+) -> Record {
+    let outcome = built.outcome;
+    let record = built.record;
+    say_outcome(outcome);
+    say_record(record);
+    say_scratch(scratch);
+    say_kept(record.elements as usize, row_hops, row_links, row_strides);
+    record
+}
+
+fn mark_lists(
+    scratch: &mut [u64],
+    row_hops: &mut [u16],
+    row_links: &mut [u32],
+    row_strides: &mut [u8],
+) {
+    cases::fill64(scratch, 7);
+    cases::fill16(row_hops, 9);
+    cases::fill32(row_links, 9);
+    cases::fill8(row_strides, 9);
+}
+
+fn built(
+    kind: Kind,
+    width: u32,
+    levels: u32,
+    values: &[u32],
+    lengths: &[u8],
+    hops: &[u16],
+    scratch: &mut [u64],
+    row_hops: &mut [u16],
+    row_links: &mut [u32],
+    row_strides: &mut [u8],
+) -> Record {
+    mark_lists(scratch, row_hops, row_links, row_strides);
+    let built = tries::build(
+        kind,
+        width,
+        levels,
+        values,
+        lengths,
+        hops,
+        scratch,
+        row_hops,
+        row_links,
+        row_strides,
+    );
+    say_built(built, scratch, row_hops, row_links, row_strides)
+}
+
+fn build_held(
+    kind: Kind,
+    levels: u32,
+    held: Held,
+    values: &[u32],
+    lengths: &[u8],
+    hops: &[u16],
+    scratch: &mut [u64],
+    row_hops: &mut [u16],
+    row_links: &mut [u32],
+    row_strides: &mut [u8],
+) -> Record {
+    let v = cases::front32(values, held.values);
+    let l = cases::front8(lengths, held.lengths);
+    let h = cases::front16(hops, held.hops);
+    built(
+        kind,
+        held.width,
+        levels,
+        v,
+        l,
+        h,
+        scratch,
+        row_hops,
+        row_links,
+        row_strides,
+    )
+}
+
+// The word of the line says which kind.
+fn kind_of(letter: u8) -> Kind {
+    if letter == b'f' {
+        return Kind::Fixed;
+    }
+    Kind::Variable
+}
+
+fn lists_at(text: &[u8], at: usize) -> Lists {
+    let hops = cases::number(text, at);
+    let links = cases::number(text, hops.next);
+    let strides = cases::number(text, links.next);
+    Lists {
+        hops: hops.value as usize,
+        links: links.value as usize,
+        strides: strides.value as usize,
+        at: strides.next,
+    }
+}
+
+// Lends as many places of scratch and of the element lists as the line says.
+fn build_line(
+    text: &[u8],
+    at: usize,
+    held: Held,
+    values: &[u32],
+    lengths: &[u8],
+    hops: &[u16],
+    scratch: &mut [u64],
+    row_hops: &mut [u16],
+    row_links: &mut [u32],
+    row_strides: &mut [u8],
+) -> State {
+    let kind = kind_of(cases::byte(text, at));
+    let levels = cases::number(text, at);
+    let places = cases::number(text, levels.next);
+    let lists = lists_at(text, places.next);
+    let n = cases::least(places.value as usize, scratch.len());
+    let a = cases::least(lists.hops, row_hops.len());
+    let b = cases::least(lists.links, row_links.len());
+    let c = cases::least(lists.strides, row_strides.len());
+    let record = build_held(
+        kind,
+        cases::held32(levels.value),
+        held,
+        values,
+        lengths,
+        hops,
+        &mut scratch[0..n],
+        &mut row_hops[0..a],
+        &mut row_links[0..b],
+        &mut row_strides[0..c],
+    );
+    State {
+        held,
+        record,
+        lists,
+        at: lists.at,
+    }
+}
+
+// A record's numbers: of its strides all but the first are the last number.
+fn record_at(text: &[u8], at: usize, held: Held) -> State {
+    let width = cases::number(text, at);
+    let levels = cases::number(text, width.next);
+    let elements = cases::number(text, levels.next);
+    let floor = cases::number(text, elements.next);
+    let stride = cases::number(text, floor.next);
+    let others = cases::number(text, stride.next);
+    let mut strides = [cases::held8(others.value); tries::LEVELS as usize];
+    strides[0] = cases::held8(stride.value);
+    let record = Record {
+        width: cases::held32(width.value),
+        levels: cases::held32(levels.value),
+        elements: cases::held32(elements.value),
+        floor: cases::held16(floor.value),
+        strides,
+    };
+    let lists = lists_at(text, others.next);
+    State {
+        held,
+        record,
+        lists,
+        at: lists.at,
+    }
+}
+
+fn say_answer(answer: Answer) {
+    match answer {
+        Answer::Match { hop, reads } => {
+            say(b"match");
+            put(hop as u64);
+            say(b" reads");
+            put(reads as u64);
+        }
+        Answer::NoRoute { reads } => {
+            say(b"none reads");
+            put(reads as u64);
+        }
+        Answer::Refused { number } => {
+            say(b"refused");
+            put(number as u64);
+        }
+    }
+}
+
+// The same, short: hop/reads, hop 0 for no route, or r and the number of the refusal.
+fn say_swept(answer: Answer) {
+    match answer {
+        Answer::Match { hop, reads } => {
+            put(hop as u64);
+            say(b"/");
+            say_number(reads as u64);
+        }
+        Answer::NoRoute { reads } => {
+            say(b" 0/");
+            say_number(reads as u64);
+        }
+        Answer::Refused { number } => {
+            say(b" r");
+            say_number(number as u64);
+        }
+    }
+}
+
+fn sweep(below: u32, record: Record, row_hops: &[u16], row_links: &[u32], row_strides: &[u8]) {
+    say(b"sweep");
+    let mut address: u32 = 0;
+    while address < below {
+        say_swept(tries::lookup(record, row_hops, row_links, row_strides, address));
+        address += 1;
+    }
+}
+
+fn say_row(hop: u16, link: u32, stride: u8) {
+    put(hop as u64);
+    say(b"/");
+    say_number(link as u64);
+    say(b"/");
+    say_number(stride as u64);
+}
+
+fn print(elements: usize, row_hops: &[u16], row_links: &[u32], row_strides: &[u8]) {
+    say(b"rows");
+    let shortest = cases::least(
+        row_hops.len(),
+        cases::least(row_links.len(), row_strides.len()),
+    );
+    let n = cases::least(elements, shortest);
+    let mut i = 0;
+    while i < n {
+        say_row(row_hops[i], row_links[i], row_strides[i]);
+        i += 1;
+    }
+}
+
+// A question about the last record and its lists: `print`, `look` or `sweep`.
+fn ask(
+    text: &[u8],
+    at: usize,
+    state: State,
+    row_hops: &[u16],
+    row_links: &[u32],
+    row_strides: &[u8],
+) -> usize {
+    let record = state.record;
+    let lists = state.lists;
+    let letter = cases::byte(text, at);
+    let h = cases::front16(row_hops, lists.hops);
+    let l = cases::front32(row_links, lists.links);
+    let s = cases::front8(row_strides, lists.strides);
+    if letter == b'p' {
+        print(record.elements as usize, h, l, s);
+        return cases::seek(text, at, b'\n', b'\n');
+    }
+    let number = cases::number(text, at);
+    if letter == b's' {
+        sweep(cases::held32(number.value), record, h, l, s);
+        return number.next;
+    }
+    say_answer(tries::lookup(record, h, l, s, cases::held32(number.value)));
+    number.next
+}
+
+// A record and rows of its own.
+fn record_line(
+    text: &[u8],
+    at: usize,
+    held: Held,
+    row_hops: &mut [u16],
+    row_links: &mut [u32],
+    row_strides: &mut [u8],
+) -> State {
+    let mut next = record_at(text, at, held);
+    let listed = cases::rows(text, next.at, row_links, row_strides, row_hops);
+    next.at = listed.next;
+    say(b"record");
+    next
+}
+
+// Another table for the builds below; the record and its rows stay.
+fn table_line(
+    text: &[u8],
+    at: usize,
+    state: State,
+    values: &mut [u32],
+    lengths: &mut [u8],
+    hops: &mut [u16],
+) -> State {
+    say(b"table");
+    let held = cases::table_line(text, at, values, lengths, hops);
+    let mut next = state;
+    next.held = held;
+    next.at = held.at;
+    next
+}
+
+// One case: its first letter says which.
+fn line(
+    text: &[u8],
+    state: State,
+    values: &mut [u32],
+    lengths: &mut [u8],
+    hops: &mut [u16],
+    scratch: &mut [u64],
+    row_hops: &mut [u16],
+    row_links: &mut [u32],
+    row_strides: &mut [u8],
+) -> State {
+    let held = state.held;
+    let at = cases::seek(text, state.at, b'a', b'z');
+    let letter = cases::byte(text, at);
+    if letter == b'r' {
+        return record_line(text, at, held, row_hops, row_links, row_strides);
+    }
+    if letter == b'f' || letter == b'v' {
+        return build_line(
+            text,
+            at,
+            held,
+            values,
+            lengths,
+            hops,
+            scratch,
+            row_hops,
+            row_links,
+            row_strides,
+        );
+    }
+    if letter == b't' {
+        return table_line(text, at, state, values, lengths, hops);
+    }
+    let mut next = state;
+    next.at = ask(text, at, state, row_hops, row_links, row_strides);
+    next
+}
+
+// Before the first case: no table, a record of zeros, no rows.
+fn start(at: usize) -> State {
+    let held = cases::no_table(at);
+    State {
+        held,
+        record: Record {
+            width: 0,
+            levels: 0,
+            elements: 0,
+            floor: 0,
+            strides: [0; tries::LEVELS as usize],
+        },
+        lists: Lists {
+            hops: 0,
+            links: 0,
+            strides: 0,
+            at,
+        },
+        at,
+    }
+}
+
+fn run(
+    text: &[u8],
+    values: &mut [u32],
+    lengths: &mut [u8],
+    hops: &mut [u16],
+    scratch: &mut [u64],
+    row_hops: &mut [u16],
+    row_links: &mut [u32],
+    row_strides: &mut [u8],
+) {
+    let count = cases::number(text, 0);
+    let mut state = start(count.next);
+    let mut left = count.value;
+    while left > 0 {
+        state = line(
+            text,
+            state,
+            values,
+            lengths,
+            hops,
+            scratch,
+            row_hops,
+            row_links,
+            row_strides,
+        );
+        say(b"\n");
+        left -= 1;
+    }
+}
+
+fn main() {
+    let mut page = cases::page();
+    let n = io::read_full(STDIN_FILENO, &mut page);
+    let mut values = cases::values();
+    let mut lengths = cases::lengths();
+    let mut hops = cases::hops();
+    let mut scratch = cases::scratch();
+    let mut row_hops = cases::row_hops();
+    let mut row_links = cases::row_links();
+    let mut row_strides = cases::row_strides();
+    run(
+        &page[..n],
+        &mut values,
+        &mut lengths,
+        &mut hops,
+        &mut scratch,
+        &mut row_hops,
+        &mut row_links,
+        &mut row_strides,
+    );
+}

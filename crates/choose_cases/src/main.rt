@@ -1,0 +1,166 @@
+// Runs the two stride choosers on the cases of standard input, and prints every answer.
+// A line of the input is a case. `table` gives the table of the lines below it; `fixed` and `variable` give
+// the level limit and the length of the scratch list, which is filled with sevens. The answer is the outcome,
+// the cost, the strides, and how many zeros and how many sevens scratch then holds.
+use cases::Held;
+use libc::STDIN_FILENO;
+use libc::STDOUT_FILENO;
+use table::Outcome;
+use tries::Chosen;
+
+fn say(word: &[u8]) {
+    io::write_all(STDOUT_FILENO, word);
+}
+
+fn put(n: u64) {
+    say(b" ");
+    io::print_decimal(STDOUT_FILENO, n);
+}
+
+fn say_refused(number: u32, detail: u64) {
+    say(b"refused");
+    put(number as u64);
+    put(detail);
+}
+
+fn say_outcome(outcome: Outcome) {
+    match outcome {
+        Outcome::Accepted => say(b"accepted"),
+        Outcome::Refused { number, detail } => say_refused(number, detail),
+    }
+}
+
+fn put_byte(byte: u8) {
+    put(byte as u64);
+}
+
+fn say_strides(strides: &[u8]) {
+    say(b" strides");
+    let mut i = 0;
+    while i < strides.len() {
+        put_byte(strides[i]);
+        i += 1;
+    }
+}
+
+// What scratch holds: the zeros that an accepted call leaves, and the sevens it was lent with.
+fn say_scratch(scratch: &[u64]) {
+    say(b" zeros");
+    put(cases::count64(scratch, 0, 0) as u64);
+    say(b" sevens");
+    put(cases::count64(scratch, 0, 7) as u64);
+}
+
+fn say_chosen(chosen: Chosen) {
+    let outcome = chosen.outcome;
+    let strides = chosen.strides;
+    say_outcome(outcome);
+    say(b" cost");
+    put(chosen.cost);
+    say_strides(&strides);
+}
+
+// The word of the line says which chooser.
+fn chosen(
+    letter: u8,
+    width: u32,
+    levels: u32,
+    values: &[u32],
+    lengths: &[u8],
+    hops: &[u16],
+    scratch: &mut [u64],
+) -> Chosen {
+    if letter == b'f' {
+        return tries::choose_fixed(width, levels, values, lengths, hops, scratch);
+    }
+    tries::choose_variable(width, levels, values, lengths, hops, scratch)
+}
+
+fn answer(
+    letter: u8,
+    levels: u32,
+    held: Held,
+    values: &[u32],
+    lengths: &[u8],
+    hops: &[u16],
+    scratch: &mut [u64],
+) {
+    let v = cases::front32(values, held.values);
+    let l = cases::front8(lengths, held.lengths);
+    let h = cases::front16(hops, held.hops);
+    cases::fill64(scratch, 7);
+    say_chosen(chosen(letter, held.width, levels, v, l, h, scratch));
+    say_scratch(scratch);
+}
+
+// Lends as many places of scratch as the line says. Answers the next place of the text.
+fn choose_line(
+    text: &[u8],
+    at: usize,
+    held: Held,
+    values: &[u32],
+    lengths: &[u8],
+    hops: &[u16],
+    scratch: &mut [u64],
+) -> usize {
+    let letter = cases::byte(text, at);
+    let levels = cases::number(text, at);
+    let places = cases::number(text, levels.next);
+    let n = cases::least(places.value as usize, scratch.len());
+    answer(
+        letter,
+        cases::held32(levels.value),
+        held,
+        values,
+        lengths,
+        hops,
+        &mut scratch[0..n],
+    );
+    places.next
+}
+
+// One case: its first letter says which.
+fn line(
+    text: &[u8],
+    held: Held,
+    values: &mut [u32],
+    lengths: &mut [u8],
+    hops: &mut [u16],
+    scratch: &mut [u64],
+) -> Held {
+    let at = cases::seek(text, held.at, b'a', b'z');
+    if cases::byte(text, at) == b't' {
+        say(b"table");
+        return cases::table_line(text, at, values, lengths, hops);
+    }
+    let mut next = held;
+    next.at = choose_line(text, at, held, values, lengths, hops, scratch);
+    next
+}
+
+fn run(text: &[u8], values: &mut [u32], lengths: &mut [u8], hops: &mut [u16], scratch: &mut [u64]) {
+    let count = cases::number(text, 0);
+    let mut held = cases::no_table(count.next);
+    let mut left = count.value;
+    while left > 0 {
+        held = line(text, held, values, lengths, hops, scratch);
+        say(b"\n");
+        left -= 1;
+    }
+}
+
+fn main() {
+    let mut page = cases::page();
+    let n = io::read_full(STDIN_FILENO, &mut page);
+    let mut values = cases::values();
+    let mut lengths = cases::lengths();
+    let mut hops = cases::hops();
+    let mut scratch = cases::scratch();
+    run(
+        &page[..n],
+        &mut values,
+        &mut lengths,
+        &mut hops,
+        &mut scratch,
+    );
+}

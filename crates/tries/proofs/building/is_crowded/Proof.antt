@@ -1,0 +1,26 @@
+use Prim.Native.Nat.{min}
+use native.Mathlib.Omega.{arith}
+use Rattle.tries.specs.Limits.{ELEMENTS}
+use Rattle.tries.proofs.Builds.{crowded, roomy}
+use borrow.Author.Needs.{needs}
+use Rattle.tries.proofs.building.is_crowded.Statement.{statement}
+use Rattle.tries.proofs.building.is_crowded.Tie as tie
+
+smaller-requires : tie.Need-smaller-requires
+smaller-requires c κs = search needs
+
+smaller-requires-2 : tie.Need-smaller-requires-2
+smaller-requires-2 c κs = search needs
+
+returns : tie.Need-returns
+returns c = crowded (min (c .before .before .before .args .hops) (min (c .before .before .before .args .links) (c .before .before .before .args .strides))) (c .before .before .before .args .e) ELEMENTS (omega arith)
+
+cast-result : tie.Need-cast-result
+cast-result c = search needs
+
+returns-2 : tie.Need-returns-2
+returns-2 c = roomy (min (c .before .before .before .args .hops) (min (c .before .before .before .args .links) (c .before .before .before .args .strides))) (c .before .before .before .args .e) ELEMENTS (omega arith)
+
+pub is-crowded-spec : {M : Type 1} → statement M
+is-crowded-spec =
+    tie.close (tie.spec smaller-requires smaller-requires-2 returns cast-result returns-2)

@@ -1,0 +1,125 @@
+// The build (01, "The element rows" and "Refusals"): a table becomes a record and element rows.
+ghost use mathlib.Core.Path.{_≡_};
+ghost use mathlib.Core.Bool.{_||_};
+ghost use mathlib.Core.List.{List};
+ghost use Prim.Native.Nat.{ℕ, min};
+ghost use lib.Dec.{ltb};
+ghost use Rattle.table.specs.Table.{Table};
+ghost use Rattle.tries.specs.Limits.{ELEMENTS};
+ghost use Rattle.tries.specs.Kinds.{kindOf};
+ghost use Rattle.tries.specs.Rows.{lists};
+ghost use Rattle.tries.specs.Built.{tableFloor};
+ghost use Rattle.tries.specs.Build.{NoRecord, BuildIs, Builds};
+use crate::builder::lay;
+use crate::chooser::planned;
+use crate::chooser::tested;
+use crate::counting::smaller;
+use crate::limits::ELEMENTS;
+use crate::limits::LEVELS;
+use crate::record::Kind;
+use crate::record::Record;
+use crate::scratch::zero;
+use table::Outcome;
+
+pub struct Built {
+    pub outcome: Outcome,
+    pub record: Record,
+}
+
+// A refused build's record.
+fn no_record() -> Record
+    ensures { λ r. ⌜ NoRecord r ⌝ }
+{
+    Record {
+        width: 0,
+        levels: 0,
+        elements: 0,
+        floor: 0,
+        strides: [0u8; LEVELS as usize],
+    }
+}
+
+// Whether e rows are more than one of the lists has, or more than there may be.
+fn is_crowded(e: u64, hops: usize, links: usize, strides: usize) -> bool
+    ensures { λ r. ⌜ r ≡ (ltb (min hops (min links strides)) e || ltb ELEMENTS e) ⌝ }
+{
+    if (smaller(hops, smaller(links, strides)) as u64) < e {
+        return true;
+    }
+    (ELEMENTS as u64) < e
+}
+
+// The hop of the entry of length 0, which can only be a table's first; 0 where there is none.
+fn floor_hop(lens: &[u8], hops: &[u16]) -> u16
+    ensures { λ r. ⌜ ((W : ℕ) (vs : List ℕ) → Table W vs (now (lens .entry)) (now (hops .entry)) → r ≡ tableFloor W vs (now (lens .entry)) (now (hops .entry))) ⌝ }
+{
+    if lens.len() == 0 {
+        return 0;
+    }
+    if hops.len() == 0 {
+        return 0;
+    }
+    if lens[0] == 0 { hops[0] } else { 0 }
+}
+
+// Turns a table into a record and element rows, with the least number of rows of its kind, or refuses it by the first of
+// the tests 1 to 7. Refused, the record is all zeros and no element changes; 1 to 6 keep scratch too, else all of it is 0.
+pub fn build(
+    kind: Kind,
+    width: u32,
+    levels: u32,
+    value: &[u32],
+    length: &[u8],
+    hop: &[u16],
+    scratch: &mut [u64],
+    hops: &mut [u16],
+    links: &mut [u32],
+    strides: &mut [u8],
+) -> Built
+    ensures exact { λ r. ⌜ BuildIs (kindOf kind) width levels (now (value .entry)) (now (length .entry)) (now (hop .entry)) (now (scratch .entry)) (lists (now (hops .entry)) (now (links .entry)) (now (strides .entry))) (r .outcome) (r .record) (now (scratch .exit)) (lists (now (hops .exit)) (now (links .exit)) (now (strides .exit))) ⌝ }
+    ensures meaning { λ r. ⌜ Builds (kindOf kind) width levels (now (value .entry)) (now (length .entry)) (now (hop .entry)) (now (scratch .entry)) (lists (now (hops .entry)) (now (links .entry)) (now (strides .entry))) (r .outcome) (r .record) (now (scratch .exit)) (lists (now (hops .exit)) (now (links .exit)) (now (strides .exit))) ⌝ }
+{
+    let outcome = tested(width, levels, value, length, hop, scratch.len());
+    if let Outcome::Refused { number, detail } = outcome {
+        return Built {
+            outcome: Outcome::Refused { number, detail },
+            record: no_record(),
+        };
+    }
+    let p = planned(kind, width, levels, value, length, hop, scratch);
+    let e = p.cost;
+    if is_crowded(e, hops.len(), links.len(), strides.len()) {
+        zero(scratch);
+        return Built {
+            outcome: Outcome::Refused {
+                number: 7,
+                detail: e,
+            },
+            record: no_record(),
+        };
+    }
+    let k = levels as usize;
+    let plan = p.plan;
+    lay(
+        scratch,
+        &plan[..k],
+        p.root,
+        width as usize,
+        k,
+        hops,
+        links,
+        strides,
+    );
+    zero(scratch);
+    let named = p.strides;
+    Built {
+        outcome: Outcome::Accepted,
+        record: Record {
+            width: width,
+            levels: levels,
+            elements: e as u32,
+            floor: floor_hop(length, hop),
+            strides: named,
+        },
+    }
+}
