@@ -396,7 +396,7 @@ chosen-is kind W k vs ls hs scratch e p z = record { tests = sym e; costs = p .l
 
 -- ---- and what it means
 
-accepted-or : (o : Outcome) → (o ≡ Accepted) ⊎ (o ≡ Accepted → ⊥)
+pub accepted-or : (o : Outcome) → (o ≡ Accepted) ⊎ (o ≡ Accepted → ⊥)
 accepted-or Accepted = inl refl
 accepted-or (Refused n d) = inr refused-not-accepted
 

@@ -26,3 +26,6 @@ pub mod Settling
 pub mod Leveling
 pub mod Choosing
 pub mod Builds
+pub mod Agreeing
+pub mod OneBuild
+pub mod BuildDemands
