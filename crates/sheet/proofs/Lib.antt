@@ -1,0 +1,16 @@
+-- Laws by notion: reading (keys, digits, a line, what every line keeps, lists, the whole text; its first bytes; a good text
+-- is the text of its sheet), writing, the values, the answers, a sheet solved, and the run.
+pub mod Keys
+pub mod Digits
+pub mod Reading
+pub mod Steps
+pub mod Listing
+pub mod Whole
+pub mod FirstBytes
+pub mod Writing
+pub mod Spelled
+pub mod Placing
+pub mod Queries
+pub mod Solutions
+pub mod Runs
+pub mod Room

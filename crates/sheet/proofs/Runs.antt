@@ -1,0 +1,100 @@
+-- Laws of the whole run, in the code's own terms: t is what reading the text handed back, with the lists that it filled.
+use mathlib.Core.Path.{_≡_, sym, subst, _∙_}
+use mathlib.Core.Bool.{true, false}
+use mathlib.Core.List.{List}
+use Prim.Native.Nat.{ℕ, _+_, _-_, _≤_, _<_}
+use native.Mathlib.Omega.{arith}
+use native.Mathlib.Nat.{sub-zero, zero-add}
+use lib.ListN.{length, take, drop}
+use lib.Seq.{sets-eq, take-append-seam, length-take-le, getD-take}
+use lib.Dec.{leb}
+use borrow.Author.Tests.{le-leb, lt-leb}
+use Rattle.io.specs.Counts.{Counts}
+use Rattle.table.specs.Table.{at}
+use Rattle.sheet.specs.declared.parsing.Parsed.{Parsed}
+use Rattle.sheet.specs.declared.running.Report.{Report}
+use Rattle.sheet.specs.Limits.{COUNT}
+use Rattle.sheet.specs.Lent.{LentEntries, LentQueries}
+use Rattle.sheet.specs.Report.{refusalLines, written, Wrote}
+use Rattle.sheet.specs.Sheet.{textOf, parsedText, Small}
+use Rattle.sheet.specs.Solved.{solved}
+use Rattle.sheet.specs.Tablet.{textReport, reportOf, answerFor, leftFor, Ran}
+use Rattle.sheet.proofs.Writing.{wrote-length}
+
+module _ (s vs ls hs xs ds : List ℕ) {t : Parsed} (read : parsedText t vs ls hs xs ds ≡ textOf s) where
+  pub report-bad : {line : ℕ} → t ≡ Parsed.Bad line → refusalLines 11 line ≡ reportOf s
+  unfolding reportOf textReport parsedText
+  report-bad is = rw (sym read, is)
+
+  pub report-good : {w k l n m : ℕ} → t ≡ Parsed.Good w k l n m
+      → solved k w l (take (n - 0) vs) (take (n - 0) ls) (take (n - 0) hs) (take (m - 0) xs) (take (m - 0) ds) ≡ reportOf s
+  unfolding reportOf textReport parsedText
+  report-good {n = n} {m = m} is = rw (sub-zero n, sub-zero m, sym read, is)
+
+-- ---- the lists' parts that are lent on
+
+-- the first n of a list that has them
+part-length : (n : ℕ) (xs : List ℕ) → n ≤ length xs → length (take (n - 0) xs) ≡ n
+part-length n xs h = rw sub-zero (length-take-le n xs h)
+
+part-at : (n : ℕ) (xs : List ℕ) (i : ℕ) → i < n → at (take (n - 0) xs) i ≡ at xs i
+part-at n xs i h = rw sub-zero (getD-take n xs i 0 h)
+
+module _ (vs ls xs ds : List ℕ) {t : Parsed} {w k l n m : ℕ} (is : t ≡ Parsed.Good w k l n m) (small : Small t vs ls xs ds) where
+  pub small-of : Small (Parsed.Good w k l n m) vs ls xs ds
+  small-of = subst (λ (x : Parsed). Small x vs ls xs ds) is small
+
+  pub entries-lent : COUNT ≤ length vs → COUNT ≤ length ls → LentEntries (take (n - 0) vs) (take (n - 0) ls)
+  entries-lent hv hl =
+      let few = small-of .0 in
+      let ev = part-length n vs (omega arith) in
+      record {
+        lengths = part-length n ls (omega arith) ∙ sym ev;
+        few = omega arith;
+        spelled = λ i h. rw (part-at n vs i (omega arith), part-at n ls i (omega arith)) (small-of .2 i (omega arith));
+      }
+
+  pub queries-lent : COUNT ≤ length xs → COUNT ≤ length ds → LentQueries (take (m - 0) xs) (take (m - 0) ds)
+  queries-lent hx hd =
+      let few = small-of .1 in
+      let ed = part-length m ds (omega arith) in
+      record {
+        counts = part-length m xs (omega arith) ∙ sym ed;
+        few = omega arith;
+        short = λ i h. rw (part-at m ds i (omega arith)) (small-of .3 i (omega arith) .1);
+        spelled = λ i h. rw (part-at m xs i (omega arith), part-at m ds i (omega arith)) (small-of .3 i (omega arith) .0);
+      }
+
+-- ---- the report and the room that was lent
+
+module _ (s : List ℕ) {page page′ : List ℕ} {n : ℕ} (put : Wrote page 0 (reportOf s) page′ n) where
+  count-is : n ≡ length (reportOf s)
+  count-is = omega (arith, put .next)
+
+  -- the report stands at the start of the page
+  pub page-start : take (n - 0) page′ ≡ reportOf s
+  unfolding written
+  page-start =
+      rw (sub-zero, put .text, count-is, sets-eq (reportOf s) page 0 (omega (arith, put .next, put .room)))
+      (take-append-seam (reportOf s) (drop (0 + length (reportOf s)) page))
+
+  pub ran-short : (out : List ℕ) → length out < n → Ran s out out (Report.Room n)
+  unfolding answerFor leftFor
+  ran-short out h =
+      let e : leb (length (reportOf s)) (length out) ≡ false = lt-leb (length (reportOf s)) (length out) (omega (arith, count-is)) in
+      record { answer = rw (e, count-is); left = rw e }
+
+  pub ran-whole : (out : List ℕ) {out′ : List ℕ} {r : ℕ} → n ≤ length out → Wrote out 0 (take (n - 0) page′) out′ r → Ran s out out′ (Report.Written n)
+  unfolding answerFor leftFor written
+  ran-whole out h w =
+      let e : leb (length (reportOf s)) (length out) ≡ true = le-leb (length (reportOf s)) (length out) (omega (arith, count-is)) in
+      record {
+        answer = rw (e, count-is);
+        left = rw (e, w .text, page-start, sets-eq (reportOf s) out 0 (omega (arith, count-is)), zero-add);
+      }
+
+-- as many bytes as were written
+pub wrote-counts : {out bytes out′ : List ℕ} {r n : ℕ} → Wrote out 0 bytes out′ r → n ≤ length out → Counts n out′
+wrote-counts {out′ = out′} {n = n} w h =
+    let k : n ≤ length out′ = omega (arith, wrote-length w) in
+    (k, sym (length-take-le n out′ k))

@@ -1,0 +1,82 @@
+-- Laws of a solved sheet, in the code's own terms: what a build promises, and what is then looked up, is what the sheet's
+-- report says.
+use mathlib.Core.Path.{_≡_, refl, sym, ap, _∙_}
+use mathlib.Core.List.{List}
+use Prim.Native.Nat.{ℕ, zero, suc, _*_}
+use lib.ListN.{length}
+use Rattle.table.specs.declared.entry.Outcome.{Outcome}
+use Rattle.table.specs.declared.entry.Outcome.the-variants.{Accepted, Refused}
+use Rattle.strides.specs.Cheapest.{Kind, fixed, variable}
+use Rattle.tries.specs.Limits.{WIDTH}
+use Rattle.tries.specs.Rows.{Lists, shortest}
+use Rattle.tries.specs.Blocks.{rowCount, strideOf}
+use Rattle.tries.specs.Build.{BuildIs}
+use Rattle.tries.specs.Built.{tableTrie, Laid}
+use Rattle.tries.specs.Scratch.{ROW}
+use Rattle.tries.specs.declared.record.Record.{Record}
+use Rattle.tries.proofs.Demands.{hop-longest, reads-blocks}
+use Rattle.sheet.specs.Limits.{LENT-ROWS, LENT-ELEMENTS}
+use Rattle.sheet.specs.Lent.{LentQueries}
+use Rattle.sheet.specs.Report.{refusalLines}
+use Rattle.sheet.specs.Answers.{answersReport, hopIn, readsIn, lookedUp}
+use Rattle.sheet.specs.Solved.{kindNamed, chosen, buildOutcome, hopOf, readsOf, tableReport, reportFor, solved}
+use Rattle.sheet.specs.Values.{valuesOf}
+use Rattle.sheet.proofs.Queries.{report-same}
+
+module _ (kind : Kind) (W k : ℕ) (vs ls hs : List ℕ) {rec : Record} {rows : Lists} where
+  -- the element lists that a build left say what the table says
+  pub looked-up-laid : Laid WIDTH W vs ls hs (chosen kind W k vs ls hs) k rec rows → (xs ds : List ℕ) → LentQueries xs ds
+      → lookedUp rec rows xs ds ≡ tableReport kind W k vs ls hs xs ds
+  unfolding tableReport
+  looked-up-laid g xs ds lent =
+      let σ = chosen kind W k vs ls hs in
+      let t = tableTrie W vs ls hs in
+      named (g .width) (g .built .elements ∙ ap (λ (l : ℕ). rowCount σ l t) (g .levels)) (g .built .first ∙ ap (λ (l : ℕ). strideOf σ l t) (g .levels))
+      ∙ report-same (hopIn rec rows) (readsIn rec rows) (hopOf kind W k vs ls hs) (readsOf kind W k vs ls hs) W xs ds lent
+      (λ a h. (hop-longest g a h, reads-blocks g a h)) (rowCount σ k t) (strideOf σ k t)
+    where
+      named : {w v e f r q : ℕ} → w ≡ v → e ≡ f → r ≡ q
+          → answersReport (hopIn rec rows) (readsIn rec rows) xs ds w e r ≡ answersReport (hopIn rec rows) (readsIn rec rows) xs ds v f q
+      named a b c = rw (a, b, c)
+
+  module _ {scratch scratch′ : List ℕ} {lent : Lists} {out : Outcome} (words : length scratch ≡ LENT-ROWS * ROW) (room : shortest lent ≡ LENT-ELEMENTS)
+      (b : BuildIs kind W k vs ls hs scratch lent out rec scratch′ rows) where
+    outcome-is : out ≡ buildOutcome kind W k vs ls hs
+    unfolding buildOutcome
+    outcome-is = b .tests ∙ rw (words, room)
+
+    built-refused : {number detail : ℕ} → out ≡ Refused number detail → (bytes : List ℕ)
+        → refusalLines number detail ≡ reportFor (buildOutcome kind W k vs ls hs) bytes
+    unfolding reportFor
+    built-refused is bytes = rw (sym outcome-is, is)
+
+    built-accepted : out ≡ Accepted → (xs ds : List ℕ) → LentQueries xs ds
+        → lookedUp rec rows xs ds ≡ reportFor (buildOutcome kind W k vs ls hs) (tableReport kind W k vs ls hs xs ds)
+    unfolding reportFor
+    built-accepted is xs ds q = rw (sym outcome-is, is) (looked-up-laid (b .laid is) xs ds q)
+
+-- ---- the kind, as the text names it
+
+pub kind-fixed : (n : ℕ) → n ≡ 0 → fixed ≡ kindNamed n
+unfolding kindNamed
+kind-fixed n e = rw e
+
+pub kind-variable : (n : ℕ) → (n ≡ 0 → ⊥) → variable ≡ kindNamed n
+unfolding kindNamed
+kind-variable zero h = absurd (h refl)
+kind-variable (suc n) h = refl
+
+-- ---- a sheet: vs are the values that were placed, and what was lent is what the program lends
+
+module _ (n W k : ℕ) (bits ls hs : List ℕ) {kind : Kind} {vs scratch scratch′ : List ℕ} {lent rows : Lists} {out : Outcome} {rec : Record}
+    (named : kind ≡ kindNamed n) (placed : vs ≡ valuesOf W bits ls) (words : length scratch ≡ LENT-ROWS * ROW) (room : shortest lent ≡ LENT-ELEMENTS)
+    (b : BuildIs kind W k vs ls hs scratch lent out rec scratch′ rows) (xs ds : List ℕ) where
+  solved-is : reportFor (buildOutcome kind W k vs ls hs) (tableReport kind W k vs ls hs xs ds) ≡ solved n W k bits ls hs xs ds
+  unfolding solved
+  solved-is = rw (named, placed)
+
+  pub solved-refused : {number detail : ℕ} → out ≡ Refused number detail → refusalLines number detail ≡ solved n W k bits ls hs xs ds
+  solved-refused is = built-refused kind W k vs ls hs words room b is (tableReport kind W k vs ls hs xs ds) ∙ solved-is
+
+  pub solved-accepted : out ≡ Accepted → LentQueries xs ds → lookedUp rec rows xs ds ≡ solved n W k bits ls hs xs ds
+  solved-accepted is q = built-accepted kind W k vs ls hs words room b is xs ds q ∙ solved-is

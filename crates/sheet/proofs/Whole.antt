@@ -1,0 +1,162 @@
+-- Laws of the whole text: its single lines, and what the call that reads it hands back, in the code's own terms.
+use mathlib.Core.Path.{_≡_, refl, sym, ap, subst, _∙_}
+use mathlib.Core.List.{List}
+use mathlib.Core.Bool.{Bool, true, false, _&&_, cond}
+use Prim.Native.Nat.{ℕ, _*_, _≤_, _<_}
+use native.Mathlib.Omega.{arith}
+use lib.ListN.{length, getD, take}
+use lib.Seq.{getD-take}
+use lib.Dec.{eqb}
+use Rattle.sheet.specs.declared.lines.Spot.{Spot}
+use Rattle.sheet.specs.declared.lines.Item.{Item}
+use Rattle.sheet.specs.declared.parsing.Head.{Head}
+use Rattle.sheet.specs.declared.parsing.Parsed.{Parsed}
+use Rattle.sheet.specs.Limits.{COUNT, NUMBER-DIGITS, NUMBER, LONGEST}
+use Rattle.sheet.specs.Keys.{widthKey, levelsKey, entriesKey, queriesKey, addressKey}
+use Rattle.sheet.specs.Lines.{numberLine, kindLine}
+use Rattle.sheet.specs.Entries.{listed, afterEntries, afterQueries, addressFrom, entryBits, entryLength, queryAddress, queryPlaces, HoldsEntries, HoldsQueries}
+use Rattle.sheet.specs.Sheet.{good, bad, start, widthItem, kindItem, levelsItem, entriesItem, queriesItem, lastSpot, sheetOf, headOf, textOf, concluded, parsedText, Small}
+use Rattle.sheet.proofs.Steps.{Line, Step, step-then, step-widen, UpTo, number-is, bits-is, kind-is}
+use Rattle.sheet.proofs.Listing.{listed-at, entry-spells, entries-step, queries-step}
+
+-- ---- the single lines
+
+module _ (s : List ℕ) where
+  pub width-line : Line s start 12 (UpTo NUMBER) (widthItem s)
+  unfolding widthItem
+  width-line = number-is widthKey s start NUMBER-DIGITS NUMBER
+
+  pub kind-line : Line s (widthItem s .spot) 9 (UpTo 1) (kindItem s)
+  unfolding kindItem
+  kind-line = kind-is s (widthItem s .spot)
+
+  pub levels-line : Line s (kindItem s .spot) 13 (UpTo NUMBER) (levelsItem s)
+  unfolding levelsItem
+  levels-line = number-is levelsKey s (kindItem s .spot) NUMBER-DIGITS NUMBER
+
+  pub entries-line : Line s (levelsItem s .spot) 14 (UpTo COUNT) (entriesItem s)
+  unfolding entriesItem
+  entries-line = number-is entriesKey s (levelsItem s .spot) NUMBER-DIGITS COUNT
+
+  pub after-entries : Step s (entriesItem s .spot) (entriesItem s .value * 48) (entriesItem s .value * 2) (afterEntries s (entriesItem s .spot) (entriesItem s .value))
+  after-entries = entries-step s (entriesItem s .spot) (entriesItem s .value)
+
+  pub queries-line : Line s (afterEntries s (entriesItem s .spot) (entriesItem s .value)) 14 (UpTo COUNT) (queriesItem s)
+  unfolding queriesItem
+  queries-line = number-is queriesKey s (afterEntries s (entriesItem s .spot) (entriesItem s .value)) NUMBER-DIGITS COUNT
+
+  -- the steps from the start: to after the first four lines, to `queries=`, and to the end
+  pub to-entries : Step s start 48 4 (entriesItem s .spot)
+  to-entries = step-then (step-then (step-then (width-line .step) (kind-line .step)) (levels-line .step)) (entries-line .step)
+
+  pub to-queries : Step s start 3134 133 (queriesItem s .spot)
+  to-queries =
+      step-widen (step-then (step-then to-entries after-entries) (queries-line .step)) (omega (arith, entries-line .value)) (omega (arith, entries-line .value))
+
+  pub to-last : Step s start LONGEST 197 (lastSpot s)
+  unfolding lastSpot
+  to-last =
+      step-widen (step-then to-queries (queries-step s (queriesItem s .spot) (queriesItem s .value)))
+      (omega (arith, queries-line .value)) (omega (arith, queries-line .value))
+
+-- ---- the first four lines, as they were read
+
+module _ (s : List ℕ) {w k l n : Item} (w-read : w ≡ numberLine NUMBER-DIGITS NUMBER widthKey s start) (k-read : k ≡ kindLine s (w .spot))
+    (l-read : l ≡ numberLine NUMBER-DIGITS NUMBER levelsKey s (k .spot)) (n-read : n ≡ numberLine NUMBER-DIGITS COUNT entriesKey s (l .spot)) where
+  w-is : w ≡ widthItem s
+  unfolding widthItem
+  w-is = w-read
+
+  k-is : k ≡ kindItem s
+  unfolding kindItem
+  k-is = k-read ∙ ap (λ (x : Item). kindLine s (x .spot)) w-is
+
+  l-is : l ≡ levelsItem s
+  unfolding levelsItem
+  l-is = l-read ∙ ap (λ (x : Item). numberLine NUMBER-DIGITS NUMBER levelsKey s (x .spot)) k-is
+
+  n-is : n ≡ entriesItem s
+  unfolding entriesItem
+  n-is = n-read ∙ ap (λ (x : Item). numberLine NUMBER-DIGITS COUNT entriesKey s (x .spot)) l-is
+
+  pub head-read : _≡_ {A = Head} (record { width = w .value; kind = k .value; levels = l .value; entries = n .value; spot = n .spot }) (headOf s)
+  unfolding headOf
+  head-read = rw (w-is, k-is, l-is, n-is)
+
+module _ (s : List ℕ) {h : Head} (h-read : h ≡ headOf s) where
+  pub head-step : Step s start 48 4 (h .spot)
+  unfolding headOf
+  head-step = rw h-read (to-entries s)
+
+  pub head-few : h .entries ≤ COUNT
+  unfolding headOf
+  head-few = rw h-read (entries-line s .value)
+
+-- ---- the whole, as it was read
+
+module _ (s vs ls hs : List ℕ) {h : Head} {after : Spot} {q : Item} (h-read : h ≡ headOf s)
+    (es : HoldsEntries s (h .spot) (h .entries) vs ls hs after) (q-read : q ≡ numberLine NUMBER-DIGITS COUNT queriesKey s after) where
+  entries-held : HoldsEntries s (entriesItem s .spot) (entriesItem s .value) vs ls hs after
+  unfolding headOf
+  entries-held = subst (λ (x : Head). HoldsEntries s (x .spot) (x .entries) vs ls hs after) h-read es
+
+  q-is : q ≡ queriesItem s
+  unfolding queriesItem
+  q-is = q-read ∙ ap (numberLine NUMBER-DIGITS COUNT queriesKey s) (entries-held .spot)
+
+  pub queries-step-read : Step s start 3134 133 (q .spot)
+  queries-step-read = rw q-is (to-queries s)
+
+  pub queries-few : q .value ≤ COUNT
+  queries-few = rw q-is (queries-line s .value)
+
+  module _ (xs ds : List ℕ) {last : Spot} {r : Parsed} (qs : HoldsQueries s (q .spot) (q .value) xs ds last)
+      (r-read : r ≡ concluded h (q .value) last (length s)) where
+    queries-held : HoldsQueries s (queriesItem s .spot) (queriesItem s .value) xs ds last
+    queries-held = subst (λ (x : Item). HoldsQueries s (x .spot) (x .value) xs ds last) q-is qs
+
+    last-is : last ≡ lastSpot s
+    unfolding lastSpot
+    last-is = queries-held .spot
+
+    r-is : r ≡ concluded (headOf s) (queriesItem s .value) (lastSpot s) (length s)
+    r-is = r-read ∙ rw (h-read, q-is, last-is)
+
+    pub parse-read : parsedText r vs ls hs xs ds ≡ textOf s
+    unfolding parsedText concluded headOf textOf sheetOf
+    parse-read = rw r-is (go (lastSpot s .good && eqb (lastSpot s .at) (length s)))
+      where
+        go : (t : Bool)
+            → parsedText
+            (cond t
+            (Parsed.Good (widthItem s .value) (kindItem s .value) (levelsItem s .value) (entriesItem s .value) (queriesItem s .value))
+            (Parsed.Bad (lastSpot s .line)))
+            vs ls hs xs ds
+            ≡ cond t (good (sheetOf s)) (bad (lastSpot s .line))
+        go true = rw (entries-held .bits, entries-held .lengths, entries-held .hops, queries-held .addresses, queries-held .places)
+        go false = refl
+
+    pub parse-small : Small r vs ls xs ds
+    unfolding concluded headOf entryBits entryLength queryAddress queryPlaces addressFrom
+    parse-small = rw r-is (go (lastSpot s .good && eqb (lastSpot s .at) (length s)))
+      where
+        kept : (zs : List ℕ) (f : ℕ → ℕ) (n : ℕ) → take n zs ≡ listed f n → (i : ℕ) → i < n → getD zs i 0 ≡ f i
+        kept zs f n e i h = sym (getD-take n zs i 0 h) ∙ ap (λ (l : List ℕ). getD l i 0) e ∙ listed-at f n i h
+
+        go : (t : Bool)
+            → Small
+            (cond t
+            (Parsed.Good (widthItem s .value) (kindItem s .value) (levelsItem s .value) (entriesItem s .value) (queriesItem s .value))
+            (Parsed.Bad (lastSpot s .line)))
+            vs ls xs ds
+        go true = (
+          entries-line s .value,
+          queries-line s .value,
+          λ i h.
+              rw (kept vs _ (entriesItem s .value) (entries-held .bits) i h, kept ls _ (entriesItem s .value) (entries-held .lengths) i h)
+              (entry-spells s (afterEntries s (entriesItem s .spot) i) .0),
+          λ i h.
+              rw (kept xs _ (queriesItem s .value) (queries-held .addresses) i h, kept ds _ (queriesItem s .value) (queries-held .places) i h)
+              (bits-is addressKey s (afterQueries s (queriesItem s .spot) i) 1 .value),
+        )
+        go false = tt

@@ -1,0 +1,51 @@
+-- Three lines, one after the other.
+use Prim.Native.Nat.{_-_}
+use native.Mathlib.Omega.{arith}
+use Rattle.sheet.specs.Keys.{hopKey}
+use Rattle.sheet.specs.Report.{answerLines}
+use Rattle.sheet.proofs.Writing.{wrote-then, length-line, length-address}
+use Rattle.sheet.proofs.Writing.{wrote-up-to}
+use borrow.Author.Needs.{needs}
+use Rattle.sheet.proofs.printing.put_answer.Statement.{statement}
+use Rattle.sheet.proofs.printing.put_answer.Tie as tie
+
+put-address-requires : tie.Need-put-address-requires
+put-address-requires c κs = search needs
+
+slice-aggregate-put-line : tie.Need-slice-aggregate-put-line
+slice-aggregate-put-line c = search needs
+
+put-line-requires : tie.Need-put-line-requires
+put-line-requires c κs = omega (arith, wrote-up-to 41 (omega (arith, length-address (c .before .before .before .before .before .before .before .args .address) (c .before .before .before .before .before .before .before .args .n))) (c .before .before .before .before .put-address .ensures))
+
+slice-aggregate-put-line-2 : tie.Need-slice-aggregate-put-line-2
+slice-aggregate-put-line-2 c = search needs
+
+put-line-requires-2 : tie.Need-put-line-requires-2
+put-line-requires-2 c κs =
+    let e = c .before .before .before .before in
+    let a = e .before .before .before .before .before .before .before .before .args in
+    omega (
+      arith,
+      wrote-up-to 41 (omega (arith, length-address (a .address) (a .n))) (e .before .before .before .before .before .put-address .ensures),
+      wrote-up-to 25 (length-line hopKey _) (e .put-line .ensures),
+    )
+
+same-length : tie.Need-same-length
+same-length c = search needs
+
+returns : tie.Need-returns
+unfolding answerLines
+returns c = wrote-then (wrote-then (c .before .before .before .before .before .before .before .before .before .before .before .before .put-address .ensures) (c .before .before .before .before .before .before .before .put-line .ensures)) (c .before .before .put-line2 .ensures)
+
+pub put-answer-spec : {M : Type 1} → statement M
+put-answer-spec =
+    tie.close
+    (tie.spec
+    put-address-requires
+    slice-aggregate-put-line
+    put-line-requires
+    slice-aggregate-put-line-2
+    put-line-requires-2
+    same-length
+    returns)

@@ -1,0 +1,69 @@
+-- The entries' lines, "bits and hop for each entry", and the queries', "an address line each" (01, "The tablet program").
+-- Everything is said by index: where the reading stands after the first i of them, and what the next ones then give.
+use mathlib.Core.Path.{_≡_}
+use mathlib.Core.List.{List, [], _∷_, _++_}
+use Prim.Native.Nat.{ℕ, zero, suc}
+use lib.ListN.{take}
+use Rattle.sheet.specs.declared.lines.Spot.{Spot}
+use Rattle.sheet.specs.declared.lines.Item.{Item}
+use Rattle.sheet.specs.declared.entries.Entry.{Entry}
+use Rattle.sheet.specs.Limits.{NUMBER-DIGITS, HOP}
+use Rattle.sheet.specs.Keys.{bitsKey, hopKey, addressKey}
+use Rattle.sheet.specs.Lines.{numberLine, bitsLine}
+
+-- f at 0, 1, .. below n
+unfoldable pub listed : (ℕ → ℕ) → ℕ → List ℕ
+listed f zero = []
+listed f (suc n) = listed f n ++ (f n ∷ [])
+
+module _ (s : List ℕ) where
+  -- an entry: its bits as a number, how many they are, its hop
+  unfoldable pub entryFrom : Spot → Entry
+  entryFrom p =
+      let b = bitsLine 0 bitsKey s p in
+      let h = numberLine NUMBER-DIGITS HOP hopKey s (b .spot) in
+      record { bits = b .value; len = b .count; hop = h .value; spot = h .spot }
+
+  -- a query's line
+  unfoldable pub addressFrom : Spot → Item
+  addressFrom p = bitsLine 1 addressKey s p
+
+  -- after the first i entries, and after the first i queries
+  unfoldable pub afterEntries : Spot → ℕ → Spot
+  afterEntries p zero = p
+  afterEntries p (suc i) = entryFrom (afterEntries p i) .spot
+
+  unfoldable pub afterQueries : Spot → ℕ → Spot
+  afterQueries p zero = p
+  afterQueries p (suc i) = addressFrom (afterQueries p i) .spot
+
+  module _ (p : Spot) (i : ℕ) where
+    -- entry i
+    unfoldable pub entryBits : ℕ
+    entryBits = entryFrom (afterEntries p i) .bits
+
+    unfoldable pub entryLength : ℕ
+    entryLength = entryFrom (afterEntries p i) .len
+
+    unfoldable pub entryHop : ℕ
+    entryHop = entryFrom (afterEntries p i) .hop
+
+    -- query i: its address as a number, and how many digits it has
+    unfoldable pub queryAddress : ℕ
+    queryAddress = addressFrom (afterQueries p i) .value
+
+    unfoldable pub queryPlaces : ℕ
+    queryPlaces = addressFrom (afterQueries p i) .count
+
+-- three lists begin with the n entries that stand from p on, and the reading stands at r after them
+pub record HoldsEntries (s : List ℕ) (p : Spot) (n : ℕ) (vs ls hs : List ℕ) (r : Spot) : Type 0 where
+  pub spot : r ≡ afterEntries s p n
+  pub bits : take n vs ≡ listed (entryBits s p) n
+  pub lengths : take n ls ≡ listed (entryLength s p) n
+  pub hops : take n hs ≡ listed (entryHop s p) n
+
+-- two lists begin with the n queries
+pub record HoldsQueries (s : List ℕ) (p : Spot) (n : ℕ) (xs ds : List ℕ) (r : Spot) : Type 0 where
+  pub spot : r ≡ afterQueries s p n
+  pub addresses : take n xs ≡ listed (queryAddress s p) n
+  pub places : take n ds ≡ listed (queryPlaces s p) n

@@ -1,0 +1,16 @@
+-- What the tablet's promise says, in the order of 01: the numbers and keys of the text, one line, the entries and queries,
+-- the whole text and the text that says a sheet; the entries as values of a table; the report's lines, the answers, a sheet
+-- solved, and the whole run.
+pub mod Limits
+pub mod Keys
+pub mod Lines
+pub mod Entries
+pub mod Sheet
+pub mod Lent
+pub mod Values
+pub mod Report
+pub mod Spelling
+pub mod Answers
+pub mod Solved
+pub mod Tablet
+pub mod Examples

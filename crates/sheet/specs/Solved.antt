@@ -1,0 +1,58 @@
+-- A good sheet, solved (01, "The tablet program"): the build's refusal, or the report of its answers. The entries' bits are
+-- values of the table; elements and root are those of its rows; the hop of an address is that of the longest entry that
+-- matches it, and its reads the number of blocks on its path.
+use mathlib.Core.List.{List}
+use Prim.Native.Nat.{ℕ, zero, suc, _*_}
+use lib.ListN.{length}
+use Rattle.table.specs.Table.{at}
+use Rattle.table.specs.Longest.{longest}
+use Rattle.table.specs.Refusals.{outcome}
+use Rattle.table.specs.declared.entry.Outcome.{Outcome}
+use Rattle.table.specs.declared.entry.Outcome.the-variants.{Accepted, Refused}
+use Rattle.strides.specs.Cheapest.{Kind, fixed, variable}
+use Rattle.strides.specs.Recurrence.{plain, leastBy}
+use Rattle.strides.specs.Strides.{chosenBy}
+use Rattle.tries.specs.Blocks.{Strides, blocksAlong, rowCount, strideOf}
+use Rattle.tries.specs.Build.{buildTests}
+use Rattle.tries.specs.Built.{tableTrie}
+use Rattle.tries.specs.Costs.{held}
+use Rattle.tries.specs.Scratch.{ROW}
+use Rattle.sheet.specs.Limits.{LENT-ROWS, LENT-ELEMENTS}
+use Rattle.sheet.specs.Report.{refusalLines}
+use Rattle.sheet.specs.Answers.{answersReport}
+use Rattle.sheet.specs.Values.{valuesOf}
+
+-- 0 is fst, 1 is vst
+unfoldable pub kindNamed : ℕ → Kind
+kindNamed zero = fixed
+kindNamed (suc n) = variable
+
+module _ (kind : Kind) (W k : ℕ) (vs ls hs : List ℕ) where
+  -- the strides that the build chooses
+  abbrev pub chosen : Strides
+  chosen = chosenBy held kind k (tableTrie W vs ls hs)
+
+  -- tests 1 to 7, over what the program lends
+  unfoldable pub buildOutcome : Outcome
+  buildOutcome = outcome (buildTests W k vs ls hs (LENT-ROWS * ROW) LENT-ELEMENTS (leastBy plain kind k (tableTrie W vs ls hs)))
+
+  abbrev pub hopOf : ℕ → ℕ
+  hopOf = longest W (at vs) (at ls) (at hs) (length vs)
+
+  abbrev pub readsOf : ℕ → ℕ
+  readsOf a = length (blocksAlong chosen W (tableTrie W vs ls hs) 0 0 k a)
+
+  -- the report where the build accepts
+  unfoldable pub tableReport : (xs ds : List ℕ) → List ℕ
+  tableReport xs ds =
+      answersReport hopOf readsOf xs ds W (rowCount chosen k (tableTrie W vs ls hs)) (strideOf chosen k (tableTrie W vs ls hs))
+
+-- a refusal prints only its two lines
+unfoldable pub reportFor : Outcome → List ℕ → List ℕ
+reportFor Accepted bytes = bytes
+reportFor (Refused number detail) bytes = refusalLines number detail
+
+unfoldable pub solved : (kind W k : ℕ) (bits lengths hops addresses places : List ℕ) → List ℕ
+solved kind W k bits lengths hops addresses places =
+    let vs = valuesOf W bits lengths in
+    reportFor (buildOutcome (kindNamed kind) W k vs lengths hops) (tableReport (kindNamed kind) W k vs lengths hops addresses places)

@@ -1,0 +1,76 @@
+// The whole run: the text is read, the sheet is solved, the report is printed to a page and handed over.
+ghost use mathlib.Core.Path.{_≡_};
+ghost use Prim.Native.Nat.{_≤_};
+ghost use lib.ListN.{length, replicate};
+ghost use Rattle.sheet.specs.Limits.{PAGE};
+ghost use Rattle.sheet.specs.Report.{Wrote};
+ghost use Rattle.sheet.specs.Tablet.{reportOf, Ran, Fits};
+use crate::limits::COUNT;
+use crate::limits::PAGE;
+use crate::parsing::Parsed;
+use crate::parsing::parse;
+use crate::printing::put;
+use crate::printing::put_refusal;
+use crate::solving::solve;
+
+// The report's length, written; or the room that it needs, nothing written.
+pub enum Report {
+    Written(usize),
+    Room(usize),
+}
+
+// Room for a text, or for a report: both are shorter.
+pub fn buffer() -> [u8; PAGE]
+    ensures size { λ r. ⌜ PAGE ≡ length r ⌝ }
+    ensures blank { λ r. ⌜ r ≡ replicate PAGE 0 ⌝ }
+{
+    [0; PAGE]
+}
+
+// Puts the report of a text.
+fn put_run(out: &mut [u8], text: &[u8]) -> usize
+    requires { ⌜ PAGE ≤ length (now out) ⌝ }
+    ensures { λ r. ⌜ Wrote (now (out .entry)) 0 (reportOf (now (text .entry))) (now (out .exit)) r ⌝ }
+{
+    let mut bits = [0u32; COUNT as usize];
+    let mut lens = [0u8; COUNT as usize];
+    let mut hops = [0u16; COUNT as usize];
+    let mut adds = [0u32; COUNT as usize];
+    let mut digs = [0u8; COUNT as usize];
+    let parsed = parse(text, &mut bits, &mut lens, &mut hops, &mut adds, &mut digs);
+    match parsed {
+        Parsed::Bad(line) => put_refusal(out, 0, 11, line as u64),
+        Parsed::Good {
+            width,
+            kind,
+            levels,
+            entries: n,
+            queries: m,
+        } => solve(
+            out,
+            kind,
+            width,
+            levels,
+            &mut bits[0..n],
+            &lens[0..n],
+            &hops[0..n],
+            &adds[0..m],
+            &digs[0..m],
+        ),
+    }
+}
+
+// Reads the tablet's text and writes the report at the start of `out`: `Written` with its length, later bytes kept;
+// or `Room` with the bytes that it needs, where `out` is shorter, and nothing is written.
+pub fn run(text: &[u8], out: &mut [u8]) -> Report
+    ensures exact { λ r. ⌜ Ran (now (text .entry)) (now (out .entry)) (now (out .exit)) r ⌝ }
+    ensures fits { λ r. ⌜ Fits r (now (out .exit)) ⌝ }
+{
+    let mut page = buffer();
+    let n = put_run(&mut page, text);
+    if out.len() < n {
+        return Report::Room(n);
+    }
+    put(out, 0, &page[0..n]);
+    Report::Written(n)
+}
