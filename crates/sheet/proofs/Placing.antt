@@ -1,5 +1,6 @@
 -- Laws of an entry's bits as a value: it fits, it is a prefix of the width, and its leading bits are those of the text.
 use mathlib.Core.Path.{_≡_, refl, sym, ap, _∙_}
+use mathlib.Core.Bool.{true}
 use mathlib.Core.List.{List}
 use Prim.Native.Nat.{ℕ, _+_, _-_, _*_, _%_, _^_, _≤_, _<_}
 use native.Mathlib.Omega.{arith}
@@ -7,9 +8,9 @@ use native.Mathlib.Nat.{mul-mod-left}
 use lib.ListN.{length, take, set, length-set}
 use lib.Seq.{getD-set-other, take-length}
 use lib.Pow.{shl-exact, shl-lt, shl-shr, pow-mono}
-use borrow.Author.Tests.{le-ltb}
+use borrow.Author.Tests.{lt-ltb, le-ltb}
 use Rattle.table.specs.Limits.{widthLimit}
-use Rattle.table.specs.Prefix.{start, IsPrefix}
+use Rattle.table.specs.Prefix.{start, prefixBad, IsPrefix}
 use Rattle.table.specs.Table.{at}
 use Rattle.sheet.specs.Entries.{listed}
 use Rattle.sheet.specs.Values.{valueOf, valuesOf}
@@ -36,6 +37,11 @@ module _ (W b l : ℕ) (spells : b < 2 ^ l) (short : l ≤ W) where
   pub value-start : W ≤ widthLimit → start W l (valueOf W b l) ≡ b
   unfolding start
   value-start h = rw (value-is h) (shl-shr b (W - l))
+
+-- bits longer than the width are no prefix, whatever stands for their value: test 4 fails
+pub long-bits-fail : (W v l : ℕ) → W < l → prefixBad W v l ≡ true
+unfolding prefixBad
+long-bits-fail W v l h = rw (lt-ltb W l h)
 
 -- ---- the loop that puts values in the place of bits: the first i are values, the others are bits yet
 

@@ -40,7 +40,7 @@ module _ (xs ds : List ℕ) (few : length ds ≤ COUNT) (short : (i : ℕ) → i
             length-append (headLines e r) (joined (queryLines hop reads xs ds) (length ds)),
             length-head e r,
             length-joined (queryLines hop reads xs ds) 93 (length ds)
-                (λ i h. length-answer (at xs i) (at ds i) (hop (at xs i)) (reads (at xs i)) (short i h)),
+                (λ i h. length-answer _ _ _ _ (short i h)),
           )
 
   for-short : (out : Outcome) (bytes : List ℕ) → length bytes ≤ PAGE → length (reportFor out bytes) ≤ PAGE

@@ -1,5 +1,5 @@
--- The text that says a sheet (01, "The tablet program"), line after line, each number without leading zeros. The good texts
--- are exactly these (proofs/Spelled.antt): "anything else, extra text or an early end is 11".
+-- The text that says a sheet (01, "The tablet program"), line after line, each number without leading zeros. No other text
+-- is good (proofs/Spelled.antt, `good-is-spelled`): "anything else, extra text or an early end is 11".
 use mathlib.Core.List.{List, [], _∷_, _++_}
 use Prim.Native.Nat.{ℕ, zero, suc}
 use lib.ListN.{length}
