@@ -53,7 +53,7 @@ module _ (kind : Kind) (W k : ℕ) (vs ls hs : List ℕ) {rec : Record} {rows : 
     built-accepted : out ≡ Accepted → (xs ds : List ℕ) → LentQueries xs ds
         → lookedUp rec rows xs ds ≡ reportFor (buildOutcome kind W k vs ls hs) (tableReport kind W k vs ls hs xs ds)
     unfolding reportFor
-    built-accepted is xs ds q = rw (sym outcome-is, is) (looked-up-laid (b .laid is) xs ds q)
+    built-accepted is xs ds q = rw (sym outcome-is, is) (looked-up-laid (b .written .laid is) xs ds q)
 
 -- ---- the kind, as the text names it
 

@@ -37,7 +37,7 @@ use Rattle.tries.specs.Filling.{Trunk, Room, LayAsks, LayGives, Lays, Ca
 use Rattle.tries.specs.Costs.{held}
 use Rattle.tries.specs.Levels.{padded}
 use Rattle.tries.specs.Chooser.{chooseTests, ifAccepted, PlanIn, Planned}
-use Rattle.tries.specs.Build.{roomTest, buildTests, NoRecord, Keeps, BuildIs, Builds}
+use Rattle.tries.specs.Build.{roomTest, buildTests, NoRecord, Keeps, RowsAre, RowsBuilt, BuildIs, Builds}
 use Rattle.tries.proofs.Cost.{count-cost}
 use Rattle.tries.proofs.Laying.{lays-built}
 use Rattle.tries.proofs.Leveling.{padded-read}
@@ -170,55 +170,71 @@ module _ (kind : Kind) {W k : ℕ} {vs ls hs scratch : List ℕ} (g : PlanIn W k
 
 -- ---- the three answers
 
-pub early-is : (kind : Kind) (W k : ℕ) (vs ls hs scratch : List ℕ) (lent : Lists) {out : Outcome} {n d : ℕ} {rec : Record} → out ≡ outcome (chooseTests W k vs ls hs (length scratch)) → out ≡ Refused n d
-    → NoRecord rec → BuildIs kind W k vs ls hs scratch lent (Refused n d) rec scratch lent
-unfolding ifAccepted
-early-is kind W k vs ls hs scratch lent e f z =
-    let o = sym e ∙ f in
-    record {
-      tests = sym (early W k vs ls hs (length scratch) (shortest lent) (leastBy plain kind k (tableTrie W vs ls hs)) o);
-      laid = λ a. absurd (refused-not-accepted a);
-      named = λ a. absurd (refused-not-accepted a);
-      after = rw o refl;
-      keeps = record { hops = refl; links = refl; strides = refl; later = λ a. absurd (refused-not-accepted a); refused = λ ne. (z, refl) };
-    }
-
-pub crowded-is : (kind : Kind) (W k : ℕ) (vs ls hs scratch : List ℕ) (lent : Lists) {cost root : ℕ} {strides plan rows rows′ : List ℕ} {rec : Record}
-    → outcome (chooseTests W k vs ls hs (length scratch)) ≡ Accepted → Planned kind W k vs ls hs cost strides plan root rows
-    → (ltb (shortest lent) cost || ltb ELEMENTS cost) ≡ true → rows′ ≡ replicate (length scratch) 0 → NoRecord rec
-    → BuildIs kind W k vs ls hs scratch lent (Refused 7 cost) rec rows′ lent
-unfolding ifAccepted
-crowded-is kind W k vs ls hs scratch lent {cost} e p f z n = record {
-  tests = sym (late W k vs ls hs (length scratch) (shortest lent) (leastBy plain kind k (tableTrie W vs ls hs)) e ∙ rw (sym (p .least)) (outcome-fails (roomTest cost (shortest lent)) [] f));
-  laid = λ a. absurd (refused-not-accepted a);
-  named = λ a. absurd (refused-not-accepted a);
-  after = rw e z;
-  keeps = record { hops = refl; links = refl; strides = refl; later = λ a. absurd (refused-not-accepted a); refused = λ ne. (n, refl) };
+-- refused: nothing is written
+pub nothing-written : (kind : Kind) (W k : ℕ) (vs ls hs : List ℕ) (lent : Lists) {out : Outcome} {n d : ℕ} {rec : Record} → out ≡ Refused n d → NoRecord rec
+    → RowsAre kind W k vs ls hs lent out rec lent
+nothing-written kind W k vs ls hs lent e z = record {
+  laid = λ a. absurd (refused-not-accepted (sym e ∙ a));
+  named = λ a. absurd (refused-not-accepted (sym e ∙ a));
+  keeps = record { hops = refl; links = refl; strides = refl; later = λ a. absurd (refused-not-accepted (sym e ∙ a)); refused = λ ne. (z, refl) };
 }
 
-pub built-is : (kind : Kind) (W k : ℕ) (vs ls hs scratch : List ℕ) (lent lent′ : Lists) {cost root e : ℕ} {strides plan rows rows′ : List ℕ} (rec : Record)
-    → outcome (chooseTests W k vs ls hs (length scratch)) ≡ Accepted → PlanIn W k vs ls hs scratch → Planned kind W k vs ls hs cost strides plan root rows
-    → (ltb (shortest lent) cost || ltb ELEMENTS cost) ≡ false → Lays rows (take k plan) root W k lent e lent′
-    → length (lent′ .hop) ≡ length (lent .hop) → length (lent′ .link) ≡ length (lent .link) → length (lent′ .stride) ≡ length (lent .stride)
-    → rec .width ≡ W → rec .levels ≡ k → rec .elements ≡ cost → rec .floor ≡ tableFloor W vs ls hs → rec .strides ≡ strides
-    → rows′ ≡ replicate (length scratch) 0 → BuildIs kind W k vs ls hs scratch lent Accepted rec rows′ lent′
-unfolding ifAccepted outcome
-built-is kind W k vs ls hs scratch lent lent′ {cost} {e = e} rec o g p f lays sh sl ss ew ek ee ef es z =
-    let asks = may-lay kind g lent p f in
-    let gives = lays (chosenBy held kind k (tableTrie W vs ls hs)) (tableTrie W vs ls hs) asks in
-    let same : shortest lent′ ≡ shortest lent = omega arith in
-    let count : cost ≡ e = p .least ∙ sym (count-least kind g) ∙ sym (gives .count) in
+module _ (kind : Kind) {W k : ℕ} {vs ls hs scratch : List ℕ} (g : PlanIn W k vs ls hs scratch) (lent : Lists) {cost root : ℕ} {strides plan rows : List ℕ} {out : Outcome} {rec : Record}
+    (p : Planned kind W k vs ls hs cost strides plan root rows) where
+  -- refused by 7
+  pub crowded-is : (ltb (shortest lent) cost || ltb ELEMENTS cost) ≡ true → out ≡ Refused 7 cost → NoRecord rec → RowsBuilt kind W k vs ls hs lent out rec lent
+  unfolding outcome
+  crowded-is f e z = record {
+    tests = e ∙ sym (rw (sym (p .least)) (outcome-fails (roomTest cost (shortest lent)) [] f));
+    written = nothing-written kind W k vs ls hs lent e z;
+  }
+
+  -- built: what `lay` gave, with the record's fields
+  pub built-is : (lent′ : Lists) {e : ℕ} → (ltb (shortest lent) cost || ltb ELEMENTS cost) ≡ false → Lays rows (take k plan) root W k lent e lent′
+      → length (lent′ .hop) ≡ length (lent .hop) → length (lent′ .link) ≡ length (lent .link) → length (lent′ .stride) ≡ length (lent .stride)
+      → rec .width ≡ W → rec .levels ≡ k → rec .elements ≡ cost → rec .floor ≡ tableFloor W vs ls hs → rec .strides ≡ strides
+      → out ≡ Accepted → RowsBuilt kind W k vs ls hs lent out rec lent′
+  unfolding outcome
+  built-is lent′ {e} f lays sh sl ss ew ek ee ef es o =
+      let asks = may-lay kind g lent p f in
+      let gives = lays (chosenBy held kind k (tableTrie W vs ls hs)) (tableTrie W vs ls hs) asks in
+      let same : shortest lent′ ≡ shortest lent = omega arith in
+      let count : cost ≡ e = p .least ∙ sym (count-least kind g) ∙ sym (gives .count) in
+      record {
+        tests = o ∙ sym (rw (sym (p .least)) (outcome-passes (roomTest cost (shortest lent)) [] f));
+        written = record {
+          laid = λ a. accepted-laid kind g rec p asks gives same ew ek ee ef es;
+          named = λ a. es ∙ p .named;
+          keeps = record { hops = sh; links = sl; strides = ss; later = λ a i h. gives .after i (omega (arith, count, ee)); refused = λ ne. absurd (ne o) };
+        };
+      }
+
+-- refused by 1 to 6
+pub early-is : (kind : Kind) (W k : ℕ) (vs ls hs scratch : List ℕ) (lent : Lists) {out res : Outcome} {n d : ℕ} {rec : Record} → res ≡ outcome (chooseTests W k vs ls hs (length scratch))
+    → res ≡ Refused n d → out ≡ Refused n d → NoRecord rec → BuildIs kind W k vs ls hs scratch lent out rec scratch lent
+unfolding ifAccepted
+early-is kind W k vs ls hs scratch lent e f o z =
+    let t = sym e ∙ f in
     record {
-      tests = sym (late W k vs ls hs (length scratch) (shortest lent) (leastBy plain kind k (tableTrie W vs ls hs)) o ∙ rw (sym (p .least)) (outcome-passes (roomTest cost (shortest lent)) [] f));
-      laid = λ a. accepted-laid kind g rec p asks gives same ew ek ee ef es;
-      named = λ a. es ∙ p .named;
-      after = rw o z;
-      keeps = record { hops = sh; links = sl; strides = ss; later = λ a i h. gives .after i (omega (arith, count, ee)); refused = λ ne. absurd (ne refl) };
+      tests = o ∙ sym (early W k vs ls hs (length scratch) (shortest lent) (leastBy plain kind k (tableTrie W vs ls hs)) t);
+      after = rw t refl;
+      written = nothing-written kind W k vs ls hs lent o z;
     }
+
+-- past them
+pub past-is : (kind : Kind) (W k : ℕ) (vs ls hs scratch : List ℕ) (lent : Lists) {out : Outcome} {rec : Record} {scratch′ : List ℕ} {lent′ : Lists}
+    → outcome (chooseTests W k vs ls hs (length scratch)) ≡ Accepted → RowsBuilt kind W k vs ls hs lent out rec lent′ → scratch′ ≡ replicate (length scratch) 0
+    → BuildIs kind W k vs ls hs scratch lent out rec scratch′ lent′
+unfolding ifAccepted
+past-is kind W k vs ls hs scratch lent e b z = record {
+  tests = b .tests ∙ sym (late W k vs ls hs (length scratch) (shortest lent) (leastBy plain kind k (tableTrie W vs ls hs)) e);
+  after = rw e z;
+  written = b .written;
+}
 
 -- ---- and what it means
 
-module _ (kind : Kind) (W k : ℕ) (vs ls hs scratch : List ℕ) (rows : Lists) {out : Outcome} {rec : Record} {scratch′ : List ℕ} {rows′ : Lists}
+module _ {kind : Kind} {W k : ℕ} {vs ls hs scratch : List ℕ} {rows : Lists} {out : Outcome} {rec : Record} {scratch′ : List ℕ} {rows′ : Lists}
     (b : BuildIs kind W k vs ls hs scratch rows out rec scratch′ rows′) where
   abbrev T : Trie
   T = tableTrie W vs ls hs
@@ -238,11 +254,11 @@ module _ (kind : Kind) (W k : ℕ) (vs ls hs scratch : List ℕ) (rows : Lists) 
       same (Refused n d) e = early W k vs ls hs (length scratch) (shortest rows) (leastBy plain kind k T) e ∙ sym (early W k vs ls hs (length scratch) (shortest rows) least e)
 
   some-levels : out ≡ Accepted → 1 ≤ k
-  some-levels e = let l = b .laid e in omega (arith, l .levels, l .built .levels .0)
+  some-levels e = let l = b .written .laid e in omega (arith, l .levels, l .built .levels .0)
 
   under-cap : out ≡ Accepted → leastBy plain kind k (tableTrie W vs ls hs) < COST_CAP
   under-cap e =
-      let t = b .laid e .table in
+      let t = b .written .laid e .table in
       let d = trie-depth-width W (at vs) (at ls) (at hs) (length vs) (λ i l. t .entry i l .prefix) in
       let short : depth T ≤ 32 = omega (arith, d, t .width) in
       let p : 2 ^ depth T ≤ 2 ^ 32 = pow-mono short in
@@ -252,11 +268,11 @@ module _ (kind : Kind) (W k : ℕ) (vs ls hs scratch : List ℕ) (rows : Lists) 
   unfolding ifAccepted
   build-means = record {
     tested = means-tested;
-    laid = λ e. (chosenBy held kind k T, follows-capped COST_CAP kind k T (some-levels e) (under-cap e), b .laid e);
-    named = λ e. (stridesBy plain kind k T, strides-named kind k T (some-levels e), b .named e);
+    laid = λ e. (chosenBy held kind k T, follows-capped COST_CAP kind k T (some-levels e) (under-cap e), b .written .laid e);
+    named = λ e. (stridesBy plain kind k T, strides-named kind k T (some-levels e), b .written .named e);
     zeroed = λ a. b .after ∙ rw (sym (gives-outcome tests Accepted a));
     untouched = λ ne. b .after ∙ kept (outcome tests) refl ne;
-    keeps = b .keeps;
+    keeps = b .written .keeps;
   }
     where
       kept : (o : Outcome) → outcome tests ≡ o → (Gives tests Accepted → ⊥) → ifAccepted o (replicate (length scratch) 0) scratch ≡ scratch

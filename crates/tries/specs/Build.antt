@@ -48,14 +48,23 @@ pub record Keeps (rows : Lists) (out : Outcome) (rec : Record) (rows′ : Lists)
   pub later : out ≡ Accepted → (i : ℕ) → rec .elements ≤ i → rowAt rows′ i ≡ rowAt rows i
   pub refused : (out ≡ Accepted → ⊥) → NoRecord rec × (rows′ ≡ rows)
 
--- the exact answer: with the least cost, the strides and the choice that the recurrences find; scratch is zeroed past test 6
+-- the exact record and rows: of the strides and the choice that the recurrences find
+pub record RowsAre (kind : Kind) (W k : ℕ) (vs ls hs : List ℕ) (rows : Lists) (out : Outcome) (rec : Record) (rows′ : Lists) : Type 0 where
+  pub laid : out ≡ Accepted → Laid WIDTH W vs ls hs (chosenBy held kind k (tableTrie W vs ls hs)) k rec rows′
+  pub named : out ≡ Accepted → rec .strides ≡ padded LEVELS (stridesBy plain kind k (tableTrie W vs ls hs))
+  pub keeps : Keeps rows out rec rows′
+
+-- past test 6: test 7 with the least cost that the recurrences find, then the rows
+pub record RowsBuilt (kind : Kind) (W k : ℕ) (vs ls hs : List ℕ) (rows : Lists) (out : Outcome) (rec : Record) (rows′ : Lists) : Type 0 where
+  pub tests : out ≡ outcome (roomTest (leastBy plain kind k (tableTrie W vs ls hs)) (shortest rows) ∷ [])
+  pub written : RowsAre kind W k vs ls hs rows out rec rows′
+
+-- the exact answer: all seven tests, then the rows; scratch is zeroed past test 6
 pub record BuildIs (kind : Kind) (W k : ℕ) (vs ls hs scratch : List ℕ) (rows : Lists) (out : Outcome) (rec : Record) (scratch′ : List ℕ) (rows′ : Lists)
     : Type 0 where
   pub tests : out ≡ outcome (buildTests W k vs ls hs (length scratch) (shortest rows) (leastBy plain kind k (tableTrie W vs ls hs)))
-  pub laid : out ≡ Accepted → Laid WIDTH W vs ls hs (chosenBy held kind k (tableTrie W vs ls hs)) k rec rows′
-  pub named : out ≡ Accepted → rec .strides ≡ padded LEVELS (stridesBy plain kind k (tableTrie W vs ls hs))
   pub after : scratch′ ≡ ifAccepted (outcome (chooseTests W k vs ls hs (length scratch))) (replicate (length scratch) 0) scratch
-  pub keeps : Keeps rows out rec rows′
+  pub written : RowsAre kind W k vs ls hs rows out rec rows′
 
 -- what it means: the first test that fails, where 7 tests the least cost of all choices of the kind with at most k levels; accepted,
 -- the rows of the choice that the tie rule names, and its strides in the record; scratch unchanged by 1 to 6, else all zero

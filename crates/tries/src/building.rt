@@ -5,11 +5,13 @@ ghost use mathlib.Core.List.{List};
 ghost use Prim.Native.Nat.{ℕ, min};
 ghost use lib.Dec.{ltb};
 ghost use Rattle.table.specs.Table.{Table};
+ghost use Rattle.table.specs.declared.entry.Outcome.the-variants.{Refused};
 ghost use Rattle.tries.specs.Limits.{ELEMENTS};
 ghost use Rattle.tries.specs.Kinds.{kindOf};
 ghost use Rattle.tries.specs.Rows.{lists};
 ghost use Rattle.tries.specs.Built.{tableFloor};
-ghost use Rattle.tries.specs.Build.{NoRecord, BuildIs, Builds};
+ghost use Rattle.tries.specs.Chooser.{PlanIn};
+ghost use Rattle.tries.specs.Build.{NoRecord, RowsBuilt, BuildIs, Builds};
 use crate::builder::lay;
 use crate::chooser::planned;
 use crate::chooser::tested;
@@ -26,16 +28,20 @@ pub struct Built {
     pub record: Record,
 }
 
-// A refused build's record.
-fn no_record() -> Record
-    ensures { λ r. ⌜ NoRecord r ⌝ }
+// A refused build: its record is all zeros.
+fn refused(number: u32, detail: u64) -> Built
+    ensures told { λ r. ⌜ r .outcome ≡ Refused number detail ⌝ }
+    ensures empty { λ r. ⌜ NoRecord (r .record) ⌝ }
 {
-    Record {
-        width: 0,
-        levels: 0,
-        elements: 0,
-        floor: 0,
-        strides: [0u8; LEVELS as usize],
+    Built {
+        outcome: Outcome::Refused { number, detail },
+        record: Record {
+            width: 0,
+            levels: 0,
+            elements: 0,
+            floor: 0,
+            strides: [0u8; LEVELS as usize],
+        },
     }
 }
 
@@ -62,6 +68,43 @@ fn floor_hop(lens: &[u8], hops: &[u16]) -> u16
     if lens[0] == 0 { hops[0] } else { 0 }
 }
 
+// Past test 6: plans the strides in scratch, then refuses for room (7) or writes the rows. Scratch is left as the plan made it.
+fn build_rows(
+    kind: Kind,
+    width: u32,
+    levels: u32,
+    vals: &[u32],
+    lens: &[u8],
+    tops: &[u16],
+    scratch: &mut [u64],
+    hops: &mut [u16],
+    links: &mut [u32],
+    strides: &mut [u8],
+) -> Built
+    requires { ⌜ PlanIn width levels (now vals) (now lens) (now tops) (now scratch) ⌝ }
+    ensures { λ r. ⌜ RowsBuilt (kindOf kind) width levels (now (vals .entry)) (now (lens .entry)) (now (tops .entry)) (lists (now (hops .entry)) (now (links .entry)) (now (strides .entry))) (r .outcome) (r .record) (lists (now (hops .exit)) (now (links .exit)) (now (strides .exit))) ⌝ }
+{
+    let p = planned(kind, width, levels, vals, lens, tops, scratch);
+    let e = p.cost;
+    if is_crowded(e, hops.len(), links.len(), strides.len()) {
+        return refused(7, e);
+    }
+    let k = levels as usize;
+    let plan = p.plan;
+    lay(scratch, &plan[..k], p.root, width as usize, k, hops, links, strides);
+    let named = p.strides;
+    Built {
+        outcome: Outcome::Accepted,
+        record: Record {
+            width: width,
+            levels: levels,
+            elements: e as u32,
+            floor: floor_hop(lens, tops),
+            strides: named,
+        },
+    }
+}
+
 // Turns a table into a record and element rows, with the least number of rows of its kind, or refuses it by the first of
 // the tests 1 to 7. Refused, the record is all zeros and no element changes; 1 to 6 keep scratch too, else all of it is 0.
 pub fn build(
@@ -81,45 +124,9 @@ pub fn build(
 {
     let outcome = tested(width, levels, value, length, hop, scratch.len());
     if let Outcome::Refused { number, detail } = outcome {
-        return Built {
-            outcome: Outcome::Refused { number, detail },
-            record: no_record(),
-        };
+        return refused(number, detail);
     }
-    let p = planned(kind, width, levels, value, length, hop, scratch);
-    let e = p.cost;
-    if is_crowded(e, hops.len(), links.len(), strides.len()) {
-        zero(scratch);
-        return Built {
-            outcome: Outcome::Refused {
-                number: 7,
-                detail: e,
-            },
-            record: no_record(),
-        };
-    }
-    let k = levels as usize;
-    let plan = p.plan;
-    lay(
-        scratch,
-        &plan[..k],
-        p.root,
-        width as usize,
-        k,
-        hops,
-        links,
-        strides,
-    );
+    let built = build_rows(kind, width, levels, value, length, hop, scratch, hops, links, strides);
     zero(scratch);
-    let named = p.strides;
-    Built {
-        outcome: Outcome::Accepted,
-        record: Record {
-            width: width,
-            levels: levels,
-            elements: e as u32,
-            floor: floor_hop(length, hop),
-            strides: named,
-        },
-    }
+    built
 }
