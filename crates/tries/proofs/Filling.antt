@@ -1,8 +1,7 @@
 -- Writing the rows below a node: one row at the end of a path, else the half of each side. What each part asks, and how what it
 -- gives goes together.
 use Prim.Native.Nat.{ℕ, suc, _+_, _-_, _*_, _/_, _%_, _^_, _≤_, _<_}
-use mathlib.Core.Path.{_≡_, sym, ap, _∙_}
-use mathlib.Core.Logic.{⊎-elim}
+use mathlib.Core.Path.{_≡_, refl, sym, ap, _∙_}
 use mathlib.Core.List.{List}
 use native.Mathlib.Omega.{arith}
 use native.Mathlib.Nat.{zero-add, add-zero, add-assoc, one-mul, pow-suc, div-eq-of-lt}
@@ -10,15 +9,15 @@ use native.Mathlib.Decide.{decLe}
 use lib.ListN.{length, set}
 use lib.Seq.{getD-set-same, getD-set-other}
 use lib.Pow.{pow-mono, low, high}
-use Rattle.strides.specs.Trie.{Trie, left, right, leftMark, rightMark, bit, newer, markAlong, subAlong}
-use Rattle.strides.proofs.Paths.{bit-mod, mark-same, sub-same}
+use Rattle.strides.specs.Trie.{Trie, none, left, right, leftMark, rightMark, bit, newer, markAlong, subAlong}
+use Rattle.strides.proofs.Paths.{bit-mod, mark-same, sub-same, sub-none, mark-none}
 use Rattle.tries.specs.Limits.{WIDTH, LEVELS, ELEMENTS}
 use Rattle.tries.specs.Rows.{Lists, lists, shortest, rowAt}
 use Rattle.tries.specs.Scratch.{ROW, ask, strideAt}
 use Rattle.tries.specs.Blocks.{Strides, wide, leftOf, linkTo, rowBelow}
-use Rattle.tries.specs.Filling.{Room, FillAsks, FillGives}
+use Rattle.tries.specs.Filling.{Room, Bare, FillAsks, FillGives}
 use Rattle.tries.proofs.Blocks.{wide-sides, left-same}
-use Rattle.tries.proofs.Standing.{zero?, mark-left, mark-right, trunk-fits, trunk-left, trunk-right, trunk-child}
+use Rattle.tries.proofs.Standing.{mark-left, mark-right, trunk-fits, trunk-none, trunk-left, trunk-right, trunk-child}
 
 -- ---- the two halves of the rows below a node
 bit-low : (c x : ℕ) → x < 2 ^ c → bit c x ≡ 0
@@ -53,9 +52,6 @@ module _ (σ : Strides) (c r : ℕ) (t : Trie) (best free x : ℕ) (h : x < 2 ^ 
       )
 
 -- ---- small things that the code's numbers need
-pub given-most : {k v u m : ℕ} → (0 < k → v ≡ u) × (k ≡ 0 → v ≡ 0) → u ≤ m → v ≤ m
-given-most {k} e h = ⊎-elim (λ z. omega (arith, e .1 z)) (λ z. omega (arith, e .0 z)) (zero? k)
-
 pub power-most : {s p : ℕ} → p ≡ 2 ^ s → s ≤ WIDTH → p ≤ 2 ^ WIDTH
 power-most {s} e h = omega (arith, pow-mono h)
 
@@ -99,31 +95,66 @@ module _ {σ : Strides} {t : Trie} {rows plan : List ℕ} {k r base free : ℕ} 
     stride = trunk-child (g .trunk) .small;
   }
 
-  -- s: the stride read; l: the link given; v: the rows of the child block
-  module _ (best : ℕ) {s l v p : ℕ} {ls′ : Lists} (es : s ≡ strideAt rows plan k r) (el : (0 < k → l ≡ free) × (k ≡ 0 → l ≡ 0))
-      (ep : p ≡ 2 ^ s) (ev : (0 < k → v ≡ p) × (k ≡ 0 → v ≡ 0))
-      (e0 : ls′ .hop ≡ set (ls .hop) base best) (e1 : ls′ .link ≡ set (ls .link) base l) (e2 : ls′ .stride ≡ set (ls .stride) base s) where
-    made : record { hop = best; link = l; stride = s } ≡ rowBelow σ 0 r t best free 0
+  -- s: the stride read; p: the rows of the child block
+  module _ (some : 0 < k) (best : ℕ) {s p : ℕ} {ls′ : Lists} (es : s ≡ strideAt rows plan k r) (ep : p ≡ 2 ^ s)
+      (e0 : ls′ .hop ≡ set (ls .hop) base best) (e1 : ls′ .link ≡ set (ls .link) base free) (e2 : ls′ .stride ≡ set (ls .stride) base s) where
+    made : record { hop = best; link = free; stride = s } ≡ rowBelow σ 0 r t best free 0
     unfolding rowBelow markAlong subAlong leftOf
     made =
         let b = trunk-child (g .trunk) in
-        let lk : l ≡ linkTo t (free + 0) =
-        ⊎-elim (λ z. el .1 z ∙ sym (b .none z .1 (free + 0))) (λ z. el .0 z ∙ sym (add-zero free) ∙ sym (b .some z .1 (free + 0))) (zero? k) in
-        rw (← lk, es, b .stride)
+        let lk : linkTo t (free + 0) ≡ free = b .some some .1 (free + 0) ∙ add-zero free in
+        rw (lk, es, b .stride)
 
-    pub leaf-gives : FillGives σ t 0 r base best free ls (free + v) ls′
+    pub leaf-gives : FillGives σ t 0 r base best free ls (free + p) ls′
     leaf-gives =
-        let b = trunk-child (g .trunk) in
-        let vw : v ≡ wide σ t 0 0 r =
-        ⊎-elim (λ z. ev .1 z ∙ sym (b .none z .0)) (λ z. ev .0 z ∙ ep ∙ ap (λ (j : ℕ). 2 ^ j) es ∙ sym (b .some z .0)) (zero? k) in
+        let vw : p ≡ wide σ t 0 0 r = ep ∙ ap (λ (j : ℕ). 2 ^ j) es ∙ sym (trunk-child (g .trunk) .some some .0) in
         record {
           next = omega arith;
           wrote = λ x h.
               let z : x ≡ 0 = omega arith in
-              rw (z, add-zero) (row-same (ls .hop) (ls .link) (ls .stride) base best l s e0 e1 e2 (leaf-bounds .own) ∙ made);
-          before = λ i h. row-other (ls .hop) (ls .link) (ls .stride) base best l s e0 e1 e2 i (λ e. omega arith);
-          after = λ i h. row-other (ls .hop) (ls .link) (ls .stride) base best l s e0 e1 e2 i (λ e. omega arith);
+              rw (z, add-zero) (row-same (ls .hop) (ls .link) (ls .stride) base best free s e0 e1 e2 (leaf-bounds .own) ∙ made);
+          before = λ i h. row-other (ls .hop) (ls .link) (ls .stride) base best free s e0 e1 e2 i (λ e. omega arith);
+          after = λ i h. row-other (ls .hop) (ls .link) (ls .stride) base best free s e0 e1 e2 i (λ e. omega arith);
         }
+
+-- ---- no node: all rows are alike
+pub bare-none : {base best : ℕ} {ls : Lists} → Bare base base best ls ls
+bare-none = record { wrote = λ i h l. absurd (omega arith); before = λ i h. refl; after = λ i h. refl }
+
+pub bare-more : {base i best : ℕ} {ls ls′ ls″ : Lists} → base ≤ i → i < shortest ls′ → Bare base i best ls ls′ → ls″ .hop ≡ set (ls′ .hop) i best
+    → ls″ .link ≡ set (ls′ .link) i 0 → ls″ .stride ≡ set (ls′ .stride) i 0 → Bare base (i + 1) best ls ls″
+bare-more {base} {i} {best} {ls} {ls′} le h b e0 e1 e2 =
+    let other = row-other (ls′ .hop) (ls′ .link) (ls′ .stride) i best 0 0 e0 e1 e2 in
+    record {
+      wrote = λ j p q. elim (decLe i j) [
+        | yes r ↦ let z : j ≡ i = omega arith in rw z (row-same (ls′ .hop) (ls′ .link) (ls′ .stride) i best 0 0 e0 e1 e2 h)
+        | no r ↦ other j (λ e. omega arith) ∙ b .wrote j p (omega arith)
+      ];
+      before = λ j p. other j (λ e. omega arith) ∙ b .before j p;
+      after = λ j p. other j (λ e. omega arith) ∙ b .after j (omega arith);
+    }
+
+row-bare : (σ : Strides) (c r best free x : ℕ) → rowBelow σ c r none best free x ≡ record { hop = best; link = 0; stride = 0 }
+unfolding rowBelow
+row-bare σ c r best free x = rw (sub-none c x, mark-none c x best)
+
+wide-none : (σ : Strides) (c r : ℕ) → wide σ none c 0 r ≡ 0
+unfolding wide
+wide-none σ c r = refl
+
+module _ {σ : Strides} {t : Trie} {rows plan : List ℕ} {k c r base free : ℕ} {ls : Lists} (g : FillAsks σ t rows plan k c r base free ls) where
+  pub bare-end : {p : ℕ} → p ≡ 2 ^ c → (base + p ≤ shortest ls) × (base + p ≤ ELEMENTS)
+  bare-end e = (omega (arith, g .own, g .room .fits), omega (arith, g .own, g .room .few))
+
+  pub bare-gives : {p best : ℕ} {ls′ : Lists} → k ≡ 0 → p ≡ 2 ^ c → Bare base (base + p) best ls ls′ → FillGives σ t c r base best free ls free ls′
+  bare-gives {best = best} z e b =
+      let n = trunk-none (g .trunk) z in
+      record {
+        next = rw (n, wide-none σ c r) (omega arith);
+        wrote = λ x h. b .wrote (base + x) (omega arith) (omega arith) ∙ sym (rw n (row-bare σ c r best free x));
+        before = b .before;
+        after = λ i h. b .after i (omega arith);
+      }
 
 -- ---- no bit left
 pub at-leaf : {σ : Strides} {t : Trie} {rows plan : List ℕ} {k c r base free : ℕ} {ls : Lists} → c ≡ 0

@@ -25,6 +25,12 @@ pub record Trunk (σ : Strides) (t : Trie) (rows plan : List ℕ) (k w c r : ℕ
   pub levels : r ≤ length plan
   pub planned : length plan ≤ LEVELS
 
+-- ---- the rows from `base` to before `end`, below which there is no node
+pub record Bare (base end best : ℕ) (ls ls′ : Lists) : Type 0 where
+  pub wrote : (i : ℕ) → base ≤ i → i < end → rowAt ls′ i ≡ record { hop = best; link = 0; stride = 0 }
+  pub before : (i : ℕ) → i < base → rowAt ls′ i ≡ rowAt ls i
+  pub after : (i : ℕ) → end ≤ i → rowAt ls′ i ≡ rowAt ls i
+
 -- ---- the 2 ^ c rows from `base` on, below the trie at link k; child blocks lie from row `free` on
 pub record FillAsks (σ : Strides) (t : Trie) (rows plan : List ℕ) (k c r base free : ℕ) (ls : Lists) : Type 0 where
   pub w : ℕ

@@ -5,10 +5,10 @@ ghost use mathlib.Core.Path.{_≡_};
 ghost use Prim.Native.Nat.{_+_, _*_, _^_, _<_, _≤_};
 ghost use lib.ListN.{length, set};
 ghost use Rattle.tries.specs.Limits.{WIDTH};
-ghost use Rattle.tries.specs.Rows.{lists};
+ghost use Rattle.tries.specs.Rows.{lists, shortest};
 ghost use Rattle.strides.specs.Trie.{newer};
 ghost use Rattle.tries.specs.Scratch.{ROW, ask};
-ghost use Rattle.tries.specs.Filling.{CanFill, Fills, CanBlock, Blocks, CanLevel, Levels, CanLay, Lays};
+ghost use Rattle.tries.specs.Filling.{Bare, CanFill, Fills, CanBlock, Blocks, CanLevel, Levels, CanLay, Lays};
 use crate::scratch::asked;
 use crate::scratch::stride_at;
 
@@ -51,7 +51,19 @@ fn write(hop: &mut [u16], link: &mut [u32], stride: &mut [u8], i: usize, h: u16,
     stride[i] = s as u8;
 }
 
-// Makes the row at the end of a path: a child block begins at the trie of link k, or there is none. Returns the next free row.
+// Writes the rows from `base` to before `end`, below which there is no node: all have the hop `best` and no child.
+fn bare(hop: &mut [u16], link: &mut [u32], stride: &mut [u8], base: usize, end: usize, best: u16)
+    requires { ⌜ (base ≤ end) × (end ≤ shortest (lists (now hop) (now link) (now stride))) ⌝ }
+    ensures { λ _. ⌜ Bare base end best (lists (now (hop .entry)) (now (link .entry)) (now (stride .entry))) (lists (now (hop .exit)) (now (link .exit)) (now (stride .exit))) ⌝ }
+{
+    let mut i = base;
+    while i < end {
+        write(hop, link, stride, i, best, 0, 0);
+        i += 1;
+    }
+}
+
+// Writes the row at the end of a path where a child block begins, at the node of link k. Returns the next free row.
 fn leaf(
     rows: &[u64],
     plan: &[u8],
@@ -64,16 +76,17 @@ fn leaf(
     link: &mut [u32],
     stride: &mut [u8],
 ) -> usize
-    requires { ⌜ CanFill (now rows) (now plan) k 0 r base free (lists (now hop) (now link) (now stride)) ⌝ }
+    requires { ⌜ (0 < k) × CanFill (now rows) (now plan) k 0 r base free (lists (now hop) (now link) (now stride)) ⌝ }
     ensures { λ f. ⌜ Fills (now (rows .entry)) (now (plan .entry)) k 0 r base best free (lists (now (hop .entry)) (now (link .entry)) (now (stride .entry))) f (lists (now (hop .exit)) (now (link .exit)) (now (stride .exit))) ⌝ }
 {
     let s = stride_at(rows, plan, k, r);
-    write(hop, link, stride, base, best, given(k, free), s);
-    free + given(k, power(s))
+    write(hop, link, stride, base, best, free, s);
+    free + power(s)
 }
 
 // Writes the 2 ^ c rows from `base` on, below the trie at link k, where `best` is the hop so far in the block. Child blocks have
-// r levels left and lie from row `free` on; returns the row after them.
+// r levels left and lie from row `free` on; returns the row after them. Most rows of a wide block have no node above them, so
+// those are written in one go.
 fn fill(
     rows: &[u64],
     plan: &[u8],
@@ -90,6 +103,10 @@ fn fill(
     requires { ⌜ CanFill (now rows) (now plan) k c r base free (lists (now hop) (now link) (now stride)) ⌝ }
     ensures { λ f. ⌜ Fills (now (rows .entry)) (now (plan .entry)) k c r base best free (lists (now (hop .entry)) (now (link .entry)) (now (stride .entry))) f (lists (now (hop .exit)) (now (link .exit)) (now (stride .exit))) ⌝ }
 {
+    if k == 0 {
+        bare(hop, link, stride, base, base + power(c), best);
+        return free;
+    }
     if c == 0 {
         return leaf(rows, plan, k, r, base, best, free, hop, link, stride);
     }

@@ -91,7 +91,16 @@ fn build_rows(
     }
     let k = levels as usize;
     let plan = p.plan;
-    lay(scratch, &plan[..k], p.root, width as usize, k, hops, links, strides);
+    lay(
+        scratch,
+        &plan[..k],
+        p.root,
+        width as usize,
+        k,
+        hops,
+        links,
+        strides,
+    );
     let named = p.strides;
     Built {
         outcome: Outcome::Accepted,
@@ -126,7 +135,18 @@ pub fn build(
     if let Outcome::Refused { number, detail } = outcome {
         return refused(number, detail);
     }
-    let built = build_rows(kind, width, levels, value, length, hop, scratch, hops, links, strides);
+    let built = build_rows(
+        kind,
+        width,
+        levels,
+        value,
+        length,
+        hop,
+        scratch,
+        hops,
+        links,
+        strides,
+    );
     zero(scratch);
     built
 }

@@ -3,13 +3,14 @@ use mathlib.Core.Path.{_≡_}
 use native.Mathlib.Omega.{arith}
 use borrow.Author.Needs.{needs}
 use Rattle.strides.specs.Trie.{left, right}
-use Rattle.tries.proofs.Filling.{power-most, at-leaf, from-leaf, half-bounds, left-asks, right-asks, halves-give}
+use Rattle.tries.proofs.Filling.{power-most, bare-end, bare-gives, at-leaf, from-leaf, half-bounds, left-asks, right-asks, halves-give}
 use Prim.Native.Nat.{ℕ, _<_}
 use borrow.Fn.Kinds.{In}
 use borrow.Fn.PlainCycle.{Measures, is, falls, and}
 use Rattle.tries.proofs.builder.fill.Reads as fill
 use Rattle.tries.proofs.builder.fill.Kinds as fill-kinds
 use Rattle.tries.proofs.builder.+fill.Lts-fill as fill-lts
+use Rattle.tries.proofs.builder.bare.Reads as bare-reads
 use Rattle.tries.proofs.builder.best_below.Reads as best-below-reads
 use Rattle.tries.proofs.builder.leaf.Reads as leaf-reads
 use Rattle.tries.proofs.builder.power.Reads as power-reads
@@ -27,12 +28,16 @@ abbrev fill-below : ℕ → In 5 fill-kinds.ps
 fill-below t = and 5 fill-kinds.ps (falls 5 fill-kinds.ps _<_ μ-fill t) fill.Pre
 
 abbrev cs : ℕ → fill-lts.Claims
-cs t = (leaf-reads.Asked, leaf-reads.Learnt, best-below-reads.Asked, best-below-reads.Learnt, asked-reads.Asked, asked-reads.Learnt, power-reads.Asked, power-reads.Learnt, fill-below t, fill.Post)
+cs t = (power-reads.Asked, power-reads.Learnt, bare-reads.Asked, bare-reads.Learnt, leaf-reads.Asked, leaf-reads.Learnt, best-below-reads.Asked, best-below-reads.Learnt, asked-reads.Asked, asked-reads.Learnt, fill-below t, fill.Post)
 
-fill-leaf-requires : (t : ℕ) → fill-lts.Need-leaf-requires (cs t) (fill-at t) fill.Post
-fill-leaf-requires t c κs =
-    let S = c .before .before .before .before .before .before .before .before .before in
-    (S .pre .1 .0, S .pre .1 .1, at-leaf (c .before .before .before .if1 .taken) (S .pre .1 .2))
+fill-power-requires : (t : ℕ) → fill-lts.Need-power-requires (cs t) (fill-at t) fill.Post
+fill-power-requires t c κs = c .before .before .before .before .before .before .before .before .before .pre .1 .2 .short
+
+fill-add-bare : (t : ℕ) → fill-lts.Need-add-bare (cs t) (fill-at t) fill.Post
+fill-add-bare t c = omega (arith, bare-end (c .before .before .before .before .before .before .before .before .before .before .pre .1 .2) (c .power .ensures) .1)
+
+fill-bare-requires : (t : ℕ) → fill-lts.Need-bare-requires (cs t) (fill-at t) fill.Post
+fill-bare-requires t c κs = (omega arith, bare-end (c .before .before .before .before .before .before .before .before .before .before .pre .1 .2) (c .power .ensures) .0)
 
 fill-same-length : (t : ℕ) → fill-lts.Need-same-length (cs t) (fill-at t) fill.Post
 fill-same-length t c = search needs
@@ -44,65 +49,12 @@ fill-same-length-3 : (t : ℕ) → fill-lts.Need-same-length-3 (cs t) (fill-at t
 fill-same-length-3 t c = search needs
 
 fill-returns : (t : ℕ) → fill-lts.Need-returns (cs t) (fill-at t) fill.Post
-fill-returns t c =
-    let z = c .before .before .before .before .before .before .before .before .before .before .if1 .taken in
-    λ σ u g. from-leaf z (c .before .before .before .before .before .before .leaf .ensures σ u (at-leaf z g))
+fill-returns t c = λ σ u g. bare-gives g (c .before .before .before .before .before .before .before .before .before .before .before .if1 .taken) (c .before .before .before .before .before .before .before .power .ensures) (c .before .before .before .before .before .before .bare .ensures)
 
-fill-best-below-requires : (t : ℕ) → fill-lts.Need-best-below-requires (cs t) (fill-at t) fill.Post
-fill-best-below-requires t c κs =
-    let b = half-bounds (c .before .before .before .before .before .before .pre .1 .2) in
-    omega arith
-
-fill-best-below-requires-2 : (t : ℕ) → fill-lts.Need-best-below-requires-2 (cs t) (fill-at t) fill.Post
-fill-best-below-requires-2 t c κs =
-    let b = half-bounds (c .before .before .before .before .before .before .before .pre .1 .2) in
-    omega arith
-
-fill-asked-requires : (t : ℕ) → fill-lts.Need-asked-requires (cs t) (fill-at t) fill.Post
-fill-asked-requires t c κs =
-    let b = half-bounds (c .before .before .before .before .before .before .before .before .pre .1 .2) in
-    omega arith
-
-fill-asked-requires-2 : (t : ℕ) → fill-lts.Need-asked-requires-2 (cs t) (fill-at t) fill.Post
-fill-asked-requires-2 t c κs =
-    let b = half-bounds (c .before .before .before .before .before .before .before .before .before .pre .1 .2) in
-    omega arith
-
-fill-sub-power : (t : ℕ) → fill-lts.Need-sub-power (cs t) (fill-at t) fill.Post
-fill-sub-power t c = omega arith
-
-fill-power-requires : (t : ℕ) → fill-lts.Need-power-requires (cs t) (fill-at t) fill.Post
-fill-power-requires t c κs =
-    let b = half-bounds (c .before .before .before .before .before .before .before .before .before .before .pre .1 .2) in
-    omega arith
-
-fill-sub-fill : (t : ℕ) → fill-lts.Need-sub-fill (cs t) (fill-at t) fill.Post
-fill-sub-fill t c = omega arith
-
-fill-fill-requires : (t : ℕ) → fill-lts.Need-fill-requires (cs t) (fill-at t) fill.Post
-fill-fill-requires t c κs =
-    let S = c .before .before .before .before .before .before .before .before .before .before .before .before .before .before in
-    (omega arith, (S .pre .1 .0, left (S .pre .1 .1), left-asks (S .pre .1 .2) (omega arith) (c .before .before .before .before .before .asked .ensures)))
-
-fill-sub-fill-2 : (t : ℕ) → fill-lts.Need-sub-fill-2 (cs t) (fill-at t) fill.Post
-fill-sub-fill-2 t c = omega arith
-
-fill-add-fill : (t : ℕ) → fill-lts.Need-add-fill (cs t) (fill-at t) fill.Post
-fill-add-fill t c =
-    let b = half-bounds (c .before .before .before .before .before .before .before .before .before .before .before .before .before .before .before .before .before .before .before .before .before .pre .1 .2) in
-    let p = power-most (c .before .before .before .before .before .before .before .before .before .before .power .ensures) (omega arith) in
-    omega arith
-
-fill-fill-requires-2 : (t : ℕ) → fill-lts.Need-fill-requires-2 (cs t) (fill-at t) fill.Post
-fill-fill-requires-2 t c κs =
-    let S = c .before .before .before .before .before .before .before .before .before .before .before .before .before .before .before .before .before .before .before .before .before .before .before .before in
-    let F = c .before .before .before .before .before .before .before .before .before .fill in
-    let ne = c .before .before .before .before .before .before .before .before .before .before .before .before .before .before .before .before .before .before .if1 .left in
-    let e : S .args .c ≡ suc (S .args .c - 1) = omega (arith, ne) in
-    let o = F .ensures (S .pre .1 .0) (left (S .pre .1 .1)) (left-asks (S .pre .1 .2) e (c .before .before .before .before .before .before .before .before .before .before .before .before .before .before .before .asked .ensures)) in (
-      omega (arith, ne, S .pre .0),
-      (S .pre .1 .0, right (S .pre .1 .1), right-asks (S .pre .1 .2) e (omega arith) o (c .before .before .before .before .before .before .before .before .before .before .before .before .before .power .ensures) (c .before .before .before .before .before .before .before .before .before .before .before .before .before .before .asked2 .ensures)),
-    )
+fill-leaf-requires : (t : ℕ) → fill-lts.Need-leaf-requires (cs t) (fill-at t) fill.Post
+fill-leaf-requires t c κs =
+    let S = c .before .before .before .before .before .before .before .before .before .before in
+    (omega (arith, c .before .before .before .before .if1 .left), (S .pre .1 .0, S .pre .1 .1, at-leaf (c .before .before .before .if2 .taken) (S .pre .1 .2)))
 
 fill-same-length-4 : (t : ℕ) → fill-lts.Need-same-length-4 (cs t) (fill-at t) fill.Post
 fill-same-length-4 t c = search needs
@@ -115,10 +67,80 @@ fill-same-length-6 t c = search needs
 
 fill-returns-2 : (t : ℕ) → fill-lts.Need-returns-2 (cs t) (fill-at t) fill.Post
 fill-returns-2 t c =
-    let S = c .before .before .before .before .before .before .before .before .before .before .before .before .before .before .before .before .before .before .before .before .before .before .before .before .before .before .before .before .before .before .before in
+    let z = c .before .before .before .before .before .before .before .before .before .before .if2 .taken in
+    λ σ u g. from-leaf z (c .before .before .before .before .before .before .leaf .ensures σ u (at-leaf z g))
+
+fill-best-below-requires : (t : ℕ) → fill-lts.Need-best-below-requires (cs t) (fill-at t) fill.Post
+fill-best-below-requires t c κs =
+    let b = half-bounds (c .before .before .before .before .before .before .before .pre .1 .2) in
+    omega arith
+
+fill-best-below-requires-2 : (t : ℕ) → fill-lts.Need-best-below-requires-2 (cs t) (fill-at t) fill.Post
+fill-best-below-requires-2 t c κs =
+    let b = half-bounds (c .before .before .before .before .before .before .before .before .pre .1 .2) in
+    omega arith
+
+fill-asked-requires : (t : ℕ) → fill-lts.Need-asked-requires (cs t) (fill-at t) fill.Post
+fill-asked-requires t c κs =
+    let b = half-bounds (c .before .before .before .before .before .before .before .before .before .pre .1 .2) in
+    omega arith
+
+fill-asked-requires-2 : (t : ℕ) → fill-lts.Need-asked-requires-2 (cs t) (fill-at t) fill.Post
+fill-asked-requires-2 t c κs =
+    let b = half-bounds (c .before .before .before .before .before .before .before .before .before .before .pre .1 .2) in
+    omega arith
+
+fill-sub-power : (t : ℕ) → fill-lts.Need-sub-power (cs t) (fill-at t) fill.Post
+fill-sub-power t c = omega arith
+
+fill-power-requires-2 : (t : ℕ) → fill-lts.Need-power-requires-2 (cs t) (fill-at t) fill.Post
+fill-power-requires-2 t c κs =
+    let b = half-bounds (c .before .before .before .before .before .before .before .before .before .before .before .pre .1 .2) in
+    omega arith
+
+fill-sub-fill : (t : ℕ) → fill-lts.Need-sub-fill (cs t) (fill-at t) fill.Post
+fill-sub-fill t c = omega arith
+
+fill-fill-requires : (t : ℕ) → fill-lts.Need-fill-requires (cs t) (fill-at t) fill.Post
+fill-fill-requires t c κs =
+    let S = c .before .before .before .before .before .before .before .before .before .before .before .before .before .before .before in
+    (omega arith, (S .pre .1 .0, left (S .pre .1 .1), left-asks (S .pre .1 .2) (omega arith) (c .before .before .before .before .before .asked .ensures)))
+
+fill-sub-fill-2 : (t : ℕ) → fill-lts.Need-sub-fill-2 (cs t) (fill-at t) fill.Post
+fill-sub-fill-2 t c = omega arith
+
+fill-add-fill : (t : ℕ) → fill-lts.Need-add-fill (cs t) (fill-at t) fill.Post
+fill-add-fill t c =
+    let b = half-bounds (c .before .before .before .before .before .before .before .before .before .before .before .before .before .before .before .before .before .before .before .before .before .before .pre .1 .2) in
+    let p = power-most (c .before .before .before .before .before .before .before .before .before .before .power2 .ensures) (omega arith) in
+    omega arith
+
+fill-fill-requires-2 : (t : ℕ) → fill-lts.Need-fill-requires-2 (cs t) (fill-at t) fill.Post
+fill-fill-requires-2 t c κs =
+    let S = c .before .before .before .before .before .before .before .before .before .before .before .before .before .before .before .before .before .before .before .before .before .before .before .before .before in
+    let F = c .before .before .before .before .before .before .before .before .before .fill in
+    let ne = c .before .before .before .before .before .before .before .before .before .before .before .before .before .before .before .before .before .before .if2 .left in
+    let e : S .args .c ≡ suc (S .args .c - 1) = omega (arith, ne) in
+    let o = F .ensures (S .pre .1 .0) (left (S .pre .1 .1)) (left-asks (S .pre .1 .2) e (c .before .before .before .before .before .before .before .before .before .before .before .before .before .before .before .asked .ensures)) in (
+      omega (arith, ne, S .pre .0),
+      (S .pre .1 .0, right (S .pre .1 .1), right-asks (S .pre .1 .2) e (omega arith) o (c .before .before .before .before .before .before .before .before .before .before .before .before .before .power2 .ensures) (c .before .before .before .before .before .before .before .before .before .before .before .before .before .before .asked2 .ensures)),
+    )
+
+fill-same-length-7 : (t : ℕ) → fill-lts.Need-same-length-7 (cs t) (fill-at t) fill.Post
+fill-same-length-7 t c = search needs
+
+fill-same-length-8 : (t : ℕ) → fill-lts.Need-same-length-8 (cs t) (fill-at t) fill.Post
+fill-same-length-8 t c = search needs
+
+fill-same-length-9 : (t : ℕ) → fill-lts.Need-same-length-9 (cs t) (fill-at t) fill.Post
+fill-same-length-9 t c = search needs
+
+fill-returns-3 : (t : ℕ) → fill-lts.Need-returns-3 (cs t) (fill-at t) fill.Post
+fill-returns-3 t c =
+    let S = c .before .before .before .before .before .before .before .before .before .before .before .before .before .before .before .before .before .before .before .before .before .before .before .before .before .before .before .before .before .before .before .before in
     let F = c .before .before .before .before .before .before .before .before .before .before .before .before .before .before .before .before .fill in
-    let P = c .before .before .before .before .before .before .before .before .before .before .before .before .before .before .before .before .before .before .before .before .power .ensures in
-    let e : S .args .c ≡ suc (S .args .c - 1) = omega (arith, c .before .before .before .before .before .before .before .before .before .before .before .before .before .before .before .before .before .before .before .before .before .before .before .before .before .if1 .left) in
+    let P = c .before .before .before .before .before .before .before .before .before .before .before .before .before .before .before .before .before .before .before .before .power2 .ensures in
+    let e : S .args .c ≡ suc (S .args .c - 1) = omega (arith, c .before .before .before .before .before .before .before .before .before .before .before .before .before .before .before .before .before .before .before .before .before .before .before .before .before .if2 .left) in
     λ σ u g.
     let o = F .ensures σ (left u) (left-asks g e (c .before .before .before .before .before .before .before .before .before .before .before .before .before .before .before .before .before .before .before .before .before .before .asked .ensures)) in
     halves-give g e (omega (arith, F .kept)) o P (c .before .before .before .before .before .before .before .before .before .before .before .before .before .before .before .before .before .before .before .before .before .before .before .before .best-below .ensures) (c .before .before .before .before .before .before .before .before .before .before .before .before .before .before .before .before .before .before .before .before .before .before .before .best-below2 .ensures)
@@ -128,23 +150,30 @@ pub +fill-spec : {M : Type 1} → statement M
 +fill-spec = close μ-fill λ t. fill-lts.spec (cs t)
     (fill-at t)
     fill.Post
-    (fill-leaf-requires t)
+    (fill-power-requires t)
+    (fill-add-bare t)
+    (fill-bare-requires t)
     (fill-same-length t)
     (fill-same-length-2 t)
     (fill-same-length-3 t)
     (fill-returns t)
+    (fill-leaf-requires t)
+    (fill-same-length-4 t)
+    (fill-same-length-5 t)
+    (fill-same-length-6 t)
+    (fill-returns-2 t)
     (fill-best-below-requires t)
     (fill-best-below-requires-2 t)
     (fill-asked-requires t)
     (fill-asked-requires-2 t)
     (fill-sub-power t)
-    (fill-power-requires t)
+    (fill-power-requires-2 t)
     (fill-sub-fill t)
     (fill-fill-requires t)
     (fill-sub-fill-2 t)
     (fill-add-fill t)
     (fill-fill-requires-2 t)
-    (fill-same-length-4 t)
-    (fill-same-length-5 t)
-    (fill-same-length-6 t)
-    (fill-returns-2 t)
+    (fill-same-length-7 t)
+    (fill-same-length-8 t)
+    (fill-same-length-9 t)
+    (fill-returns-3 t)
