@@ -14,7 +14,7 @@ use Rattle.tries.specs.Build.{BuildIs}
 use Rattle.tries.specs.Built.{tableTrie, Laid}
 use Rattle.tries.specs.Scratch.{ROW}
 use Rattle.tries.specs.declared.record.Record.{Record}
-use Rattle.tries.proofs.Demands.{hop-longest, reads-blocks}
+use Rattle.tries.proofs.Laid.{hop-longest, reads-blocks}
 use Rattle.sheet.specs.Limits.{LENT-ROWS, LENT-ELEMENTS}
 use Rattle.sheet.specs.Lent.{LentQueries}
 use Rattle.sheet.specs.Report.{refusalLines}

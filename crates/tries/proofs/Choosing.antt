@@ -21,6 +21,7 @@ use Rattle.table.specs.declared.entry.Outcome.{Outcome}
 use Rattle.table.specs.declared.entry.Outcome.the-variants.{Accepted, Refused}
 use Rattle.table.proofs.Refusals.{outcome-fails, outcome-passes, outcome-append, outcome-gives, gives-unique, gives-outcome, refused-not-accepted, accepted-passes, accepted-parts}
 use Rattle.table.proofs.Table.{width-is, accepted-table, entries-rise}
+use Rattle.table.proofs.Numbered.{Numbered, numbered-append, numbered-lists}
 use Rattle.strides.specs.Trie.{Trie, none, node, bit, depth, size, nodesAt}
 use Rattle.strides.specs.Entries.{trieOf}
 use Rattle.strides.specs.Insertion.{nodeCount}
@@ -104,6 +105,12 @@ module _ (W k : ℕ) (vs ls hs : List ℕ) (words : ℕ) where
       tests-pass e c q h = tests-rest ∙ rw (e, ← q, le-ltb (words / ROW) c h)
 
 -- what acceptance says
+pub numbered-choose : (W : ℕ) (vs ls hs : List ℕ) (k words : ℕ) → Numbered 6 (chooseTests W k vs ls hs words)
+unfolding chooseTests
+numbered-choose W vs ls hs k words =
+    let lists = numbered-append 6 (listTests W vs ls hs) (scratchTest W vs ls hs words ∷ []) (numbered-lists 6 (omega arith) W vs ls hs) ((omega arith, omega arith), tt) in
+    ((omega arith, omega arith), ((omega arith, omega arith), lists))
+
 pub accepted-levels : (W k : ℕ) (vs ls hs : List ℕ) (words : ℕ) → outcome (chooseTests W k vs ls hs words) ≡ Accepted → Within k LEVELS
 unfolding chooseTests
 accepted-levels W k vs ls hs words e =

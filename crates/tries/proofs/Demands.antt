@@ -1,112 +1,242 @@
--- Demands 2 and 3 over what a build leaves: a record and lists that are `Laid` for a table, with any strides that can be built and
--- any k. Nothing here knows how the strides were chosen; that they are the cheapest is said of the chooser, and E is their cost.
-use Prim.Native.Nat.{ℕ, zero, suc, _+_, _-_, _^_, _≤_, _<_}
-use mathlib.Core.Path.{_≡_, refl, sym, _∙_}
-use mathlib.Core.Bool.{true≢false}
-use mathlib.Core.Logic.{_↔_}
-use mathlib.Core.List.{List, map, List·Memᴰ}
+-- The bureau's three demands, sentence by sentence, as theorems over what the public calls promise: their meaning, not how it is
+-- found. A promise stands for its call: Gives for `check_table`, Shares for `shared_length`, Spans for `zone_span`, HandsBack for
+-- `zone`, Chooses for the choosers, Builds for `build`, Looked for `lookup`. A list that a call borrows to read cannot change.
+use Prim.Native.Nat.{ℕ, _^_, _≤_, _<_}
+use mathlib.Core.Path.{_≡_, refl, sym, ap, subst, _∙_}
+use mathlib.Core.Bool.{Bool, true, false, _||_}
+use mathlib.Core.List.{List, [], _∷_, List·Memᴰ}
+use mathlib.Core.Logic.{_⊎_, inl, inr, ⊎-elim, _↔_}
 use native.Mathlib.Omega.{arith}
-use lib.ListN.{length}
-use borrow.Author.Tests.{ne-eqb}
-use Rattle.table.specs.Prefix.{start}
-use Rattle.table.specs.Table.{at}
-use Rattle.table.specs.Longest.{matches, winner, winnerIn, longest, ofWinner, Wins, none, some}
-use Rattle.table.proofs.Table.{hop-positive}
-use Rattle.table.proofs.Longest.{best-wins}
-use Rattle.strides.specs.Strides.{costBy}
-use Rattle.strides.proofs.Longest.{mark-block, last-mark-is-longest}
+use native.Mathlib.Decide.{decLe}
+use lib.Dec.{ltb}
+use lib.ListN.{length, replicate}
+use denote.Ref.{RefT, now}
+use borrow.Author.Tests.{lt-ltb, le-ltb}
+use Rattle.table.specs.Refusals.{Test, outcome, Gives}
+use Rattle.table.specs.Table.{tableTests}
+use Rattle.table.specs.Zone.{PartOf}
+use Rattle.table.specs.Answers.{sharedOutcome, sharedTests, Shares, spanOutcome, spanIndex, spanCount, zoneTests, Spans, PartFor, HandsBack}
+use Rattle.table.specs.declared.entry.Outcome.{Outcome}
+use Rattle.table.specs.declared.entry.Outcome.the-variants.{Accepted, Refused}
+use Rattle.table.specs.declared.sharing.Shared.{Shared}
+use Rattle.table.specs.declared.zoning.Span.{Span}
+use Rattle.table.specs.declared.zoning.Span.the-variants.{Part}
+use Rattle.table.proofs.Refusals.{outcome-gives, outcome-fails, outcome-passes, gives-outcome, gives-unique, refused-not-accepted}
+use Rattle.table.proofs.Numbered.{refused-number}
+use Rattle.strides.specs.Cheapest.{Kind, Cheapest}
+use Rattle.strides.specs.Recurrence.{plain, leastBy}
+use Rattle.strides.proofs.Cheapest.{least-cheapest}
+use Rattle.strides.proofs.Follows.{follows-cheapest}
 use Rattle.tries.specs.declared.record.Record.{Record}
 use Rattle.tries.specs.declared.walk.Answer.{Answer}
 use Rattle.tries.specs.declared.walk.Answer.the-variants.{NoRoute}
+use Rattle.tries.specs.Limits.{WIDTH, LEVELS, ELEMENTS}
 use Rattle.tries.specs.Rows.{Lists, shortest, rowAt}
-use Rattle.tries.specs.Answers.{hopOf, readsOf, Accepted, answer}
+use Rattle.tries.specs.Answers.{numberOf, hopOf, readsOf, latest}
 use Rattle.tries.specs.Lookup.{pathRows, lookupOf}
-use Rattle.tries.specs.Blocks.{Strides, blocksAlong, rowsAlong}
-use Rattle.tries.specs.Built.{tableTrie, Laid, NoMatch, Longest, found, nothing}
-use Rattle.tries.proofs.Reading.{answer-has, reads-most, lookup-local}
-use Rattle.tries.proofs.Cost.{count-cost}
-use Rattle.tries.proofs.Answering.{path-exactly, lookup-built, hops-built}
+use Rattle.tries.specs.Meaning.{OnPath, Tested, Looked, refused, accepted}
+use Rattle.tries.specs.Levels.{padded}
+use Rattle.tries.specs.Blocks.{rowsAlong}
+use Rattle.tries.specs.Built.{tableTrie, NoMatch, Longest}
+use Rattle.tries.specs.Chooser.{chooseTests, Chooses}
+use Rattle.tries.specs.Build.{roomTest, buildTests, NoRecord, Builds}
+use Rattle.tries.proofs.Unique.{tested-unique, looked-unique}
+use Rattle.tries.proofs.Looked.{looked}
+use Rattle.tries.proofs.Reading.{answer-number, path-rows, reads-path, reads-most, lookup-local}
+use Rattle.tries.proofs.Laid.{blocks, laid-longest, no-route, rows-exactly, reads-blocks, reads-few, rows-alone, elements-cost, one-answer}
+use Rattle.tries.proofs.Choosing.{numbered-choose}
+use Rattle.tries.proofs.Builds.{early, late}
 
-module _ {most W : ℕ} {vs ls hs : List ℕ} {σ : Strides} {k : ℕ} {rec : Record} {rows : Lists} (g : Laid most W vs ls hs σ k rec rows) where
-  hop-some : (i : ℕ) → i < length vs → 0 < at hs i
-  hop-some i h = hop-positive (at hs i) (g .table .entry i h .good-hop)
+-- ==== demand 1: bad input is refused by number, in a fixed order; the numbers say what is returned and what each list then holds
 
-  -- the number of blocks on the address's path: of the nodes that begin it and at which the strides begin a block
-  abbrev pub blocks : (a : ℕ) → ℕ
-  blocks a = length (blocksAlong σ W (tableTrie W vs ls hs) 0 0 k a)
+-- an outcome is given exactly when the tests give it: the refusal of the first that fails, or acceptance where none does
+exactly : (ts : List Test) {out : Outcome} → Gives ts out → (o : Outcome) → (out ≡ o) ↔ Gives ts o
+exactly ts {out} g o = (λ (e : out ≡ o). subst (Gives ts) e g, λ (h : Gives ts o). gives-unique ts out o g h)
 
-  -- ---- demand 3: E is what the strides cost
-  pub elements-cost : rec .elements ≡ costBy σ (tableTrie W vs ls hs) 0 k
-  elements-cost = g .built .elements ∙ rw (g .levels) (count-cost σ (tableTrie W vs ls hs) k)
+pub check-first : (W : ℕ) (vs ls hs : List ℕ) {out : Outcome} → Gives (tableTests W vs ls hs) out → (o : Outcome)
+    → (out ≡ o) ↔ Gives (tableTests W vs ls hs) o
+check-first W vs ls hs = exactly (tableTests W vs ls hs)
 
-  module _ (a : ℕ) (small : a < 2 ^ W) where
-    -- ---- demand 2
-    pub lookup-longest : lookupOf most rec rows a ≡ answer (longest W (at vs) (at ls) (at hs) (length vs) a) (blocks a)
-    lookup-longest =
-        let along = last-mark-is-longest W (at vs) (at ls) (at hs) (length vs) (λ i h. g .table .entry i h .prefix) hop-some a small in
-        lookup-built (g .built) a (rw (g .width) small) ∙ rw (g .width, g .levels, g .floor, along)
+pub shared-first : (W a l b m : ℕ) {r : Shared} → Shares W a l b m r → (o : Outcome) → (sharedOutcome r ≡ o) ↔ Gives (sharedTests W a l b m) o
+shared-first W a l b m s = exactly (sharedTests W a l b m) (s .tested)
 
-    -- the lookup is accepted; it is a match with the hop of the longest prefix, or no route where no prefix begins the address
-    pub demand-two : Longest W vs ls hs a (blocks a) (lookupOf most rec rows a)
-    unfolding longest winner ofWinner answer
-    demand-two = rw lookup-longest (go _ (best-wins (matches W (at vs) (at ls) a) (at ls) (length vs)))
-      where
-        go : (b : ℕ) → Wins (matches W (at vs) (at ls) a) (at ls) (length vs) b
-            → Longest W vs ls hs a (blocks a) (answer (ofWinner (at hs) b) (blocks a))
-        go zero (none nil) = nothing nil
-        go (suc j) (some r) = rw (ne-eqb (at hs j) 0 (λ e. omega (arith, hop-some j (r .inside)))) (found r)
+pub span-first : (W : ℕ) (vs ls hs : List ℕ) (p b : ℕ) {r : Span} → Spans W vs ls hs p b r → (o : Outcome)
+    → (spanOutcome r ≡ o) ↔ Gives (zoneTests W vs ls hs p b) o
+span-first W vs ls hs p b s = exactly (zoneTests W vs ls hs p b) (s .tested)
 
-    pub accepted : Accepted (lookupOf most rec rows a)
-    accepted = go demand-two
-      where
-        go : {r : Answer} → Longest W vs ls hs a (blocks a) r → Accepted r
-        go (found b) = refl
-        go (nothing nil) = refl
+-- refused, the part handed back is the empty part at 0
+pub zone-refused : (W : ℕ) (v : RefT (List ℕ)) (ls hs : List ℕ) (p b n d : ℕ) {r : RefT (List ℕ)} → HandsBack W v ls hs p b r
+    → Gives (zoneTests W (now v) ls hs p b) (Refused n d) → PartOf v r 0 0
+unfolding spanOutcome spanIndex spanCount
+zone-refused W v ls hs p b n d {r} h g = go (h .0) (gives-unique (zoneTests W (now v) ls hs p b) _ _ (h .1 .tested) g) (h .2)
+  where
+    go : (z : Span) → spanOutcome z ≡ Refused n d → PartFor v r z → PartOf v r 0 0
+    go (Part i k) e q = absurd (refused-not-accepted (sym e))
+    go (Span.Refused x y) e q = q
 
-    pub hop-longest : hopOf (lookupOf most rec rows a) ≡ longest W (at vs) (at ls) (at hs) (length vs) a
-    hop-longest = rw lookup-longest (answer-has _ (blocks a) .0)
+module _ {kind : Kind} {W k : ℕ} {vs ls hs scratch : List ℕ} {out : Outcome} {cost : ℕ} {strides s : List ℕ}
+    (c : Chooses kind W k vs ls hs scratch out cost strides s) where
+  pub choose-first : (o : Outcome) → (out ≡ o) ↔ Gives (chooseTests W k vs ls hs (length scratch)) o
+  choose-first = exactly (chooseTests W k vs ls hs (length scratch)) (c .tested)
 
-    -- no route exactly when no prefix begins the address
-    pub no-route : (lookupOf most rec rows a ≡ NoRoute (blocks a)) ↔ NoMatch W vs ls a
-    no-route = (λ e. to demand-two e, λ nil. from demand-two nil)
-      where
-        to : {r : Answer} → Longest W vs ls hs a (blocks a) r → r ≡ NoRoute (blocks a) → NoMatch W vs ls a
-        to (nothing nil) e = nil
-        to (found b) e = absurd (let z : _≡_ {A = ℕ} 0 1 = cc in omega arith)
+  -- refused, it answers cost 0 and zero strides and changes nothing; accepted, it zeroes all scratch
+  pub choose-refused : {n d : ℕ} → out ≡ Refused n d → (cost ≡ 0) × (strides ≡ padded LEVELS []) × (s ≡ scratch)
+  choose-refused e = c .refused (λ a. refused-not-accepted (sym e ∙ a))
 
-        from : {r : Answer} → Longest W vs ls hs a (blocks a) r → NoMatch W vs ls a → r ≡ NoRoute (blocks a)
-        from (nothing nil) n = refl
-        from (found {j = j} b) n = absurd (true≢false (sym (b .marked) ∙ n j (b .inside)))
+  pub choose-accepted : out ≡ Accepted → s ≡ replicate (length scratch) 0
+  choose-accepted = c .zeroed
 
-    -- ---- demand 3: the rows read are those of the blocks on the path, and no other row matters
-    pub rows-exactly : pathRows rec rows a ≡ rowsAlong σ W k (tableTrie W vs ls hs) a
-    rows-exactly = path-exactly (g .built) a (rw (g .width) small) ∙ rw (g .width, g .levels)
+module _ {kind : Kind} {W k : ℕ} {vs ls hs scratch : List ℕ} {rows : Lists} {out : Outcome} {rec : Record} {s : List ℕ} {rows′ : Lists}
+    (b : Builds kind W k vs ls hs scratch rows out rec s rows′) where
+  abbrev tests : List Test
+  tests = chooseTests W k vs ls hs (length scratch)
 
-    -- the row read in a block of stride s at depth d has the hop of the longest entry with length above d and at most d + s that
-    -- begins the address, else 0
-    pub hops-exactly : map (λ r. rowAt rows r .hop) (pathRows rec rows a)
-        ≡ map (λ b. ofWinner (at hs) (winnerIn W (at vs) (at ls) (length vs) (W - b .bits) (W - b .bits + b .stride) a))
-        (blocksAlong σ W (tableTrie W vs ls hs) 0 0 k a)
-    unfolding start
-    hops-exactly =
-        let block = mark-block W (at vs) (at ls) (at hs) (length vs) (λ i h. g .table .entry i h .prefix) hop-some a small in
-        hops-built (g .built) a (rw (g .width) small) (λ d l. ofWinner (at hs) (winnerIn W (at vs) (at ls) (length vs) d l a))
-        (rw (g .width) block)
-        ∙ rw (g .width, g .levels)
+  -- where 1 to 6 pass, the least cost is that of all choices of the kind with at most k levels
+  pub build-first : (least : ℕ) → (1 ≤ k → Cheapest kind k (tableTrie W vs ls hs) least) → (o : Outcome)
+      → (out ≡ o) ↔ Gives (buildTests W k vs ls hs (length scratch) (shortest rows) least) o
+  build-first least c = exactly (buildTests W k vs ls hs (length scratch) (shortest rows) least) (b .tested least c)
 
-    pub reads-blocks : readsOf (lookupOf most rec rows a) ≡ blocks a
-    reads-blocks = rw lookup-longest (answer-has _ (blocks a) .1)
+  passes : Gives tests Accepted → (least : ℕ) → Cheapest kind k (tableTrie W vs ls hs) least → out ≡ outcome (roomTest least (shortest rows) ∷ [])
+  passes g least c =
+      gives-outcome (buildTests W k vs ls hs (length scratch) (shortest rows) least) out (b .tested least (λ h. c))
+      ∙ late W k vs ls hs (length scratch) (shortest rows) least (sym (gives-outcome tests Accepted g))
 
-    pub reads-few : readsOf (lookupOf most rec rows a) ≤ k
-    reads-few = omega (arith, reads-most most rec rows a, g .levels)
+  -- refusals 1 to 6 change no list
+  pub refused-early : {n d : ℕ} → Gives tests (Refused n d) → (out ≡ Refused n d) × NoRecord rec × (s ≡ scratch) × (rows′ ≡ rows)
+  refused-early {n} {d} g =
+      let least = leastBy plain kind k (tableTrie W vs ls hs) in
+      let e : out ≡ Refused n d =
+      gives-outcome (buildTests W k vs ls hs (length scratch) (shortest rows) least) out (b .tested least (least-cheapest kind k (tableTrie W vs ls hs)))
+      ∙ early W k vs ls hs (length scratch) (shortest rows) least (sym (gives-outcome tests (Refused n d) g)) in
+      let kept = b .keeps .refused (λ a. refused-not-accepted (sym e ∙ a)) in
+      (e, kept .0, b .untouched (λ a. refused-not-accepted (gives-unique tests (Refused n d) Accepted g a)), kept .1)
 
-    pub rows-alone : (rows′ : Lists) → rec .elements ≤ shortest rows′
-        → ((r : ℕ) → List·Memᴰ r (rowsAlong σ W k (tableTrie W vs ls hs) a) → rowAt rows r ≡ rowAt rows′ r)
-        → lookupOf most rec rows a ≡ lookupOf most rec rows′ a
-    rows-alone rows′ h same = lookup-local rec a rows rows′ (rw rows-exactly same) most (g .built .room) h
+  -- refusal 7 zeroes all scratch and changes no element
+  pub refused-room : {d : ℕ} → out ≡ Refused 7 d → NoRecord rec × (s ≡ replicate (length scratch) 0) × (rows′ ≡ rows)
+  refused-room {d} e =
+      let kept = b .keeps .refused (λ a. refused-not-accepted (sym e ∙ a)) in
+      (kept .0, b .zeroed (go (outcome tests) refl), kept .1)
+    where
+      seven : {n x : ℕ} → Refused n x ≡ Refused 7 d → n ≡ 7
+      seven q = cc
 
--- one table, one answer: two builds of a table, of any strides, k and lists, answer every address alike in hop
-pub one-answer : {most W : ℕ} {vs ls hs : List ℕ} {σ σ′ : Strides} {k k′ : ℕ} {rec rec′ : Record} {rows rows′ : Lists}
-    → Laid most W vs ls hs σ k rec rows → Laid most W vs ls hs σ′ k′ rec′ rows′ → (a : ℕ) → a < 2 ^ W
-    → hopOf (lookupOf most rec rows a) ≡ hopOf (lookupOf most rec′ rows′ a)
-one-answer g g′ a small = hop-longest g a small ∙ sym (hop-longest g′ a small)
+      go : (o : Outcome) → outcome tests ≡ o → Gives tests Accepted
+      go Accepted p = subst (Gives tests) p (outcome-gives tests)
+      go (Refused n x) p =
+          let g = subst (Gives tests) p (outcome-gives tests) in
+          absurd (omega (arith, refused-number 6 tests n x (numbered-choose W vs ls hs k (length scratch)) g, seven (sym (refused-early g .0) ∙ e)))
+
+  -- an accepted build zeroes all scratch, writes rows 0 to E - 1 and keeps later rows
+  pub build-accepted : out ≡ Accepted → (s ≡ replicate (length scratch) 0) × ((i : ℕ) → rec .elements ≤ i → rowAt rows′ i ≡ rowAt rows i)
+  build-accepted e = (b .zeroed (go (outcome tests) refl), b .keeps .later e)
+    where
+      go : (o : Outcome) → outcome tests ≡ o → Gives tests Accepted
+      go Accepted p = subst (Gives tests) p (outcome-gives tests)
+      go (Refused n x) p = absurd (refused-not-accepted (sym (refused-early (subst (Gives tests) p (outcome-gives tests)) .0) ∙ e))
+
+-- a lookup gives number n exactly when test n is the first that fails, 0 when none does; refused, it has no hop and 0 reads
+module _ {most : ℕ} {rec : Record} {ls : Lists} {a : ℕ} where
+  looked-tested : {r : Answer} → Looked most rec ls a r → Tested most rec ls a (numberOf r)
+  looked-tested (refused t h) = t
+  looked-tested (accepted {rs = rs} t o e) = rw (e, answer-number (latest (rowAt ls) (rec .floor) rs) (length rs)) t
+
+  pub lookup-first : {r : Answer} → Looked most rec ls a r → (n : ℕ) → (numberOf r ≡ n) ↔ Tested most rec ls a n
+  lookup-first {r} l n = (λ (e : numberOf r ≡ n). subst (Tested most rec ls a) e (looked-tested l), λ t. tested-unique (looked-tested l) t)
+
+  pub lookup-refused : {r : Answer} → Looked most rec ls a r → 0 < numberOf r → (hopOf r ≡ 0) × (readsOf r ≡ 0)
+  lookup-refused (refused t h) g = (refl, refl)
+  lookup-refused (accepted {rs = rs} t o e) g = absurd (omega (arith, ap numberOf e, answer-number (latest (rowAt ls) (rec .floor) rs) (length rs)))
+
+-- ==== demands 2 and 3 over one accepted build, and a lookup over what it left
+
+module _ {kind : Kind} {W k : ℕ} {vs ls hs scratch : List ℕ} {rows : Lists} {out : Outcome} {rec : Record} {s : List ℕ} {rows′ : Lists}
+    (b : Builds kind W k vs ls hs scratch rows out rec s rows′) where
+  -- ---- demand 3: the build uses the fewest elements that any stride choice of the kind with at most k levels needs
+  pub build-fewest : out ≡ Accepted → Cheapest kind k (tableTrie W vs ls hs) (rec .elements)
+  build-fewest e =
+      let l = b .laid e in
+      let some : 1 ≤ k = omega (arith, l .2 .levels, l .2 .built .levels .0) in
+      subst (Cheapest kind k (tableTrie W vs ls hs)) (sym (elements-cost (l .2))) (follows-cheapest kind k (tableTrie W vs ls hs) (l .0) some (l .1))
+
+  -- for a well-formed table, an allowed k and enough scratch, it is refused for room exactly when that least number exceeds the room
+  -- lent or the most elements
+  pub room-refused : {least : ℕ} → Cheapest kind k (tableTrie W vs ls hs) least → Gives (chooseTests W k vs ls hs (length scratch)) Accepted
+      → (out ≡ Refused 7 least) ↔ ((shortest rows < least) ⊎ (ELEMENTS < least))
+  unfolding outcome
+  room-refused {least} c g = (λ e. over e, λ m. ⊎-elim (λ (h : shortest rows < least). refuses (rw (lt-ltb (shortest rows) least h) refl)) (λ (h : ELEMENTS < least). refuses (rw (lt-ltb ELEMENTS least h) (or-true (ltb (shortest rows) least)))) m)
+    where
+      is : out ≡ outcome (roomTest least (shortest rows) ∷ [])
+      is = passes b g least c
+
+      or-true : (x : Bool) → (x || true) ≡ true
+      or-true true = refl
+      or-true false = refl
+
+      refuses : (ltb (shortest rows) least || ltb ELEMENTS least) ≡ true → out ≡ Refused 7 least
+      refuses f = is ∙ outcome-fails (roomTest least (shortest rows)) [] f
+
+      over : out ≡ Refused 7 least → (shortest rows < least) ⊎ (ELEMENTS < least)
+      over e = elim (decLe least (shortest rows)) [
+        | no l ↦ inl (omega arith)
+        | yes l ↦ elim (decLe least ELEMENTS) [
+          | no m ↦ inr (omega arith)
+          | yes m ↦ absurd (refused-not-accepted (sym e ∙ is ∙ outcome-passes (roomTest least (shortest rows)) [] (rw (le-ltb (shortest rows) least l, le-ltb ELEMENTS least m) refl)))
+        ]
+      ]
+
+  module _ (e : out ≡ Accepted) (a : ℕ) (h : a < 2 ^ W) {r : Answer} (l : Looked WIDTH rec rows′ a r) where
+    is-looked : r ≡ lookupOf WIDTH rec rows′ a
+    is-looked = looked-unique l (looked WIDTH rec rows′ a)
+
+    -- ---- demand 2: the hop of the longest table prefix that begins the address, for either kind
+    pub build-longest : Longest W vs ls hs a (readsOf r) r
+    build-longest =
+        let g = b .laid e .2 in
+        rw is-looked (subst (λ (x : ℕ). Longest W vs ls hs a x (lookupOf WIDTH rec rows′ a)) (sym (reads-blocks g a h)) (laid-longest g a h))
+
+    -- they say that there is none exactly when no prefix does
+    pub build-none : (r ≡ NoRoute (readsOf r)) ↔ NoMatch W vs ls a
+    build-none = let g = b .laid e .2 in rw (is-looked, reads-blocks g a h) (no-route g a h)
+
+    -- ---- demand 3: the rows on the path are exactly those of the blocks of the 1-bit nodes that begin the address and at which the
+    -- chosen strides begin a block: the block's first row plus the next s bits
+    pub build-path : {rs : List ℕ} → OnPath rec rows′ a rs → rs ≡ rowsAlong (b .laid e .0) W k (tableTrie W vs ls hs) a
+    build-path o = sym (path-rows rec rows′ a o) ∙ rows-exactly (b .laid e .2) a h
+
+    -- r reads are r such blocks, never above k
+    pub build-blocks : readsOf r ≡ blocks (b .laid e .2) a
+    build-blocks = ap readsOf is-looked ∙ reads-blocks (b .laid e .2) a h
+
+    pub build-reads : readsOf r ≤ k
+    build-reads = rw is-looked (reads-few (b .laid e .2) a h)
+
+    -- and the answer depends on the record and those rows alone
+    pub build-alone : (other : Lists) → rec .elements ≤ shortest other
+        → ((i : ℕ) → List·Memᴰ i (rowsAlong (b .laid e .0) W k (tableTrie W vs ls hs) a) → rowAt rows′ i ≡ rowAt other i)
+        → {r′ : Answer} → Looked WIDTH rec other a r′ → r ≡ r′
+    build-alone other fits same l′ = is-looked ∙ rows-alone (b .laid e .2) a h other fits same ∙ looked-unique (looked WIDTH rec other a) l′
+
+-- one table gives one answer, however it is built: any kinds, any k, any room
+pub one-table : {kind kind′ : Kind} {W k k′ : ℕ} {vs ls hs scratch scratch′ : List ℕ} {rows rows′ : Lists} {out out′ : Outcome} {rec rec′ : Record} {s s′ : List ℕ} {rows1 rows2 : Lists}
+    → Builds kind W k vs ls hs scratch rows out rec s rows1 → Builds kind′ W k′ vs ls hs scratch′ rows′ out′ rec′ s′ rows2 → out ≡ Accepted → out′ ≡ Accepted
+    → (a : ℕ) → a < 2 ^ W → {r r′ : Answer} → Looked WIDTH rec rows1 a r → Looked WIDTH rec′ rows2 a r′ → hopOf r ≡ hopOf r′
+one-table b c e e′ a h l l′ =
+    ap hopOf (is-looked b e a h l) ∙ one-answer (b .laid e .2) (c .laid e′ .2) a h ∙ sym (ap hopOf (is-looked c e′ a h l′))
+
+-- ==== demand 3 over any record and lists: the path is what the rule reaches
+
+module _ {most : ℕ} {rec : Record} {ls : Lists} {a : ℕ} {r : Answer} (l : Looked most rec ls a r) where
+  any-looked : r ≡ lookupOf most rec ls a
+  any-looked = looked-unique l (looked most rec ls a)
+
+  pub any-reads : numberOf r ≡ 0 → {rs : List ℕ} → OnPath rec ls a rs → readsOf r ≡ length rs
+  any-reads z o = rw any-looked (reads-path most rec ls a (rw any-looked at z)) ∙ ap length (path-rows rec ls a o)
+
+  pub any-few : readsOf r ≤ rec .levels
+  any-few = rw any-looked (reads-most most rec ls a)
+
+  -- one record, one address, two sets of lists, none shorter than E, that agree at the rows of the first's path
+  pub any-alone : {rs : List ℕ} → OnPath rec ls a rs → (other : Lists) → rec .elements ≤ shortest ls → rec .elements ≤ shortest other
+      → ((i : ℕ) → List·Memᴰ i rs → rowAt ls i ≡ rowAt other i) → {r′ : Answer} → Looked most rec other a r′ → r ≡ r′
+  any-alone o other fits fits′ same l′ =
+      any-looked ∙ lookup-local rec a ls other (rw (path-rows rec ls a o) same) most fits fits′ ∙ looked-unique (looked most rec other a) l′

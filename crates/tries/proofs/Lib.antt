@@ -14,7 +14,7 @@ pub mod Levels
 pub mod Order
 pub mod Answering
 pub mod Hops
-pub mod Demands
+pub mod Laid
 pub mod Laying
 pub mod Inserting
 pub mod Zeroes
@@ -28,4 +28,4 @@ pub mod Choosing
 pub mod Builds
 pub mod Agreeing
 pub mod OneBuild
-pub mod BuildDemands
+pub mod Demands

@@ -12,7 +12,7 @@ use Rattle.tries.specs.declared.record.Record.{Record}
 use Rattle.tries.specs.declared.walk.Answer.{Answer}
 use Rattle.tries.specs.declared.walk.Answer.the-variants.{Match, NoRoute}
 use Rattle.tries.specs.Rows.{Lists, shortest, rowAt, root}
-use Rattle.tries.specs.Answers.{hopOf, readsOf, Accepted, latest, answer}
+use Rattle.tries.specs.Answers.{numberOf, hopOf, readsOf, Accepted, latest, answer}
 use Rattle.tries.specs.Lookup.{Trail, ended, tell, fromRoot, pathOf, pathRows, lookupOf}
 use Rattle.tries.specs.Meaning.{OnPath, empty, walked, Looked, refused, accepted}
 use Rattle.tries.proofs.Tests.{tests-same}
@@ -30,6 +30,14 @@ answer-has best reads = go (eqb best 0) refl
         → (hopOf (cond t (NoRoute reads) (Match best reads)) ≡ best) × (readsOf (cond t (NoRoute reads) (Match best reads)) ≡ reads)
     go true e = (sym (eqb-true _ _ e), refl)
     go false e = (refl, refl)
+
+pub answer-number : (best reads : ℕ) → numberOf (answer best reads) ≡ 0
+unfolding answer
+answer-number best reads = go (eqb best 0)
+  where
+    go : (t : Bool) → numberOf (cond t (NoRoute reads) (Match best reads)) ≡ 0
+    go true = refl
+    go false = refl
 
 module _ (rec : Record) (ls : Lists) (address : ℕ) where
   -- the path's rows are those of the rule

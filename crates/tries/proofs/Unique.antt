@@ -51,7 +51,7 @@ on-path-unique (walked g p) (empty y) = absurd (omega arith)
 on-path-unique (walked g p) (walked h q) = path-unique p q .0
 
 module _ {most : ℕ} {rec : Record} {ls : Lists} {address : ℕ} where
-  tested-unique : {n m : ℕ} → Tested most rec ls address n → Tested most rec ls address m → n ≡ m
+  pub tested-unique : {n m : ℕ} → Tested most rec ls address n → Tested most rec ls address m → n ≡ m
   tested-unique = test-unique (λ i j. test-unique (λ i j. test-unique (λ i j. test-unique (λ i j p q. p ∙ sym q))))
 
   -- one answer is allowed
