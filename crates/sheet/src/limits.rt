@@ -18,9 +18,7 @@ pub const BITS: u32 = 32;
 // The bytes of the page that a report is printed to.
 pub const PAGE: usize = 8192;
 
-// What the program lends to a build: scratch rows, each of so many numbers, and elements.
+// What the program lends to a build: scratch rows, and elements.
 pub const LENT_ROWS: usize = 320;
-
-pub const ROW: usize = 24;
 
 pub const LENT_ELEMENTS: usize = 8192;

@@ -7,7 +7,7 @@ ghost use Rattle.tries.specs.Scratch.{ROW};
 ghost use Rattle.sheet.specs.Limits.{LENT-ROWS, LENT-ELEMENTS};
 use crate::limits::LENT_ELEMENTS;
 use crate::limits::LENT_ROWS;
-use crate::limits::ROW;
+use tries::ROW;
 
 pub(crate) fn scratch_room() -> [u64; LENT_ROWS * ROW]
     ensures { λ r. ⌜ LENT-ROWS * ROW ≡ length r ⌝ }

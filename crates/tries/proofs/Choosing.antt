@@ -14,9 +14,9 @@ use lib.Seq.{getD-take}
 use borrow.Author.Tests.{eq-eqb, ne-eqb, lt-ltb, le-ltb, ltb-false, ltb-true}
 use Rattle.table.specs.Prefix.{start, IsPrefix}
 use Rattle.table.specs.Entry.{hopBad}
-use Rattle.table.specs.Limits.{widthLimit}
+use Rattle.table.specs.Limits.{widthLimit, outside}
 use Rattle.table.specs.Refusals.{Test, test, outcome, Gives, andThen}
-use Rattle.table.specs.Table.{at, widthBad, widthTest, listTests, tableTests, checkOf, Table}
+use Rattle.table.specs.Table.{at, widthTest, listTests, tableTests, checkOf, Table}
 use Rattle.table.specs.declared.entry.Outcome.{Outcome}
 use Rattle.table.specs.declared.entry.Outcome.the-variants.{Accepted, Refused}
 use Rattle.table.proofs.Refusals.{outcome-fails, outcome-passes, outcome-append, outcome-gives, gives-unique, gives-outcome, refused-not-accepted, accepted-passes, accepted-parts}
@@ -33,7 +33,7 @@ use Rattle.strides.proofs.Counting.{node-count}
 use Rattle.strides.proofs.Strides.{pick-variable}
 use Rattle.strides.proofs.Cheapest.{least-cheapest, strides-named, cheapest-unique, named-unique}
 use Rattle.strides.proofs.Capped.{least-capped, strides-capped, cap-never-bites}
-use Rattle.tries.specs.Limits.{WIDTH, LEVELS, ENTRIES, COST_CAP, Within, outside}
+use Rattle.tries.specs.Limits.{WIDTH, LEVELS, ENTRIES, COST_CAP, Within}
 use Rattle.tries.specs.Scratch.{ROW, ask, strideAt, Here, Stands}
 use Rattle.tries.specs.Built.{tableTrie}
 use Rattle.tries.specs.Trees.{Tree, nil, fork, shape, linkOf, Stand, Has, lt, rt, lmark, rmark, rowAt, next, side, setSide, setMark, insertR, addEntry, treeOf}
@@ -59,17 +59,17 @@ table-prefixes W vs ls hs t = record {
 }
 
 pub within-levels : (k most : ℕ) → outside k most ≡ false → Within k most
-unfolding outside widthBad
+unfolding outside
 within-levels k most e = width-is most k e
 
 module _ (W k : ℕ) (vs ls hs : List ℕ) (words : ℕ) where
   pub tests-width : outside W WIDTH ≡ true → outcome (chooseTests W k vs ls hs words) ≡ Refused 1 0
-  unfolding chooseTests outside widthBad
+  unfolding chooseTests outside
   tests-width e = outcome-fails (widthTest W) (levelsTest k ∷ (listTests W vs ls hs ++ (scratchTest W vs ls hs words ∷ []))) e
 
   module _ (w : outside W WIDTH ≡ false) where
     pub tests-levels : outside k LEVELS ≡ true → outcome (chooseTests W k vs ls hs words) ≡ Refused 2 0
-    unfolding chooseTests outside widthBad
+    unfolding chooseTests outside
     tests-levels e =
         outcome-passes (widthTest W) (levelsTest k ∷ (listTests W vs ls hs ++ (scratchTest W vs ls hs words ∷ []))) w
         ∙ outcome-fails (levelsTest k) (listTests W vs ls hs ++ (scratchTest W vs ls hs words ∷ [])) e
@@ -77,7 +77,7 @@ module _ (W k : ℕ) (vs ls hs : List ℕ) (words : ℕ) where
     -- past both, the table's tests and then scratch's decide
     module _ (l : outside k LEVELS ≡ false) where
       tests-rest : outcome (chooseTests W k vs ls hs words) ≡ andThen (checkOf W vs ls hs) (outcome (scratchTest W vs ls hs words ∷ []))
-      unfolding chooseTests outside widthBad checkOf tableTests
+      unfolding chooseTests outside checkOf tableTests
       tests-rest =
           outcome-passes (widthTest W) (levelsTest k ∷ (listTests W vs ls hs ++ (scratchTest W vs ls hs words ∷ []))) w
           ∙ outcome-passes (levelsTest k) (listTests W vs ls hs ++ (scratchTest W vs ls hs words ∷ [])) l

@@ -7,7 +7,8 @@ use native.Mathlib.Omega.{arith}
 use lib.Dec.{leb, ltb, eqb}
 use borrow.Author.Tests.{le-ltb, ltb-true, ltb-false, leb-true, leb-false, eqb-true, eqb-false}
 use Rattle.tries.specs.declared.record.Record.{Record}
-use Rattle.tries.specs.Limits.{LEVELS, Outside, Within, outside}
+use Rattle.tries.specs.Limits.{LEVELS, Outside, Within}
+use Rattle.table.specs.Limits.{outside}
 use Rattle.tries.specs.Rows.{root}
 use Rattle.tries.specs.Lookup.{unfit, refusalOf}
 

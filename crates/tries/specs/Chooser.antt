@@ -13,7 +13,8 @@ use Rattle.strides.specs.Trie.{Trie, size}
 use Rattle.strides.specs.Cheapest.{Kind, fixed, variable, Cheapest, Named}
 use Rattle.strides.specs.Recurrence.{plain, leastBy, stridesBy}
 use Rattle.strides.specs.Strides.{chosenBy}
-use Rattle.tries.specs.Limits.{LEVELS, Within, outside}
+use Rattle.tries.specs.Limits.{LEVELS, Within}
+use Rattle.table.specs.Limits.{outside}
 use Rattle.tries.specs.Scratch.{ROW, Stands}
 use Rattle.tries.specs.Built.{tableTrie}
 use Rattle.tries.specs.Costs.{held}

@@ -3,7 +3,8 @@ use mathlib.Core.Path.{_≡_, refl}
 use mathlib.Core.List.{[], _∷_}
 use Rattle.tries.specs.declared.walk.Answer.the-variants.{Match, NoRoute, Refused}
 use Rattle.tries.specs.declared.record.Record.{Record}
-use Rattle.tries.specs.Limits.{WIDTH, outside}
+use Rattle.tries.specs.Limits.{WIDTH}
+use Rattle.table.specs.Limits.{outside}
 use Rattle.tries.specs.Rows.{Lists, rowOf}
 use Rattle.tries.specs.Answers.{better, latest, answer}
 use Rattle.tries.specs.Lookup.{readable, trail, tell, pathOf, pathRows, unfit, refusalOf, lookupOf}

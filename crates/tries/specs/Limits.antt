@@ -1,17 +1,16 @@
 -- The limits of document 01, "The table", "Stride choices" and refusal 7, under the names that the code gives them,
--- and tests 1 and 2: a number is refused where it is 0 or above its limit.
+-- and what tests 1 and 2 refuse: a number that is 0 or above its limit.
 use Prim.Native.Nat.{ℕ, _≤_, _<_}
 use mathlib.Core.Path.{_≡_}
-use mathlib.Core.Bool.{Bool, _||_}
 use mathlib.Core.Logic.{_⊎_}
-use lib.Dec.{ltb, eqb}
+use Rattle.table.specs.Limits.{widthLimit, entryLimit}
 
 abbrev pub WIDTH : ℕ
-WIDTH = 32
+WIDTH = widthLimit
 
 -- the most entries of a table
 abbrev pub ENTRIES : ℕ
-ENTRIES = 4096
+ENTRIES = entryLimit
 
 abbrev pub LEVELS : ℕ
 LEVELS = 8
@@ -30,7 +29,3 @@ Outside x most = (x ≡ 0) ⊎ (most < x)
 -- from 1 to the limit
 abbrev pub Within : (x most : ℕ) → Type 0
 Within x most = (0 < x) × (x ≤ most)
-
--- the same as a test
-unfoldable pub outside : (x most : ℕ) → Bool
-outside x most = eqb x 0 || ltb most x

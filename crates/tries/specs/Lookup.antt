@@ -9,7 +9,8 @@ use lib.Dec.{leb, ltb, eqb}
 use Rattle.tries.specs.declared.walk.Answer.{Answer}
 use Rattle.tries.specs.declared.walk.Answer.the-variants.{Refused}
 use Rattle.tries.specs.declared.record.Record.{Record}
-use Rattle.tries.specs.Limits.{LEVELS, outside}
+use Rattle.tries.specs.Limits.{LEVELS}
+use Rattle.table.specs.Limits.{outside}
 use Rattle.tries.specs.Rows.{Row, Lists, shortest, rowAt, root, rowOf}
 use Rattle.tries.specs.Answers.{latest, answer}
 

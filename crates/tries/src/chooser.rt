@@ -14,6 +14,8 @@ use crate::limits::WIDTH;
 use crate::limits::is_outside;
 use crate::record::Kind;
 use crate::rows::make_rows;
+use crate::scratch::BEFORE_COSTS;
+use crate::scratch::BEFORE_STRIDES;
 use crate::scratch::ROW;
 use crate::scratch::asked;
 use crate::scratch::zero;
@@ -88,9 +90,9 @@ fn plan_variable(
     let k = levels as usize;
     settle_tree(scratch, root, 0, k);
     let mut strides = [0u8; LEVELS as usize];
-    strides[0] = (asked(scratch, root, 15 + k) % 256) as u8;
+    strides[0] = (asked(scratch, root, BEFORE_STRIDES + k) % 256) as u8;
     Plan {
-        cost: asked(scratch, root, 7 + k) as u64,
+        cost: asked(scratch, root, BEFORE_COSTS + k) as u64,
         strides: strides,
         plan: [0u8; LEVELS as usize],
         root: root,

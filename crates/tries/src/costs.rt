@@ -8,20 +8,24 @@ ghost use Rattle.tries.specs.Limits.{WIDTH, LEVELS, ENTRIES};
 ghost use Rattle.tries.specs.Scratch.{ROW, ask};
 ghost use Rattle.tries.specs.Costs.{held, CELLS, slot, RowAdded, GatherIn, Gathered, price, bestCost, bestStride, Stored, SettleIn, Summed, DepthOver, Settled, TreeAsk, TreeDone};
 use crate::limits::COST_CAP;
+use crate::limits::SLOTS;
+use crate::limits::WIDTH;
+use crate::scratch::COST;
+use crate::scratch::STRIDE;
 use crate::scratch::asked;
 use crate::scratch::put;
 use strides::capped_power;
 use strides::capped_sum;
 
-// Places of the sums: strides 1 to 32, and 1 to 8 levels left.
-const CELLS: usize = 256;
+// Places of the sums: every stride, and every number of levels left.
+const CELLS: usize = WIDTH as usize * SLOTS;
 
 // Adds v at stride j + 1 and r + 1 levels left.
 fn bump(sums: &mut [u64], j: usize, r: usize, v: usize)
     requires { ⌜ (length (now sums) ≡ CELLS) × (j < WIDTH) × (r < LEVELS) ⌝ }
     ensures { λ _. ⌜ now (sums .exit) ≡ set (now (sums .entry)) (j * LEVELS + r) (held (slot (now (sums .entry)) j r + v)) ⌝ }
 {
-    let i = j * 8 + r;
+    let i = j * SLOTS + r;
     sums[i] = capped_sum(sums[i], v as u64, COST_CAP);
 }
 
@@ -32,7 +36,7 @@ fn add_row(rows: &[u64], k: usize, d: usize, levels: usize, sums: &mut [u64])
 {
     let mut r = 0;
     while r < levels {
-        bump(sums, d, r, asked(rows, k, 8 + r));
+        bump(sums, d, r, asked(rows, k, COST + r));
         r += 1;
     }
 }
@@ -55,7 +59,7 @@ fn price_at(sums: &[u64], n: usize, q: usize, j: usize) -> u64
     ensures { λ r. ⌜ r ≡ price (now (sums .entry)) n q j ⌝ }
 {
     let blocks = n as u64 * capped_power(j as u64 + 1, COST_CAP);
-    capped_sum(blocks, sums[j * 8 + q], COST_CAP)
+    capped_sum(blocks, sums[j * SLOTS + q], COST_CAP)
 }
 
 // A stride, less one, and its cost.
@@ -119,8 +123,8 @@ fn store(rows: &mut [u64], x: usize, depth: usize, levels: usize, sums: &[u64])
     let mut r = 0;
     while r < levels {
         let b = choice(sums, 1, r, depth);
-        put(rows, x, 8 + r, b.cost as usize);
-        put(rows, x, 16 + r, b.place + 1);
+        put(rows, x, COST + r, b.cost as usize);
+        put(rows, x, STRIDE + r, b.place + 1);
         r += 1;
     }
 }

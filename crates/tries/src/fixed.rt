@@ -13,6 +13,11 @@ ghost use Rattle.tries.specs.Levels.{within, levelCount, LEVEL_CELLS, Fi
 use crate::costs::choice;
 use crate::costs::larger;
 use crate::counting::new_at;
+use crate::limits::SLOTS;
+use crate::limits::WIDTH;
+
+// Places of the table of fixed strides: every level and one past the last, and every number of levels left.
+const LEVEL_CELLS: usize = (WIDTH as usize + 1) * SLOTS;
 
 // Adds 1 to the levels from `from` up to but not `to`.
 fn add_levels(counts: &mut [u64], from: usize, to: usize)
@@ -64,9 +69,9 @@ fn fill_row(n: usize, i: usize, d: usize, levels: usize, costs: &mut [u64], stri
 {
     let mut r = 0;
     while r < levels {
-        let from = (i + 1) * 8;
+        let from = (i + 1) * SLOTS;
         let b = choice(&costs[from..], n, r, d);
-        let at = i * 8 + r;
+        let at = i * SLOTS + r;
         costs[at] = b.cost;
         strides[at] = b.place as u64 + 1;
         r += 1;
@@ -87,15 +92,15 @@ fn fill_table(nodes: &[u64], levels: usize, depth: usize, costs: &mut [u64], str
 }
 
 // The strides that the table names, from the first level on: unused places 0.
-fn read_list(strides: &[u64], levels: usize, depth: usize) -> [u8; 8]
+fn read_list(strides: &[u64], levels: usize, depth: usize) -> [u8; SLOTS]
     requires { ⌜ (1 ≤ levels) × (levels ≤ LEVELS) × (depth ≤ WIDTH) × (length (now strides) ≡ LEVEL_CELLS) × SomeNodes levels depth (now strides) ⌝ }
     ensures { λ r. ⌜ ((nodes : ℕ → ℕ) → StridesFilled nodes levels depth (now (strides .entry)) → r ≡ padded LEVELS (listBy held nodes (levels - 1) 0 depth)) ⌝ }
 {
-    let mut list = [0u8; 8];
+    let mut list = [0u8; SLOTS];
     let mut i = 0;
     let mut p = 0;
     while p < levels {
-        let s = strides[i * 8 + (levels - 1 - p)];
+        let s = strides[i * SLOTS + (levels - 1 - p)];
         list[p] = (s % 256) as u8;
         i += s as usize;
         p += 1;
@@ -106,7 +111,7 @@ fn read_list(strides: &[u64], levels: usize, depth: usize) -> [u8; 8]
 // What the fixed choice costs, and its strides.
 pub(crate) struct Fixed {
     pub(crate) cost: u64,
-    pub(crate) strides: [u8; 8],
+    pub(crate) strides: [u8; SLOTS],
 }
 
 // The cheapest fixed choice for a table.
@@ -114,11 +119,11 @@ pub(crate) fn fixed_choice(width: u32, vals: &[u32], lens: &[u8], levels: usize)
     requires { ⌜ Prefixes width (now vals) (now lens) × (length (now vals) ≤ ENTRIES) × (1 ≤ levels) × (levels ≤ LEVELS) ⌝ }
     ensures { λ r. ⌜ FixedOut width (now (vals .entry)) (now (lens .entry)) levels (r .cost) (r .strides) ⌝ }
 {
-    let mut nodes = [0u64; 32];
+    let mut nodes = [0u64; WIDTH as usize];
     count_levels(width, vals, lens, &mut nodes);
     let depth = longest_length(lens);
-    let mut costs = [0u64; 264];
-    let mut strides = [0u64; 264];
+    let mut costs = [0u64; LEVEL_CELLS];
+    let mut strides = [0u64; LEVEL_CELLS];
     fill_table(&nodes, levels, depth, &mut costs, &mut strides);
     Fixed {
         cost: costs[levels - 1],

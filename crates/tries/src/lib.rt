@@ -22,5 +22,6 @@ pub use limits::LEVELS;
 pub use limits::WIDTH;
 pub use record::Kind;
 pub use record::Record;
+pub use scratch::ROW;
 pub use walk::Answer;
 pub use walk::lookup;

@@ -1,11 +1,14 @@
 // The limits of document 01 in one place (specs/Limits.antt says them to the proofs): the widest
 // address, the most levels, the most element rows. Tests 1 and 2 are one test, "0 or above".
 ghost use mathlib.Core.Path.{_≡_};
-ghost use Rattle.tries.specs.Limits.{outside};
+ghost use Rattle.table.specs.Limits.{outside};
 
-pub const WIDTH: u32 = 32;
+pub const WIDTH: u32 = table::WIDTH;
 
 pub const LEVELS: u32 = 8;
+
+// The same as a number of places.
+pub(crate) const SLOTS: usize = LEVELS as usize;
 
 pub const ELEMENTS: u32 = 16777216;
 

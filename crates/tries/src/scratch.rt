@@ -7,7 +7,17 @@ ghost use Rattle.tries.specs.Limits.{LEVELS};
 ghost use Rattle.tries.specs.Scratch.{ROW, ask, strideAt};
 
 // Numbers in a row.
-pub(crate) const ROW: usize = 24;
+pub const ROW: usize = 24;
+
+// The first columns of the least costs and of their strides, those with one level left.
+pub(crate) const COST: usize = 8;
+
+pub(crate) const STRIDE: usize = 16;
+
+// With r levels left the two stand r columns after these.
+pub(crate) const BEFORE_COSTS: usize = COST - 1;
+
+pub(crate) const BEFORE_STRIDES: usize = STRIDE - 1;
 
 // Column c of the row that the link k names; 0 where it names none.
 pub(crate) fn asked(rows: &[u64], k: usize, c: usize) -> usize
@@ -29,7 +39,7 @@ pub(crate) fn stride_at(rows: &[u64], plan: &[u8], k: usize, r: usize) -> usize
         return 0;
     }
     if plan[0] == 0 {
-        return asked(rows, k, 15 + r);
+        return asked(rows, k, BEFORE_STRIDES + r);
     }
     plan[plan.len() - r] as usize
 }

@@ -1,5 +1,5 @@
 use borrow.Author.Tests.{eq-eqb, ne-eqb}
-use Rattle.tries.specs.Limits.{outside}
+use Rattle.table.specs.Limits.{outside}
 use Rattle.tries.proofs.limits.is_outside.Statement.{statement}
 use Rattle.tries.proofs.limits.is_outside.Tie as tie
 

@@ -3,7 +3,8 @@ use mathlib.Core.Path.{_≡_, sym, _∙_}
 use mathlib.Core.Bool.{false}
 use lib.Dec.{leb}
 use borrow.Author.Needs.{needs}
-use Rattle.tries.specs.Limits.{WIDTH, LEVELS, outside}
+use Rattle.tries.specs.Limits.{WIDTH, LEVELS}
+use Rattle.table.specs.Limits.{outside}
 use Rattle.tries.specs.Lookup.{refusalOf}
 use Rattle.tries.proofs.Tests.{outside-false}
 use Rattle.tries.proofs.walk.tested.Statement.{statement}
