@@ -9,7 +9,7 @@ use Rattle.strides.specs.Choice.{below}
 use Rattle.strides.specs.Strides.{Good, choiceBy}
 use Rattle.strides.proofs.Tied.{SameBlocks}
 use Rattle.tries.specs.Rows.{Row}
-use Rattle.tries.specs.Blocks.{Strides, wide, passed, leftOf, linkTo, strideOf, rowBelow, listOf, blockRows, levelRows, firstRow, levelsRows, rowsOf, rowCount}
+use Rattle.tries.specs.Blocks.{Strides, wide, passed, leftOf, linkTo, strideOf, rowBelow, listOf, blockRows, levelRows, firstRow, levelsRows, rowsOf, rowCount, Begun, blocksAlong}
 
 -- one step along a path, with what stands left of it
 at-none : (i : ℕ) (f : Trie → ℕ) → f none ≡ 0 → passed i 0 + f (kid i none) ≡ 0
@@ -104,6 +104,18 @@ module _ (σ τ : Strides) where
   stride-same none r g = refl
   stride-same (node p a q b) zero g = absurd g
   stride-same (node p a q b) (suc r) g = g .1
+
+  -- the blocks on an address's path
+  pub blocks-same : (w : ℕ) (t : Trie) (c n r x : ℕ) → Agree t c r → blocksAlong σ w t c n r x ≡ blocksAlong τ w t c n r x
+  unfolding blocksAlong
+  blocks-same zero t c n r x g = refl
+  blocks-same (suc w) none c n r x g = refl
+  blocks-same (suc w) (node p a q b) (suc c) n r x g = blocks-same w (kid (bit w x) (node p a q b)) c n r x (kid-agree (bit w x) (node p a q b) c r g)
+  blocks-same (suc w) (node p a q b) zero n zero x g = absurd g
+  blocks-same (suc w) (node p a q b) zero n (suc r) x g =
+      let s = pred (σ (suc r) (node p a q b)) in
+      let rest = blocks-same w (kid (bit w x) (node p a q b)) s (suc n) r x (kid-agree (bit w x) (node p a q b) s r (g .2, g .3)) in
+      rw (sym (g .1)) (ap (λ (bs : List Begun). record { level = n; stride = σ (suc r) (node p a q b); bits = suc w } ∷ bs) rest)
 
   row-same : (c r : ℕ) (t : Trie) (best free x : ℕ) → Agree t c r → rowBelow σ c r t best free x ≡ rowBelow τ c r t best free x
   unfolding rowBelow

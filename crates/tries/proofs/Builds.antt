@@ -24,7 +24,7 @@ use Rattle.strides.specs.Trie.{Trie, none, node, depth, nodesAt}
 use Rattle.strides.specs.Entries.{exactly, markAt, floorOf}
 use Rattle.strides.specs.Cheapest.{Kind, fixed, variable, Cheapest}
 use Rattle.strides.specs.Recurrence.{plain, leastBy, stridesBy, fixedStrides, listBy, pickBy}
-use Rattle.strides.specs.Strides.{chosenBy, costBy, variableStride, fixedStride}
+use Rattle.strides.specs.Strides.{Follows, chosenBy, costBy, variableStride, fixedStride}
 use Rattle.strides.proofs.Insertion.{trie-depth-width}
 use Rattle.strides.proofs.Cheapest.{chosen-good, least-cheapest, strides-named, cheapest-unique}
 use Rattle.strides.proofs.Capped.{chosen-capped, strides-capped, follows-capped, cap-never-bites}
@@ -234,6 +234,27 @@ past-is kind W k vs ls hs scratch lent e b z = record {
 
 -- ---- and what it means
 
+module _ (kind : Kind) (W k : ℕ) (vs ls hs : List ℕ) where
+  -- the tests take no other number than the least cost of all choices
+  pub tests-least : (words room least : ℕ) → (1 ≤ k → Cheapest kind k (tableTrie W vs ls hs) least)
+      → outcome (buildTests W k vs ls hs words room (leastBy plain kind k (tableTrie W vs ls hs))) ≡ outcome (buildTests W k vs ls hs words room least)
+  tests-least words room least c = go (outcome (chooseTests W k vs ls hs words)) refl
+    where
+      go : (o : Outcome) → outcome (chooseTests W k vs ls hs words) ≡ o
+          → outcome (buildTests W k vs ls hs words room (leastBy plain kind k (tableTrie W vs ls hs))) ≡ outcome (buildTests W k vs ls hs words room least)
+      go Accepted e =
+          let some = accepted-levels W k vs ls hs words e .0 in
+          ap (λ (m : ℕ). outcome (buildTests W k vs ls hs words room m)) (cheapest-unique kind k (tableTrie W vs ls hs) (least-cheapest kind k (tableTrie W vs ls hs) some) (c some))
+      go (Refused n d) e = early W k vs ls hs words room (leastBy plain kind k (tableTrie W vs ls hs)) e ∙ sym (early W k vs ls hs words room least e)
+
+  -- the strides that the recurrences find follow the tie rule
+  pub table-follows : Table W vs ls hs → 1 ≤ k → Follows kind k (tableTrie W vs ls hs) (chosenBy held kind k (tableTrie W vs ls hs))
+  table-follows t some =
+      let d = trie-depth-width W (at vs) (at ls) (at hs) (length vs) (λ i l. t .entry i l .prefix) in
+      let short : depth (tableTrie W vs ls hs) ≤ WIDTH = omega (arith, d, t .width) in
+      let p : 2 ^ depth (tableTrie W vs ls hs) ≤ 2 ^ WIDTH = pow-mono short in
+      follows-capped COST_CAP kind k (tableTrie W vs ls hs) some (cap-never-bites COST_CAP kind k (tableTrie W vs ls hs) (omega arith))
+
 module _ {kind : Kind} {W k : ℕ} {vs ls hs scratch : List ℕ} {rows : Lists} {out : Outcome} {rec : Record} {scratch′ : List ℕ} {rows′ : Lists}
     (b : BuildIs kind W k vs ls hs scratch rows out rec scratch′ rows′) where
   abbrev T : Trie
@@ -242,33 +263,16 @@ module _ {kind : Kind} {W k : ℕ} {vs ls hs scratch : List ℕ} {rows : Lists} 
   abbrev tests : List Test
   tests = chooseTests W k vs ls hs (length scratch)
 
-  means-tested : (least : ℕ) → (1 ≤ k → Cheapest kind k (tableTrie W vs ls hs) least) → Gives (buildTests W k vs ls hs (length scratch) (shortest rows) least) out
-  means-tested least c = subst (Gives (buildTests W k vs ls hs (length scratch) (shortest rows) least)) (sym (b .tests ∙ same (outcome tests) refl))
-      (outcome-gives (buildTests W k vs ls hs (length scratch) (shortest rows) least))
-    where
-      same : (o : Outcome) → outcome tests ≡ o
-          → outcome (buildTests W k vs ls hs (length scratch) (shortest rows) (leastBy plain kind k T)) ≡ outcome (buildTests W k vs ls hs (length scratch) (shortest rows) least)
-      same Accepted e =
-          let some = accepted-levels W k vs ls hs (length scratch) e .0 in
-          ap (λ (m : ℕ). outcome (buildTests W k vs ls hs (length scratch) (shortest rows) m)) (cheapest-unique kind k T (least-cheapest kind k T some) (c some))
-      same (Refused n d) e = early W k vs ls hs (length scratch) (shortest rows) (leastBy plain kind k T) e ∙ sym (early W k vs ls hs (length scratch) (shortest rows) least e)
-
   some-levels : out ≡ Accepted → 1 ≤ k
   some-levels e = let l = b .written .laid e in omega (arith, l .levels, l .built .levels .0)
-
-  under-cap : out ≡ Accepted → leastBy plain kind k (tableTrie W vs ls hs) < COST_CAP
-  under-cap e =
-      let t = b .written .laid e .table in
-      let d = trie-depth-width W (at vs) (at ls) (at hs) (length vs) (λ i l. t .entry i l .prefix) in
-      let short : depth T ≤ 32 = omega (arith, d, t .width) in
-      let p : 2 ^ depth T ≤ 2 ^ 32 = pow-mono short in
-      cap-never-bites COST_CAP kind k T (omega arith)
 
   pub build-means : Builds kind W k vs ls hs scratch rows out rec scratch′ rows′
   unfolding ifAccepted
   build-means = record {
-    tested = means-tested;
-    laid = λ e. (chosenBy held kind k T, follows-capped COST_CAP kind k T (some-levels e) (under-cap e), b .written .laid e);
+    tested = λ least c.
+        subst (Gives (buildTests W k vs ls hs (length scratch) (shortest rows) least)) (sym (b .tests ∙ tests-least kind W k vs ls hs (length scratch) (shortest rows) least c))
+        (outcome-gives (buildTests W k vs ls hs (length scratch) (shortest rows) least));
+    laid = λ e. (chosenBy held kind k T, table-follows kind W k vs ls hs (b .written .laid e .table) (some-levels e), b .written .laid e);
     named = λ e. (stridesBy plain kind k T, strides-named kind k T (some-levels e), b .written .named e);
     zeroed = λ a. b .after ∙ rw (sym (gives-outcome tests Accepted a));
     untouched = λ ne. b .after ∙ kept (outcome tests) refl ne;

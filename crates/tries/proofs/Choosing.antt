@@ -104,18 +104,26 @@ module _ (W k : ℕ) (vs ls hs : List ℕ) (words : ℕ) where
       unfolding andThen outcome
       tests-pass e c q h = tests-rest ∙ rw (e, ← q, le-ltb (words / ROW) c h)
 
--- what acceptance says
 pub numbered-choose : (W : ℕ) (vs ls hs : List ℕ) (k words : ℕ) → Numbered 6 (chooseTests W k vs ls hs words)
 unfolding chooseTests
 numbered-choose W vs ls hs k words =
     let lists = numbered-append 6 (listTests W vs ls hs) (scratchTest W vs ls hs words ∷ []) (numbered-lists 6 (omega arith) W vs ls hs) ((omega arith, omega arith), tt) in
     ((omega arith, omega arith), ((omega arith, omega arith), lists))
 
+-- what acceptance says
 pub accepted-levels : (W k : ℕ) (vs ls hs : List ℕ) (words : ℕ) → outcome (chooseTests W k vs ls hs words) ≡ Accepted → Within k LEVELS
 unfolding chooseTests
 accepted-levels W k vs ls hs words e =
     let p = accepted-passes (widthTest W) (levelsTest k ∷ (listTests W vs ls hs ++ (scratchTest W vs ls hs words ∷ []))) e in
     within-levels k LEVELS (accepted-passes (levelsTest k) (listTests W vs ls hs ++ (scratchTest W vs ls hs words ∷ [])) (p .1) .0)
+
+pub accepted-tests-table : (W k : ℕ) (vs ls hs : List ℕ) (words : ℕ) → outcome (chooseTests W k vs ls hs words) ≡ Accepted → Table W vs ls hs
+unfolding chooseTests checkOf tableTests
+accepted-tests-table W k vs ls hs words e =
+    let p = accepted-passes (widthTest W) (levelsTest k ∷ (listTests W vs ls hs ++ (scratchTest W vs ls hs words ∷ []))) e in
+    let q = accepted-passes (levelsTest k) (listTests W vs ls hs ++ (scratchTest W vs ls hs words ∷ [])) (p .1) in
+    let r = accepted-parts (listTests W vs ls hs) (scratchTest W vs ls hs words ∷ []) (q .1) in
+    accepted-table W vs ls hs (outcome-passes (widthTest W) (listTests W vs ls hs) (p .0) ∙ r .0)
 
 pub accepted-plan : (W k : ℕ) (vs ls hs scratch : List ℕ) → ((i : ℕ) → at hs i < 65536) → outcome (chooseTests W k vs ls hs (length scratch)) ≡ Accepted
     → PlanIn W k vs ls hs scratch
@@ -126,7 +134,7 @@ accepted-plan W k vs ls hs scratch small e =
     let r = accepted-parts (listTests W vs ls hs) (scratchTest W vs ls hs (length scratch) ∷ []) (q .1) in
     let s = accepted-passes (scratchTest W vs ls hs (length scratch)) [] (r .1) in
     record {
-      table = accepted-table W vs ls hs (outcome-passes (widthTest W) (listTests W vs ls hs) (p .0) ∙ r .0);
+      table = accepted-tests-table W k vs ls hs (length scratch) e;
       levels = within-levels k LEVELS (q .0);
       room = omega (arith, ltb-false (length scratch / ROW) (size (tableTrie W vs ls hs)) (s .0));
       marks = small;
