@@ -14,3 +14,4 @@ pub mod Queries
 pub mod Solutions
 pub mod Runs
 pub mod Room
+pub mod Meaning

@@ -18,7 +18,7 @@ use Rattle.sheet.specs.Keys.{addressKey}
 use Rattle.sheet.specs.Sheet.{queriesItem, lastSpot, sheetOf, good, bad, textOf}
 use Rattle.sheet.specs.Report.{refusalLines, headLines, joined}
 use Rattle.sheet.specs.Answers.{firstWrong, queryLines, answersReport}
-use Rattle.sheet.specs.Solved.{tableReport, reportFor, solved}
+use Rattle.sheet.specs.Solved.{reportBy, reportFor, solved}
 use Rattle.sheet.specs.Tablet.{textReport, reportOf, answerFor, Ran}
 use Rattle.sheet.proofs.Steps.{bits-is}
 use Rattle.sheet.proofs.Listing.{listed-length, listed-at}
@@ -49,7 +49,7 @@ module _ (xs ds : List ℕ) (few : length ds ≤ COUNT) (short : (i : ℕ) → i
   for-short (Refused n d) bytes h = omega (arith, length-refusal n d)
 
   solved-short : (n W k : ℕ) (bits ls hs : List ℕ) → length (solved n W k bits ls hs xs ds) ≤ PAGE
-  unfolding solved tableReport
+  unfolding solved reportBy
   solved-short n W k bits ls hs = for-short _ _ (answers-short _ _ W _ _)
 
 -- the page holds the report of every text

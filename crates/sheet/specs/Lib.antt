@@ -13,4 +13,5 @@ pub mod Spelling
 pub mod Answers
 pub mod Solved
 pub mod Tablet
+pub mod Meaning
 pub mod Examples

@@ -27,6 +27,17 @@ unfoldable pub kindNamed : ℕ → Kind
 kindNamed zero = fixed
 kindNamed (suc n) = variable
 
+module _ (W k : ℕ) (vs ls hs : List ℕ) where
+  abbrev pub hopOf : ℕ → ℕ
+  hopOf = longest W (at vs) (at ls) (at hs) (length vs)
+
+  abbrev pub readsOf : Strides → ℕ → ℕ
+  readsOf σ a = length (blocksAlong σ W (tableTrie W vs ls hs) 0 0 k a)
+
+  -- the report where the build accepts, and has the strides σ
+  unfoldable pub reportBy : Strides → (xs ds : List ℕ) → List ℕ
+  reportBy σ xs ds = answersReport hopOf (readsOf σ) xs ds W (rowCount σ k (tableTrie W vs ls hs)) (strideOf σ k (tableTrie W vs ls hs))
+
 module _ (kind : Kind) (W k : ℕ) (vs ls hs : List ℕ) where
   -- the strides that the build chooses
   abbrev pub chosen : Strides
@@ -36,16 +47,8 @@ module _ (kind : Kind) (W k : ℕ) (vs ls hs : List ℕ) where
   unfoldable pub buildOutcome : Outcome
   buildOutcome = outcome (buildTests W k vs ls hs (LENT-ROWS * ROW) LENT-ELEMENTS (leastBy plain kind k (tableTrie W vs ls hs)))
 
-  abbrev pub hopOf : ℕ → ℕ
-  hopOf = longest W (at vs) (at ls) (at hs) (length vs)
-
-  abbrev pub readsOf : ℕ → ℕ
-  readsOf a = length (blocksAlong chosen W (tableTrie W vs ls hs) 0 0 k a)
-
-  -- the report where the build accepts
-  unfoldable pub tableReport : (xs ds : List ℕ) → List ℕ
-  tableReport xs ds =
-      answersReport hopOf readsOf xs ds W (rowCount chosen k (tableTrie W vs ls hs)) (strideOf chosen k (tableTrie W vs ls hs))
+  abbrev pub tableReport : (xs ds : List ℕ) → List ℕ
+  tableReport = reportBy W k vs ls hs chosen
 
 -- a refusal prints only its two lines
 unfoldable pub reportFor : Outcome → List ℕ → List ℕ

@@ -5,6 +5,7 @@ ghost use lib.ListN.{length, replicate};
 ghost use Rattle.sheet.specs.Limits.{PAGE};
 ghost use Rattle.sheet.specs.Report.{Wrote};
 ghost use Rattle.sheet.specs.Tablet.{reportOf, Ran, Fits};
+ghost use Rattle.sheet.specs.Meaning.{Reports};
 use crate::limits::COUNT;
 use crate::limits::PAGE;
 use crate::parsing::Parsed;
@@ -64,6 +65,7 @@ fn put_run(out: &mut [u8], text: &[u8]) -> usize
 // or `Room` with the bytes that it needs, where `out` is shorter, and nothing is written.
 pub fn run(text: &[u8], out: &mut [u8]) -> Report
     ensures exact { λ r. ⌜ Ran (now (text .entry)) (now (out .entry)) (now (out .exit)) r ⌝ }
+    ensures meaning { λ r. ⌜ Reports (now (text .entry)) (now (out .entry)) (now (out .exit)) r ⌝ }
     ensures fits { λ r. ⌜ Fits r (now (out .exit)) ⌝ }
 {
     let mut page = buffer();

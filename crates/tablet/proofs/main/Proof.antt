@@ -11,7 +11,7 @@ use Rattle.tablet.proofs.main.Tie as tie
 counts : (x : tie.After-k) → Counts (x .k .given .0 .0) (x .before .before .before .run .last .1 .0)
 counts x =
     let r = x .before .before .before in
-    subst (λ (o : Report). Fits o (r .run .last .1 .0)) (x .k .given .1) (r .run .ensures .1)
+    subst (λ (o : Report). Fits o (r .run .last .1 .0)) (x .k .given .1) (r .run .ensures .1 .1)
 
 buffer-requires : tie.Need-buffer-requires
 buffer-requires c κs = search needs

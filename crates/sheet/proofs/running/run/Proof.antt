@@ -3,6 +3,7 @@ use Prim.Native.Nat.{_-_}
 use native.Mathlib.Omega.{arith}
 use lib.ListN.{length-take}
 use Rattle.sheet.proofs.Runs.{ran-short, ran-whole, wrote-counts}
+use Rattle.sheet.proofs.Meaning.{ran-reports}
 use borrow.Author.Needs.{needs}
 use Rattle.sheet.proofs.running.run.Statement.{statement}
 use Rattle.sheet.proofs.running.run.Tie as tie
@@ -17,7 +18,9 @@ put-run-requires : tie.Need-put-run-requires
 put-run-requires c κs = search needs
 
 returns : tie.Need-returns
-returns c = (ran-short _ (c .before .before .put-run .ensures) _ (c .if1 .taken), tt)
+returns c =
+    let ran = ran-short _ (c .before .before .put-run .ensures) _ (c .if1 .taken) in
+    (ran, (ran-reports ran, tt))
 
 sub-put : tie.Need-sub-put
 sub-put c = search needs
@@ -36,10 +39,9 @@ same-length c = search needs
 
 returns-2 : tie.Need-returns-2
 returns-2 c =
-    let r = c .before .before .before .before .before .before .before .before in (
-      ran-whole _ (r .put-run .ensures) _ (c .before .before .before .before .before .before .if1 .left) (c .before .before .put .ensures),
-      wrote-counts (c .before .before .put .ensures) (c .before .before .before .before .before .before .if1 .left),
-    )
+    let r = c .before .before .before .before .before .before .before .before in
+    let ran = ran-whole _ (r .put-run .ensures) _ (c .before .before .before .before .before .before .if1 .left) (c .before .before .put .ensures) in
+    (ran, (ran-reports ran, wrote-counts (c .before .before .put .ensures) (c .before .before .before .before .before .before .if1 .left)))
 
 pub run-spec : {M : Type 1} → statement M
 run-spec =

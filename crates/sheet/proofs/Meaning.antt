@@ -1,0 +1,122 @@
+-- A run's report has its meaning, and the meaning leaves one report.
+use mathlib.Core.Path.{_≡_, refl, sym, ap, subst, _∙_, fun-ext}
+use mathlib.Core.List.{List}
+use Prim.Native.Nat.{ℕ, _*_, _≤_, _<_}
+use native.Mathlib.Omega.{arith}
+use lib.ListN.{length}
+use Rattle.table.specs.Refusals.{Test, outcome, Gives}
+use Rattle.table.specs.Table.{at, Table}
+use Rattle.table.specs.declared.entry.Outcome.{Outcome}
+use Rattle.table.specs.declared.entry.Outcome.the-variants.{Accepted, Refused}
+use Rattle.table.proofs.Refusals.{outcome-gives, gives-unique, gives-outcome, refused-not-accepted, accepted-parts}
+use Rattle.strides.specs.Cheapest.{Kind, Cheapest}
+use Rattle.strides.specs.Trie.{Trie}
+use Rattle.strides.specs.Recurrence.{plain, leastBy}
+use Rattle.strides.proofs.Insertion.{trie-depth-width}
+use Rattle.strides.specs.Strides.{Good, Follows}
+use Rattle.strides.proofs.Cheapest.{least-cheapest}
+use Rattle.strides.proofs.Follows.{follows-good, follows-unique}
+use Rattle.tries.specs.Blocks.{Strides, blocksAlong, rowCount, strideOf}
+use Rattle.tries.specs.Build.{roomTest, buildTests}
+use Rattle.tries.specs.Built.{tableTrie}
+use Rattle.tries.specs.Chooser.{chooseTests}
+use Rattle.tries.specs.Scratch.{ROW}
+use Rattle.tries.proofs.Agreeing.{Agree, same-agree, blocks-same, count-same, stride-same}
+use Rattle.tries.proofs.Choosing.{accepted-levels, accepted-tests-table}
+use Rattle.tries.proofs.Builds.{tests-least, table-follows}
+use Rattle.sheet.specs.declared.running.Report.{Report}
+use Rattle.sheet.specs.Limits.{LENT-ROWS, LENT-ELEMENTS}
+use Rattle.sheet.specs.Report.{refusalLines}
+use Rattle.sheet.specs.Answers.{answersReport}
+use Rattle.sheet.specs.Sheet.{Text, good, bad, textOf}
+use Rattle.sheet.specs.Solved.{hopOf, reportBy, buildOutcome, chosen, tableReport, reportFor, solved}
+use Rattle.sheet.specs.Tablet.{textReport, reportOf, answerFor, leftFor, Ran}
+use Rattle.sheet.specs.Meaning.{Solves, Says, Reports}
+
+-- ---- the meaning of the definition
+
+accepted-tests : (W k : ℕ) (vs ls hs : List ℕ) (words room least : ℕ) → outcome (buildTests W k vs ls hs words room least) ≡ Accepted
+    → outcome (chooseTests W k vs ls hs words) ≡ Accepted
+unfolding buildTests
+accepted-tests W k vs ls hs words room least e = accepted-parts (chooseTests W k vs ls hs words) _ e .0
+
+module _ (kind : Kind) (W k : ℕ) (vs ls hs xs ds : List ℕ) where
+  solved-out : (o : Outcome) → buildOutcome kind W k vs ls hs ≡ o → Solves kind W k vs ls hs xs ds (reportFor o (tableReport kind W k vs ls hs xs ds))
+  unfolding buildOutcome reportFor
+  solved-out o e = record {
+    out = o;
+    tested = λ least c.
+        let t = buildTests W k vs ls hs (LENT-ROWS * ROW) LENT-ELEMENTS least in
+        subst (Gives t) (sym (tests-least kind W k vs ls hs (LENT-ROWS * ROW) LENT-ELEMENTS least c) ∙ e) (outcome-gives t);
+    refused = refused-lines o;
+    accepted = λ a.
+        let pass = accepted-tests W k vs ls hs (LENT-ROWS * ROW) LENT-ELEMENTS (leastBy plain kind k (tableTrie W vs ls hs)) (e ∙ a) in
+        let some = accepted-levels W k vs ls hs (LENT-ROWS * ROW) pass .0 in
+        (chosen kind W k vs ls hs, table-follows kind W k vs ls hs (accepted-tests-table W k vs ls hs (LENT-ROWS * ROW) pass) some, rw a);
+  }
+    where
+      refused-lines : (o : Outcome) (n d : ℕ) → o ≡ Refused n d → reportFor o (tableReport kind W k vs ls hs xs ds) ≡ refusalLines n d
+      refused-lines o n d q = rw q
+
+  pub solved-means : Solves kind W k vs ls hs xs ds (reportFor (buildOutcome kind W k vs ls hs) (tableReport kind W k vs ls hs xs ds))
+  solved-means = solved-out (buildOutcome kind W k vs ls hs) refl
+
+text-says : (t : Text) → Says t (textReport t)
+unfolding textReport solved
+text-says (bad line) = refl
+text-says (good sh) = solved-means _ _ _ _ _ _ _ _
+
+pub ran-reports : {s out out′ : List ℕ} {r : Report} → Ran s out out′ r → Reports s out out′ r
+unfolding reportOf
+ran-reports {s} ran = record { bytes = reportOf s; says = text-says (textOf s); answer = ran .answer; left = ran .left }
+
+-- ---- and it leaves one report: nothing here knows how the least cost or the strides are found, but that there are some
+
+module _ (W k : ℕ) (vs ls hs : List ℕ) (σ τ : Strides) (g : Agree σ τ (tableTrie W vs ls hs) 0 k) where
+  report-one : (xs ds : List ℕ) → reportBy W k vs ls hs σ xs ds ≡ reportBy W k vs ls hs τ xs ds
+  unfolding reportBy
+  report-one xs ds =
+      let t = tableTrie W vs ls hs in
+      same (hopOf W k vs ls hs) (fun-ext (λ (a : ℕ). ap length (blocks-same σ τ W t 0 0 k a g))) (count-same σ τ t k g) (stride-same σ τ t k g)
+    where
+      same : (hop : ℕ → ℕ) {f f′ : ℕ → ℕ} {e e′ r r′ : ℕ} → f ≡ f′ → e ≡ e′ → r ≡ r′ → answersReport hop f xs ds W e r ≡ answersReport hop f′ xs ds W e′ r′
+      same hop p q z = rw (p, q, z)
+
+pub solves-unique : (kind : Kind) (W k : ℕ) (vs ls hs xs ds : List ℕ) {bytes bytes′ : List ℕ}
+    → Solves kind W k vs ls hs xs ds bytes → Solves kind W k vs ls hs xs ds bytes′ → bytes ≡ bytes′
+solves-unique kind W k vs ls hs xs ds {bytes} {bytes′} c d = go (c .out) refl
+  where
+    t : Trie
+    t = tableTrie W vs ls hs
+
+    least : ℕ
+    least = leastBy plain kind k t
+
+    tests : List Test
+    tests = buildTests W k vs ls hs (LENT-ROWS * ROW) LENT-ELEMENTS least
+
+    one : c .out ≡ d .out
+    one = gives-unique tests (c .out) (d .out) (c .tested least (least-cheapest kind k t)) (d .tested least (least-cheapest kind k t))
+
+    go : (o : Outcome) → c .out ≡ o → bytes ≡ bytes′
+    go (Refused n x) e = c .refused n x e ∙ sym (d .refused n x (sym one ∙ e))
+    go Accepted e =
+        let a = c .accepted e in
+        let a′ = d .accepted (sym one ∙ e) in
+        let gives = subst (Gives tests) e (c .tested least (least-cheapest kind k t)) in
+        let pass = accepted-tests W k vs ls hs (LENT-ROWS * ROW) LENT-ELEMENTS least (sym (gives-outcome tests Accepted gives)) in
+        let table = accepted-tests-table W k vs ls hs (LENT-ROWS * ROW) pass in
+        let deep = trie-depth-width W (at vs) (at ls) (at hs) (length vs) (λ i l. table .entry i l .prefix) in
+        let fine = follows-good kind k t W (a .0) (accepted-levels W k vs ls hs (LENT-ROWS * ROW) pass .0) deep (a .1) in
+        let agree = same-agree (a .0) (a′ .0) t W 0 k fine (follows-unique kind k t (a .0) (a′ .0) (a .1) (a′ .1)) in
+        a .2 ∙ report-one W k vs ls hs (a .0) (a′ .0) agree xs ds ∙ sym (a′ .2)
+
+says-unique : (t : Text) {bytes bytes′ : List ℕ} → Says t bytes → Says t bytes′ → bytes ≡ bytes′
+says-unique (bad line) p q = p ∙ sym q
+says-unique (good sh) p q = solves-unique _ _ _ _ _ _ _ _ p q
+
+-- one answer, and one thing left
+pub reports-unique : {s out o₁ o₂ : List ℕ} {r₁ r₂ : Report} → Reports s out o₁ r₁ → Reports s out o₂ r₂ → (r₁ ≡ r₂) × (o₁ ≡ o₂)
+reports-unique {s} {out} a b =
+    let e : a .bytes ≡ b .bytes = says-unique (textOf s) (a .says) (b .says) in
+    (a .answer ∙ ap (λ (x : List ℕ). answerFor x out) e ∙ sym (b .answer), a .left ∙ ap (λ (x : List ℕ). leftFor x out) e ∙ sym (b .left))

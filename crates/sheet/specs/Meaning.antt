@@ -1,0 +1,44 @@
+-- What a report means, with no way to find it: the first of the build's tests that fails, where 7 tests the least cost of all
+-- choices; or, for strides that follow the tie rule, the number of their rows, the root's stride, and for each address the hop of
+-- the longest entry that matches it and the number of blocks on its path.
+use mathlib.Core.Path.{_≡_}
+use mathlib.Core.List.{List}
+use Prim.Native.Nat.{ℕ, _*_, _≤_}
+use lib.ListN.{length}
+use Rattle.table.specs.Refusals.{Gives}
+use Rattle.table.specs.declared.entry.Outcome.{Outcome}
+use Rattle.table.specs.declared.entry.Outcome.the-variants.{Accepted, Refused}
+use Rattle.strides.specs.Cheapest.{Kind, Cheapest}
+use Rattle.strides.specs.Strides.{Follows}
+use Rattle.tries.specs.Blocks.{Strides}
+use Rattle.tries.specs.Build.{buildTests}
+use Rattle.tries.specs.Built.{tableTrie}
+use Rattle.tries.specs.Scratch.{ROW}
+use Rattle.sheet.specs.declared.running.Report.{Report}
+use Rattle.sheet.specs.Limits.{LENT-ROWS, LENT-ELEMENTS}
+use Rattle.sheet.specs.Report.{refusalLines}
+use Rattle.sheet.specs.Values.{valuesOf}
+use Rattle.sheet.specs.Sheet.{Text, good, bad, textOf}
+use Rattle.sheet.specs.Solved.{kindNamed, reportBy}
+use Rattle.sheet.specs.Tablet.{answerFor, leftFor}
+
+-- the report of a table and its queries
+pub record Solves (kind : Kind) (W k : ℕ) (vs ls hs xs ds bytes : List ℕ) : Type 0 where
+  pub out : Outcome
+  pub tested : (least : ℕ) → (1 ≤ k → Cheapest kind k (tableTrie W vs ls hs) least)
+      → Gives (buildTests W k vs ls hs (LENT-ROWS * ROW) LENT-ELEMENTS least) out
+  pub refused : (number detail : ℕ) → out ≡ Refused number detail → bytes ≡ refusalLines number detail
+  pub accepted : out ≡ Accepted → (σ : Strides) × Follows kind k (tableTrie W vs ls hs) σ × (bytes ≡ reportBy W k vs ls hs σ xs ds)
+
+-- the report of a text: a bad one is refused by 11, the first bad line as detail
+abbrev pub Says : Text → (bytes : List ℕ) → Type 0
+Says (bad line) bytes = bytes ≡ refusalLines 11 line
+Says (good sh) bytes =
+    Solves (kindNamed (sh .kind)) (sh .width) (sh .levels) (valuesOf (sh .width) (sh .bits) (sh .lengths)) (sh .lengths) (sh .hops) (sh .addresses) (sh .places) bytes
+
+-- what a call of `run` answers and leaves: such a report, in the room that was lent
+pub record Reports (s out out′ : List ℕ) (r : Report) : Type 0 where
+  pub bytes : List ℕ
+  pub says : Says (textOf s) bytes
+  pub answer : r ≡ answerFor bytes out
+  pub left : out′ ≡ leftFor bytes out
