@@ -1,0 +1,67 @@
+-- One lookup more is written at the next index: what was told stays, and later places are kept.
+use mathlib.Core.Path.{_≡_, refl, sym, ap, _∙_}
+use mathlib.Core.List.{List}
+use Prim.Native.Nat.{ℕ, _+_, _<_, _≤_}
+use native.Mathlib.Omega.{arith}
+use borrow.Author.Count.{below-more, below-none}
+use lib.ListN.{length, set, length-set}
+use lib.Seq.{getD-set-same, getD-set-other}
+use Rattle.table.specs.Table.{at}
+use Rattle.tries.specs.Limits.{WIDTH}
+use Rattle.tries.specs.Rows.{Lists}
+use Rattle.tries.specs.Meaning.{Looked}
+use Rattle.tries.specs.declared.record.Record.{Record}
+use Rattle.tries.specs.declared.walk.Answer.{Answer}
+use Rattle.gateway.specs.Numbers.{Told, answerNumbers}
+use Rattle.gateway.specs.Batch.{Columns, columns, foundAt, Exactly, Written}
+use Rattle.gateway.specs.declared.looking.Found.{Found}
+
+-- both clauses of the lookup's promise
+abbrev pub Promised : Record → Lists → (address : ℕ) → Answer → Type 0
+Promised rec ls address a = Exactly rec ls address a × Looked WIDTH rec ls address a
+
+-- an answer put at index i of the lists
+abbrev pub put : Columns → ℕ → Found → Columns
+put cs i f = columns (set (cs .number) i (f .number)) (set (cs .hop) i (f .hop)) (set (cs .reads) i (f .reads))
+
+found-same : {a a′ b b′ c c′ : ℕ} → a ≡ a′ → b ≡ b′ → c ≡ c′ → _≡_ {A = Found} (record { number = a; hop = b; reads = c }) (record { number = a′; hop = b′; reads = c′ })
+found-same p q r = rw (p, q, r)
+
+put-here : (cs : Columns) (i : ℕ) (f : Found) → i < length (cs .number) → i < length (cs .hop) → i < length (cs .reads) → foundAt (put cs i f) i ≡ f
+put-here cs i f a b c =
+    found-same (getD-set-same (cs .number) i (f .number) 0 a) (getD-set-same (cs .hop) i (f .hop) 0 b) (getD-set-same (cs .reads) i (f .reads) 0 c)
+
+put-elsewhere : (cs : Columns) (i k : ℕ) (f : Found) → (k ≡ i → ⊥) → foundAt (put cs i f) k ≡ foundAt cs k
+put-elsewhere cs i k f ne =
+    found-same
+    (getD-set-other (cs .number) i k (f .number) 0 ne)
+    (getD-set-other (cs .hop) i k (f .hop) 0 ne)
+    (getD-set-other (cs .reads) i k (f .reads) 0 ne)
+
+module _ {Allows : (address : ℕ) → Answer → Type 0} {xs : List ℕ} {cs : Columns} where
+  pub written-none : Written Allows xs cs cs 0
+  written-none = record { told = λ i h. absurd (omega arith); later = λ i h. refl; numbers = refl; hops = refl; counts = refl }
+
+  pub written-more : {now : Columns} {i : ℕ} {f : Found} → Written Allows xs cs now i
+      → i < length (now .number) → i < length (now .hop) → i < length (now .reads)
+      → Told (Allows (at xs i)) answerNumbers f → Written Allows xs cs (put now i f) (i + 1)
+  written-more {now} {i} {f} w a b c t = record {
+    told = below-more (λ (k : ℕ). Told (Allows (at xs k)) answerNumbers (foundAt (put now i f) k)) i
+        (λ k h. let u = w .told k h in (u .0, u .1, put-elsewhere now i k f (λ e. omega arith) ∙ u .2))
+        (t .0, t .1, put-here now i f a b c ∙ t .2);
+    later = λ k h. put-elsewhere now i k f (λ e. omega arith) ∙ w .later k (omega arith);
+    numbers = length-set (now .number) i (f .number) ∙ w .numbers;
+    hops = length-set (now .hop) i (f .hop) ∙ w .hops;
+    counts = length-set (now .reads) i (f .reads) ∙ w .counts;
+  }
+
+-- what is written by a promise is written by one that follows from it
+pub written-by : {Allows Also : (address : ℕ) → Answer → Type 0} {xs : List ℕ} {cs cs′ : Columns} {n : ℕ}
+    → ((x : ℕ) (a : Answer) → Allows x a → Also x a) → Written Allows xs cs cs′ n → Written Also xs cs cs′ n
+written-by {xs = xs} f w = record {
+  told = λ i h. let u = w .told i h in (u .0, f (at xs i) (u .0) (u .1), u .2);
+  later = w .later;
+  numbers = w .numbers;
+  hops = w .hops;
+  counts = w .counts;
+}

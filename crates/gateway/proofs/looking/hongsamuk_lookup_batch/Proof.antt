@@ -1,0 +1,115 @@
+-- The first i lookups are written, by both clauses of the lookup's promise.
+use mathlib.Core.Path.{_≡_}
+use Prim.Native.Nat.{_-_, _≤_}
+use native.Mathlib.Omega.{arith}
+use borrow.Author.Needs.{needs}
+use Rattle.tries.specs.Rows.{lists}
+use Rattle.gateway.specs.Batch.{columns, Written}
+use Rattle.gateway.proofs.Writing.{Promised, written-none, written-more, written-by}
+use Rattle.gateway.proofs.looking.hongsamuk_lookup_batch.Statement.{statement}
+use Rattle.gateway.proofs.looking.hongsamuk_lookup_batch.Tie as tie
+
+abbrev Inv-loop : tie.InvT-loop
+Inv-loop rec hops links strides address number₀ hop₀ reads₀ n i₀ number hop reads i =
+    (i ≤ n) × Written (Promised rec (lists hops links strides)) address (columns number₀ hop₀ reads₀) (columns number hop reads) i
+
+abbrev μ-loop : tie.MeasureT-loop
+μ-loop rec hops links strides address number₀ hop₀ reads₀ n i₀ number hop reads i = n - i
+
+least-requires : tie.Need-least-requires Inv-loop μ-loop
+least-requires c κs = search needs
+
+least-requires-2 : tie.Need-least-requires-2 Inv-loop μ-loop
+least-requires-2 c κs = search needs
+
+least-requires-3 : tie.Need-least-requires-3 Inv-loop μ-loop
+least-requires-3 c κs = search needs
+
+loop-holds : tie.Need-loop-holds Inv-loop μ-loop
+loop-holds c = (omega arith, written-none)
+
+mul-lookup : tie.Need-mul-lookup Inv-loop μ-loop
+mul-lookup c = search needs
+
+shared-slice-read-lookup : tie.Need-shared-slice-read-lookup Inv-loop μ-loop
+shared-slice-read-lookup c = search needs
+
+lookup-requires : tie.Need-lookup-requires Inv-loop μ-loop
+lookup-requires c κs = search needs
+
+answer-numbers-requires : tie.Need-answer-numbers-requires Inv-loop μ-loop
+answer-numbers-requires c κs = search needs
+
+mul-number : tie.Need-mul-number Inv-loop μ-loop
+mul-number c = search needs
+
+slice-write-number : tie.Need-slice-write-number Inv-loop μ-loop
+slice-write-number c = search needs
+
+mul-hop : tie.Need-mul-hop Inv-loop μ-loop
+mul-hop c = search needs
+
+slice-write-hop : tie.Need-slice-write-hop Inv-loop μ-loop
+slice-write-hop c = search needs
+
+mul-reads : tie.Need-mul-reads Inv-loop μ-loop
+mul-reads c = search needs
+
+slice-write-reads : tie.Need-slice-write-reads Inv-loop μ-loop
+slice-write-reads c = search needs
+
+add-i : tie.Need-add-i Inv-loop μ-loop
+add-i c = search needs
+
+loop-less : tie.Need-loop-less Inv-loop μ-loop
+loop-less c = search needs
+
+loop-again : tie.Need-loop-again Inv-loop μ-loop
+loop-again c =
+    let w = c .before .before .before .before .loop .inv .1 in
+    (omega arith, written-more w (omega (arith, w .numbers)) (omega (arith, w .hops)) (omega (arith, w .counts)) (c .before .lookup .result, c .before .lookup .ensures, c .answer-numbers .ensures))
+
+same-length : tie.Need-same-length Inv-loop μ-loop
+same-length c = c .before .loop .inv .1 .numbers
+
+same-length-2 : tie.Need-same-length-2 Inv-loop μ-loop
+same-length-2 c = c .before .loop .inv .1 .hops
+
+same-length-3 : tie.Need-same-length-3 Inv-loop μ-loop
+same-length-3 c = c .before .loop .inv .1 .counts
+
+returns : tie.Need-returns Inv-loop μ-loop
+returns c =
+    let l = c .before .loop in
+    let n = c .before .before .least3 .result in
+    let e : l .i ≡ n = omega arith in
+    let w = rw e at (l .inv .1) in
+    (record { count = omega arith; written = written-by (λ x a p. p .0) w }, record { count = omega arith; written = written-by (λ x a p. p .1) w })
+
+pub hongsamuk-lookup-batch-spec : {M : Type 1} → statement M
+hongsamuk-lookup-batch-spec =
+    tie.close
+    (tie.spec
+    Inv-loop
+    μ-loop
+    least-requires
+    least-requires-2
+    least-requires-3
+    loop-holds
+    mul-lookup
+    shared-slice-read-lookup
+    lookup-requires
+    answer-numbers-requires
+    mul-number
+    slice-write-number
+    mul-hop
+    slice-write-hop
+    mul-reads
+    slice-write-reads
+    add-i
+    loop-less
+    loop-again
+    same-length
+    same-length-2
+    same-length-3
+    returns)

@@ -1,0 +1,24 @@
+-- What the promises of a chooser and of a build allow, as families of their answers: exactly, and by what they mean.
+use mathlib.Core.List.{List}
+use Prim.Native.Nat.{ℕ}
+use Rattle.strides.specs.Cheapest.{Kind}
+use Rattle.tries.specs.Rows.{Lists}
+use Rattle.tries.specs.Chooser.{ChosenIs, Chooses}
+use Rattle.tries.specs.Build.{BuildIs, Builds}
+use Rattle.tries.specs.declared.chooser.Chosen.{Chosen}
+use Rattle.tries.specs.declared.building.Built.{Built}
+
+module _ (kind : Kind) (W k : ℕ) (vs ls hs : List ℕ) where
+  module _ (scratch scratch′ : List ℕ) where
+    abbrev pub ExactChoice : Chosen → Type 0
+    ExactChoice c = ChosenIs kind W k vs ls hs scratch (c .outcome) (c .cost) (c .strides) scratch′
+
+    abbrev pub AllowedChoice : Chosen → Type 0
+    AllowedChoice c = Chooses kind W k vs ls hs scratch (c .outcome) (c .cost) (c .strides) scratch′
+
+  module _ (scratch : List ℕ) (rows : Lists) (scratch′ : List ℕ) (rows′ : Lists) where
+    abbrev pub ExactBuild : Built → Type 0
+    ExactBuild b = BuildIs kind W k vs ls hs scratch rows (b .outcome) (b .record) scratch′ rows′
+
+    abbrev pub AllowedBuild : Built → Type 0
+    AllowedBuild b = Builds kind W k vs ls hs scratch rows (b .outcome) (b .record) scratch′ rows′

@@ -1,0 +1,44 @@
+-- Lookups one after the other: which addresses are answered, and what the three answer lists then hold.
+use mathlib.Core.Path.{_≡_}
+use mathlib.Core.List.{List}
+use Prim.Native.Nat.{ℕ, min, _≤_, _<_}
+use lib.ListN.{length}
+use Rattle.table.specs.Table.{at}
+use Rattle.tries.specs.Limits.{WIDTH}
+use Rattle.tries.specs.Rows.{Lists}
+use Rattle.tries.specs.Lookup.{lookupOf}
+use Rattle.tries.specs.declared.record.Record.{Record}
+use Rattle.tries.specs.declared.walk.Answer.{Answer}
+use Rattle.gateway.specs.Numbers.{Told, answerNumbers}
+use Rattle.gateway.specs.declared.looking.Found.{Found}
+
+-- the answer lists
+pub record Columns : Type 0 where
+  pub number : List ℕ
+  pub hop : List ℕ
+  pub reads : List ℕ
+
+abbrev pub columns : (number hop reads : List ℕ) → Columns
+columns number hop reads = record { number = number; hop = hop; reads = reads }
+
+-- what stands at an index of them
+abbrev pub foundAt : Columns → ℕ → Found
+foundAt cs i = record { number = at (cs .number) i; hop = at (cs .hop) i; reads = at (cs .reads) i }
+
+-- the answer of a lookup, as a function
+abbrev pub Exactly : Record → Lists → (address : ℕ) → Answer → Type 0
+Exactly rec ls address a = a ≡ lookupOf WIDTH rec ls address
+
+-- the first n addresses are answered: at each index stand the numbers of an answer that the lookup's promise allows for that
+-- address, and every later place is kept
+pub record Written (Allows : (address : ℕ) → Answer → Type 0) (xs : List ℕ) (cs cs′ : Columns) (n : ℕ) : Type 0 where
+  pub told : (i : ℕ) → i < n → Told (Allows (at xs i)) answerNumbers (foundAt cs′ i)
+  pub later : (i : ℕ) → n ≤ i → foundAt cs′ i ≡ foundAt cs i
+  pub numbers : length (cs′ .number) ≡ length (cs .number)
+  pub hops : length (cs′ .hop) ≡ length (cs .hop)
+  pub counts : length (cs′ .reads) ≡ length (cs .reads)
+
+-- as many as the shortest of the address list and the answer lists has
+pub record Answered (Allows : (address : ℕ) → Answer → Type 0) (xs : List ℕ) (cs cs′ : Columns) (n : ℕ) : Type 0 where
+  pub count : n ≡ min (length xs) (min (length (cs .number)) (min (length (cs .hop)) (length (cs .reads))))
+  pub written : Written Allows xs cs cs′ n

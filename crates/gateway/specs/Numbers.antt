@@ -1,0 +1,52 @@
+-- Each answer as the C caller sees it: for each case of an answer the refusal's number, 0 where it is accepted, the detail, and
+-- the values, which are 0 where it is refused.
+use mathlib.Core.Path.{_≡_}
+use Prim.Native.Nat.{ℕ}
+use Rattle.table.specs.Answers.{sharedOutcome, sharedBits, spanOutcome, spanIndex, spanCount}
+use Rattle.table.specs.declared.entry.Outcome.{Outcome}
+use Rattle.table.specs.declared.entry.Outcome.the-variants.{Accepted, Refused}
+use Rattle.table.specs.declared.sharing.Shared.{Shared}
+use Rattle.table.specs.declared.zoning.Span.{Span}
+use Rattle.tries.specs.Answers.{numberOf, hopOf, readsOf}
+use Rattle.tries.specs.declared.chooser.Chosen.{Chosen}
+use Rattle.tries.specs.declared.building.Built.{Built}
+use Rattle.tries.specs.declared.walk.Answer.{Answer}
+use Rattle.gateway.specs.declared.entries.Checked.{Checked}
+use Rattle.gateway.specs.declared.entries.SharedBits.{SharedBits}
+use Rattle.gateway.specs.declared.entries.ZoneSpan.{ZoneSpan}
+use Rattle.gateway.specs.declared.choosing.Choice.{Choice}
+use Rattle.gateway.specs.declared.making.BuiltRows.{BuiltRows}
+use Rattle.gateway.specs.declared.looking.Found.{Found}
+
+-- r is the numbers of an answer that the promise allows
+abbrev pub Told : {A B : Type 0} → (Allows : A → Type 0) (numbers : A → B) → B → Type 0
+Told {A} Allows numbers r = (a : A) × Allows a × (r ≡ numbers a)
+
+abbrev pub outcomeNumber : Outcome → ℕ
+outcomeNumber Accepted = 0
+outcomeNumber (Refused number detail) = number
+
+abbrev pub outcomeDetail : Outcome → ℕ
+outcomeDetail Accepted = 0
+outcomeDetail (Refused number detail) = detail
+
+abbrev pub outcomeNumbers : Outcome → Checked
+outcomeNumbers o = record { number = outcomeNumber o; detail = outcomeDetail o }
+
+-- a refused shared length has detail 0 (proofs/Zeros), so none is told
+abbrev pub sharedNumbers : Shared → SharedBits
+sharedNumbers s = record { number = outcomeNumber (sharedOutcome s); bits = sharedBits s }
+
+abbrev pub spanNumbers : Span → ZoneSpan
+spanNumbers s =
+    record { number = outcomeNumber (spanOutcome s); detail = outcomeDetail (spanOutcome s); index = spanIndex s; count = spanCount s }
+
+abbrev pub choiceNumbers : Chosen → Choice
+choiceNumbers c =
+    record { number = outcomeNumber (c .outcome); detail = outcomeDetail (c .outcome); cost = c .cost; strides = c .strides }
+
+abbrev pub buildNumbers : Built → BuiltRows
+buildNumbers b = record { number = outcomeNumber (b .outcome); detail = outcomeDetail (b .outcome); «record» = b .record }
+
+abbrev pub answerNumbers : Answer → Found
+answerNumbers a = record { number = numberOf a; hop = hopOf a; reads = readsOf a }

@@ -1,0 +1,23 @@
+// The calls for C: the table check, the two answers about entries, the choosers, the builds and the lookup, and a lookup of many
+// addresses in one call. Each is thin over `table` and `tries`, takes any numbers and any lists, and hands its answer back as a
+// struct of plain numbers: 0 for accepted or the refusal, its detail, then the values, which are 0 where it is refused.
+mod choosing;
+mod entries;
+mod looking;
+mod making;
+
+pub use choosing::Choice;
+pub use choosing::hongsamuk_choose_fixed;
+pub use choosing::hongsamuk_choose_variable;
+pub use entries::Checked;
+pub use entries::SharedBits;
+pub use entries::ZoneSpan;
+pub use entries::hongsamuk_check;
+pub use entries::hongsamuk_shared_length;
+pub use entries::hongsamuk_zone_span;
+pub use looking::Found;
+pub use looking::hongsamuk_lookup;
+pub use looking::hongsamuk_lookup_batch;
+pub use making::BuiltRows;
+pub use making::hongsamuk_build_fixed;
+pub use making::hongsamuk_build_variable;

@@ -1,0 +1,92 @@
+// The lookup for C, one address or many (01, "The element rows").
+ghost use mathlib.Core.Path.{_≡_};
+ghost use Prim.Native.Nat.{min};
+ghost use Rattle.tries.specs.Limits.{WIDTH};
+ghost use Rattle.tries.specs.Rows.{lists};
+ghost use Rattle.tries.specs.Lookup.{lookupOf};
+ghost use Rattle.tries.specs.Meaning.{Looked};
+ghost use Rattle.gateway.specs.Numbers.{Told, answerNumbers};
+ghost use Rattle.gateway.specs.Batch.{columns, Exactly, Answered};
+use tries::Answer;
+use tries::Record;
+
+#[repr(C)]
+pub struct Found {
+    pub number: u32,
+    pub hop: u16,
+    pub reads: u32,
+}
+
+fn answer_numbers(answer: Answer) -> Found
+    ensures { λ r. ⌜ r ≡ answerNumbers answer ⌝ }
+{
+    match answer {
+        Answer::Match { hop, reads } => Found {
+            number: 0,
+            hop,
+            reads,
+        },
+        Answer::NoRoute { reads } => Found {
+            number: 0,
+            hop: 0,
+            reads,
+        },
+        Answer::Refused { number } => Found {
+            number,
+            hop: 0,
+            reads: 0,
+        },
+    }
+}
+
+// The hop of the longest prefix that begins the address, or none: tests 1, 2, 8, 9. No list changes.
+#[no_mangle]
+pub extern "C" fn hongsamuk_lookup(
+    rec: Record,
+    hops: &[u16],
+    links: &[u32],
+    strides: &[u8],
+    address: u32,
+) -> Found
+    ensures exact { λ r. ⌜ r ≡ answerNumbers (lookupOf WIDTH rec (lists (now (hops .entry)) (now (links .entry)) (now (strides .entry))) address) ⌝ }
+    ensures meaning { λ r. ⌜ Told (Looked WIDTH rec (lists (now (hops .entry)) (now (links .entry)) (now (strides .entry))) address) answerNumbers r ⌝ }
+{
+    answer_numbers(tries::lookup(rec, hops, links, strides, address))
+}
+
+fn least(a: usize, b: usize) -> usize
+    ensures { λ r. ⌜ r ≡ min a b ⌝ }
+{
+    if a < b { a } else { b }
+}
+
+// Lookups one after the other: as many as the shortest of the address list and the three answer lists has. Number, hop and reads
+// of each are written at its index, later places are kept, and the answer is how many. No other list changes.
+#[no_mangle]
+pub extern "C" fn hongsamuk_lookup_batch(
+    rec: Record,
+    hops: &[u16],
+    links: &[u32],
+    strides: &[u8],
+    address: &[u32],
+    number: &mut [u32],
+    hop: &mut [u16],
+    reads: &mut [u32],
+) -> usize
+    ensures exact { λ r. ⌜ Answered (Exactly rec (lists (now (hops .entry)) (now (links .entry)) (now (strides .entry)))) (now (address .entry)) (columns (now (number .entry)) (now (hop .entry)) (now (reads .entry))) (columns (now (number .exit)) (now (hop .exit)) (now (reads .exit))) r ⌝ }
+    ensures meaning { λ r. ⌜ Answered (Looked WIDTH rec (lists (now (hops .entry)) (now (links .entry)) (now (strides .entry)))) (now (address .entry)) (columns (now (number .entry)) (now (hop .entry)) (now (reads .entry))) (columns (now (number .exit)) (now (hop .exit)) (now (reads .exit))) r ⌝ }
+{
+    let n = least(
+        address.len(),
+        least(number.len(), least(hop.len(), reads.len())),
+    );
+    let mut i = 0;
+    while i < n {
+        let found = answer_numbers(tries::lookup(rec, hops, links, strides, address[i]));
+        number[i] = found.number;
+        hop[i] = found.hop;
+        reads[i] = found.reads;
+        i += 1;
+    }
+    n
+}

@@ -1,0 +1,91 @@
+// The builds for C (01, "The element rows").
+ghost use mathlib.Core.Path.{_≡_};
+ghost use Rattle.strides.specs.Cheapest.{fixed, variable};
+ghost use Rattle.tries.specs.Rows.{lists};
+ghost use Rattle.gateway.specs.Numbers.{Told, buildNumbers};
+ghost use Rattle.gateway.specs.Allowed.{ExactBuild, AllowedBuild};
+use crate::entries::outcome_numbers;
+use tries::Built;
+use tries::Kind;
+use tries::Record;
+
+#[repr(C)]
+pub struct BuiltRows {
+    pub number: u32,
+    pub detail: u64,
+    pub record: Record,
+}
+
+fn build_numbers(built: Built) -> BuiltRows
+    ensures { λ r. ⌜ r ≡ buildNumbers built ⌝ }
+{
+    let outcome = built.outcome;
+    let told = outcome_numbers(outcome);
+    let rec = built.record;
+    BuiltRows {
+        number: told.number,
+        detail: told.detail,
+        record: rec,
+    }
+}
+
+// Turns a table into a record and element rows, one stride a level, with the least number E of rows: tests 1 to 7. Accepted, all
+// of scratch is 0 and rows 0 to E - 1 are written. Refused, the record is 0 and no element changes; scratch is 0 after 7, else kept.
+#[no_mangle]
+pub extern "C" fn hongsamuk_build_fixed(
+    width: u32,
+    levels: u32,
+    value: &[u32],
+    length: &[u8],
+    hop: &[u16],
+    scratch: &mut [u64],
+    hops: &mut [u16],
+    links: &mut [u32],
+    strides: &mut [u8],
+) -> BuiltRows
+    ensures exact { λ r. ⌜ Told (ExactBuild fixed width levels (now (value .entry)) (now (length .entry)) (now (hop .entry)) (now (scratch .entry)) (lists (now (hops .entry)) (now (links .entry)) (now (strides .entry))) (now (scratch .exit)) (lists (now (hops .exit)) (now (links .exit)) (now (strides .exit)))) buildNumbers r ⌝ }
+    ensures meaning { λ r. ⌜ Told (AllowedBuild fixed width levels (now (value .entry)) (now (length .entry)) (now (hop .entry)) (now (scratch .entry)) (lists (now (hops .entry)) (now (links .entry)) (now (strides .entry))) (now (scratch .exit)) (lists (now (hops .exit)) (now (links .exit)) (now (strides .exit)))) buildNumbers r ⌝ }
+{
+    build_numbers(tries::build(
+        Kind::Fixed,
+        width,
+        levels,
+        value,
+        length,
+        hop,
+        scratch,
+        hops,
+        links,
+        strides,
+    ))
+}
+
+// The same with one stride a block: the record names the root's only.
+#[no_mangle]
+pub extern "C" fn hongsamuk_build_variable(
+    width: u32,
+    levels: u32,
+    value: &[u32],
+    length: &[u8],
+    hop: &[u16],
+    scratch: &mut [u64],
+    hops: &mut [u16],
+    links: &mut [u32],
+    strides: &mut [u8],
+) -> BuiltRows
+    ensures exact { λ r. ⌜ Told (ExactBuild variable width levels (now (value .entry)) (now (length .entry)) (now (hop .entry)) (now (scratch .entry)) (lists (now (hops .entry)) (now (links .entry)) (now (strides .entry))) (now (scratch .exit)) (lists (now (hops .exit)) (now (links .exit)) (now (strides .exit)))) buildNumbers r ⌝ }
+    ensures meaning { λ r. ⌜ Told (AllowedBuild variable width levels (now (value .entry)) (now (length .entry)) (now (hop .entry)) (now (scratch .entry)) (lists (now (hops .entry)) (now (links .entry)) (now (strides .entry))) (now (scratch .exit)) (lists (now (hops .exit)) (now (links .exit)) (now (strides .exit)))) buildNumbers r ⌝ }
+{
+    build_numbers(tries::build(
+        Kind::Variable,
+        width,
+        levels,
+        value,
+        length,
+        hop,
+        scratch,
+        hops,
+        links,
+        strides,
+    ))
+}
