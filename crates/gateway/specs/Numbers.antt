@@ -33,7 +33,7 @@ outcomeDetail (Refused number detail) = detail
 abbrev pub outcomeNumbers : Outcome → Checked
 outcomeNumbers o = record { number = outcomeNumber o; detail = outcomeDetail o }
 
--- a refused shared length has detail 0 (proofs/Zeros), so none is told
+-- a refused shared length has detail 0 (proofs/Numbers), so none is told
 abbrev pub sharedNumbers : Shared → SharedBits
 sharedNumbers s = record { number = outcomeNumber (sharedOutcome s); bits = sharedBits s }
 

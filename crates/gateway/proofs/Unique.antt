@@ -1,0 +1,100 @@
+-- Each call's promise leaves one result: from what it MEANS alone, the numbers handed back and what the lists then hold.
+use mathlib.Core.Path.{_≡_, sym, ap, _∙_}
+use mathlib.Core.List.{List}
+use Prim.Native.Nat.{ℕ, _<_}
+use native.Mathlib.Omega.{arith}
+use native.Mathlib.Decide.{decLe}
+use lib.ListN.{length}
+use lib.Seq.{ext-getD}
+use Rattle.table.specs.Refusals.{Gives}
+use Rattle.table.specs.Table.{tableTests}
+use Rattle.table.specs.Answers.{Shares, Spans}
+use Rattle.table.specs.declared.entry.Outcome.{Outcome}
+use Rattle.table.proofs.Unique.{check-unique, shares-unique, spans-unique}
+use Rattle.strides.specs.Cheapest.{Kind}
+use Rattle.tries.specs.Limits.{WIDTH}
+use Rattle.tries.specs.Rows.{Lists}
+use Rattle.tries.specs.Meaning.{Looked}
+use Rattle.tries.specs.declared.chooser.Chosen.{Chosen}
+use Rattle.tries.specs.declared.building.Built.{Built}
+use Rattle.tries.specs.declared.record.Record.{Record}
+use Rattle.tries.specs.declared.walk.Answer.{Answer}
+use Rattle.tries.proofs.Choosing.{chooses-unique}
+use Rattle.tries.proofs.OneBuild.{builds-unique}
+use Rattle.tries.proofs.Unique.{looked-unique}
+use Rattle.gateway.specs.Numbers.{Told, outcomeNumbers, sharedNumbers, spanNumbers, choiceNumbers, buildNumbers, answerNumbers}
+use Rattle.gateway.specs.Allowed.{AllowedChoice, AllowedBuild}
+use Rattle.gateway.specs.Batch.{Columns, columns, foundAt, Written, Answered}
+use Rattle.gateway.specs.declared.entries.Checked.{Checked}
+use Rattle.gateway.specs.declared.entries.SharedBits.{SharedBits}
+use Rattle.gateway.specs.declared.entries.ZoneSpan.{ZoneSpan}
+use Rattle.gateway.specs.declared.choosing.Choice.{Choice}
+use Rattle.gateway.specs.declared.making.BuiltRows.{BuiltRows}
+use Rattle.gateway.specs.declared.looking.Found.{Found}
+
+-- one answer is allowed, so one answer is told
+told-unique : {A B : Type 0} {Allows : A → Type 0} {numbers : A → B} → ((a b : A) → Allows a → Allows b → a ≡ b) → {r r′ : B}
+    → Told Allows numbers r → Told Allows numbers r′ → r ≡ r′
+told-unique {numbers = numbers} one t t′ = t .2 ∙ ap numbers (one (t .0) (t′ .0) (t .1) (t′ .1)) ∙ sym (t′ .2)
+
+pub checked-unique : (W : ℕ) (vs ls hs : List ℕ) {r r′ : Checked}
+    → Told (Gives (tableTests W vs ls hs)) outcomeNumbers r → Told (Gives (tableTests W vs ls hs)) outcomeNumbers r′ → r ≡ r′
+checked-unique W vs ls hs = told-unique (check-unique W vs ls hs)
+
+pub shared-bits-unique : (W a l b m : ℕ) {r r′ : SharedBits} → Told (Shares W a l b m) sharedNumbers r → Told (Shares W a l b m) sharedNumbers r′ → r ≡ r′
+shared-bits-unique W a l b m = told-unique (shares-unique W a l b m)
+
+pub zone-span-unique : (W : ℕ) (vs ls hs : List ℕ) (p b : ℕ) {r r′ : ZoneSpan}
+    → Told (Spans W vs ls hs p b) spanNumbers r → Told (Spans W vs ls hs p b) spanNumbers r′ → r ≡ r′
+zone-span-unique W vs ls hs p b = told-unique (spans-unique W vs ls hs p b)
+
+pub found-unique : (rec : Record) (ls : Lists) (address : ℕ) {r r′ : Found}
+    → Told (Looked WIDTH rec ls address) answerNumbers r → Told (Looked WIDTH rec ls address) answerNumbers r′ → r ≡ r′
+found-unique rec ls address = told-unique (λ a b p q. looked-unique p q)
+
+-- ---- with what is left in the lists
+
+choice-same : {c c′ : Chosen} → c .outcome ≡ c′ .outcome → c .cost ≡ c′ .cost → c .strides ≡ c′ .strides → choiceNumbers c ≡ choiceNumbers c′
+choice-same p q r = rw (p, q, r)
+
+build-same : {b b′ : Built} → b .outcome ≡ b′ .outcome → b .record ≡ b′ .record → buildNumbers b ≡ buildNumbers b′
+build-same p q = rw (p, q)
+
+module _ (kind : Kind) (W k : ℕ) (vs ls hs scratch : List ℕ) where
+  pub choice-unique : {s s′ : List ℕ} {r r′ : Choice} → Told (AllowedChoice kind W k vs ls hs scratch s) choiceNumbers r
+      → Told (AllowedChoice kind W k vs ls hs scratch s′) choiceNumbers r′ → (r ≡ r′) × (s ≡ s′)
+  choice-unique t t′ =
+      let u = chooses-unique kind W k vs ls hs scratch (t .1) (t′ .1) in
+      (t .2 ∙ choice-same {c = t .0} {c′ = t′ .0} (u .0) (u .1) (u .2) ∙ sym (t′ .2), u .3)
+
+  pub built-unique : {rows rows1 rows2 : Lists} {s s′ : List ℕ} {r r′ : BuiltRows} → Told (AllowedBuild kind W k vs ls hs scratch rows s rows1) buildNumbers r
+      → Told (AllowedBuild kind W k vs ls hs scratch rows s′ rows2) buildNumbers r′ → (r ≡ r′) × (s ≡ s′) × (rows1 ≡ rows2)
+  built-unique {rows} t t′ =
+      let u = builds-unique kind W k vs ls hs scratch rows (t .1) (t′ .1) in
+      (t .2 ∙ build-same {b = t .0} {b′ = t′ .0} (u .0) (u .1) ∙ sym (t′ .2), u .2, u .3)
+
+columns-same : {a a′ b b′ c c′ : List ℕ} → a ≡ a′ → b ≡ b′ → c ≡ c′ → columns a b c ≡ columns a′ b′ c′
+columns-same p q r = rw (p, q, r)
+
+module _ (rec : Record) (ls : Lists) (xs : List ℕ) (cs : Columns) where
+  -- the same at every index
+  places-one : {cs1 cs2 : Columns} {n : ℕ} → Written (Looked WIDTH rec ls) xs cs cs1 n → Written (Looked WIDTH rec ls) xs cs cs2 n
+      → (i : ℕ) → foundAt cs1 i ≡ foundAt cs2 i
+  places-one {n = n} w w′ i = elim (decLe n i) [
+    | yes p ↦ w .later i p ∙ sym (w′ .later i p)
+    | no p ↦ told-unique (λ a b p q. looked-unique p q) (w .told i (omega arith)) (w′ .told i (omega arith))
+  ]
+
+  pub answered-unique : {cs1 cs2 : Columns} {n m : ℕ} → Answered (Looked WIDTH rec ls) xs cs cs1 n → Answered (Looked WIDTH rec ls) xs cs cs2 m
+      → (n ≡ m) × (cs1 ≡ cs2)
+  answered-unique {cs1} {cs2} {n} {m} a a′ =
+      let e : n ≡ m = a .count ∙ sym (a′ .count) in
+      let w = a .written in
+      let w′ : Written (Looked WIDTH rec ls) xs cs cs2 n = rw e (a′ .written) in
+      let one = places-one w w′ in (
+        e,
+        columns-same
+            (ext-getD 0 (cs1 .number) (cs2 .number) (w .numbers ∙ sym (w′ .numbers)) (λ i h. ap (λ (f : Found). f .number) (one i)))
+            (ext-getD 0 (cs1 .hop) (cs2 .hop) (w .hops ∙ sym (w′ .hops)) (λ i h. ap (λ (f : Found). f .hop) (one i)))
+            (ext-getD 0 (cs1 .reads) (cs2 .reads) (w .counts ∙ sym (w′ .counts)) (λ i h. ap (λ (f : Found). f .reads) (one i))),
+      )
