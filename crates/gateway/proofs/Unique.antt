@@ -1,15 +1,13 @@
 -- Each call's promise leaves one result: from what it MEANS alone, the numbers handed back and what the lists then hold.
 use mathlib.Core.Path.{_≡_, sym, ap, _∙_}
 use mathlib.Core.List.{List}
-use Prim.Native.Nat.{ℕ, _<_}
+use Prim.Native.Nat.{ℕ}
 use native.Mathlib.Omega.{arith}
 use native.Mathlib.Decide.{decLe}
-use lib.ListN.{length}
 use lib.Seq.{ext-getD}
 use Rattle.table.specs.Refusals.{Gives}
 use Rattle.table.specs.Table.{tableTests}
 use Rattle.table.specs.Answers.{Shares, Spans}
-use Rattle.table.specs.declared.entry.Outcome.{Outcome}
 use Rattle.table.proofs.Unique.{check-unique, shares-unique, spans-unique}
 use Rattle.strides.specs.Cheapest.{Kind}
 use Rattle.tries.specs.Limits.{WIDTH}
@@ -18,7 +16,6 @@ use Rattle.tries.specs.Meaning.{Looked}
 use Rattle.tries.specs.declared.chooser.Chosen.{Chosen}
 use Rattle.tries.specs.declared.building.Built.{Built}
 use Rattle.tries.specs.declared.record.Record.{Record}
-use Rattle.tries.specs.declared.walk.Answer.{Answer}
 use Rattle.tries.proofs.Choosing.{chooses-unique}
 use Rattle.tries.proofs.OneBuild.{builds-unique}
 use Rattle.tries.proofs.Unique.{looked-unique}

@@ -1,5 +1,4 @@
 -- The outcome's numbers beside cost and strides.
-use mathlib.Core.Path.{refl}
 use borrow.Author.Needs.{needs}
 use Rattle.gateway.proofs.choosing.choice_numbers.Statement.{statement}
 use Rattle.gateway.proofs.choosing.choice_numbers.Tie as tie

@@ -1,5 +1,4 @@
 -- The outcome's numbers beside the record.
-use mathlib.Core.Path.{refl}
 use borrow.Author.Needs.{needs}
 use Rattle.gateway.proofs.making.build_numbers.Statement.{statement}
 use Rattle.gateway.proofs.making.build_numbers.Tie as tie
