@@ -3,6 +3,7 @@ ghost use mathlib.Core.Path.{_≡_};
 ghost use Prim.Native.Nat.{min};
 ghost use Rattle.tries.specs.Limits.{WIDTH};
 ghost use Rattle.tries.specs.Rows.{lists};
+ghost use Rattle.tries.specs.Answers.{hopOf};
 ghost use Rattle.tries.specs.Lookup.{lookupOf};
 ghost use Rattle.tries.specs.Meaning.{Looked};
 ghost use Rattle.gateway.specs.Numbers.{Told, answerNumbers};
@@ -39,6 +40,17 @@ fn answer_numbers(answer: Answer) -> Found
     }
 }
 
+// The hop alone: compiled, a choice without a jump, since whether there is a route is hard to foresee.
+fn hop_of(answer: Answer) -> u16
+    ensures { λ r. ⌜ r ≡ hopOf answer ⌝ }
+{
+    match answer {
+        Answer::Match { hop, reads: _ } => hop,
+        Answer::NoRoute { reads: _ } => 0,
+        Answer::Refused { number: _ } => 0,
+    }
+}
+
 // The hop of the longest prefix that begins the address, or none: tests 1, 2, 8, 9. No list changes.
 #[no_mangle]
 pub extern "C" fn hongsamuk_lookup(
@@ -51,7 +63,13 @@ pub extern "C" fn hongsamuk_lookup(
     ensures exact { λ r. ⌜ r ≡ answerNumbers (lookupOf WIDTH rec (lists (now (hops .entry)) (now (links .entry)) (now (strides .entry))) address) ⌝ }
     ensures meaning { λ r. ⌜ Told (Looked WIDTH rec (lists (now (hops .entry)) (now (links .entry)) (now (strides .entry))) address) answerNumbers r ⌝ }
 {
-    answer_numbers(tries::lookup(rec, hops, links, strides, address))
+    let answer = tries::lookup(rec, hops, links, strides, address);
+    let found = answer_numbers(answer);
+    Found {
+        number: found.number,
+        hop: hop_of(answer),
+        reads: found.reads,
+    }
 }
 
 fn least(a: usize, b: usize) -> usize

@@ -1,6 +1,4 @@
 -- The lookup's answer in numbers.
-use mathlib.Core.Path.{ap, _∙_}
-use Rattle.gateway.specs.Numbers.{answerNumbers}
 use borrow.Author.Needs.{needs}
 use Rattle.gateway.proofs.looking.hongsamuk_lookup.Statement.{statement}
 use Rattle.gateway.proofs.looking.hongsamuk_lookup.Tie as tie
@@ -11,8 +9,15 @@ lookup-requires c κs = search needs
 answer-numbers-requires : tie.Need-answer-numbers-requires
 answer-numbers-requires c κs = search needs
 
+hop-of-requires : tie.Need-hop-of-requires
+hop-of-requires c κs = search needs
+
 returns : tie.Need-returns
-returns c = (c .answer-numbers .ensures ∙ ap answerNumbers (c .before .lookup .ensures .0), (c .before .lookup .result, c .before .lookup .ensures .1, c .answer-numbers .ensures))
+returns c =
+    let l = c .before .before .lookup in
+    let a = c .before .answer-numbers .ensures in
+    (rw (a, c .hop-of .ensures, l .ensures .0), (l .result, l .ensures .1, rw (a, c .hop-of .ensures)))
 
 pub hongsamuk-lookup-spec : {M : Type 1} → statement M
-hongsamuk-lookup-spec = tie.close (tie.spec lookup-requires answer-numbers-requires returns)
+hongsamuk-lookup-spec =
+    tie.close (tie.spec lookup-requires answer-numbers-requires hop-of-requires returns)
