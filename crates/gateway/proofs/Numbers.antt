@@ -1,32 +1,30 @@
 -- What the numbers tell: 0 says that the call was accepted, any other number that the test of that number was the first to fail,
--- with that detail. For this no test may have the number 0.
-use mathlib.Core.Path.{_≡_, refl, ap, subst}
-use mathlib.Core.Bool.{Bool, true, false, cond}
-use mathlib.Core.List.{List, [], _∷_, _++_}
+-- with that detail: no test has the number 0.
+use mathlib.Core.Path.{_≡_, ap, subst}
+use mathlib.Core.List.{List}
 use mathlib.Core.Logic.{inl, inr}
-use Prim.Native.Nat.{ℕ, zero, suc, _<_, _≤_}
+use Prim.Native.Nat.{ℕ, _<_, _≤_}
 use native.Mathlib.Omega.{arith}
 use native.Mathlib.Decide.{decLe}
-use lib.Dec.{eqb}
 use lib.ListN.{length}
 use Rattle.table.specs.Refusals.{Test, Gives}
-use Rattle.table.specs.Entry.{hopBad}
-use Rattle.table.specs.Table.{at, testsAt, entryTests, listTests, tableTests}
-use Rattle.table.specs.Answers.{prefixTest, sharedOutcome, sharedTests, Shares, spanOutcome, zoneTests, Spans}
+use Rattle.table.specs.Table.{tableTests}
+use Rattle.table.specs.Answers.{sharedOutcome, sharedTests, Shares, spanOutcome, zoneTests, Spans}
 use Rattle.table.specs.declared.entry.Outcome.{Outcome}
 use Rattle.table.specs.declared.entry.Outcome.the-variants.{Accepted, Refused}
 use Rattle.table.proofs.Refusals.{gives-unique, refused-not-accepted}
+use Rattle.table.proofs.Numbered.{Numbered, refused-number, numbered-table, numbered-zone, numbered-shared}
 use Rattle.strides.specs.Cheapest.{Kind, Cheapest}
 use Rattle.tries.specs.Limits.{WIDTH}
 use Rattle.tries.specs.Rows.{Lists, shortest}
 use Rattle.tries.specs.Built.{tableTrie}
-use Rattle.tries.specs.Chooser.{scratchTest, chooseTests}
-use Rattle.tries.specs.Build.{roomTest, buildTests}
-use Rattle.tries.specs.Answers.{numberOf, answer}
-use Rattle.tries.specs.Meaning.{Tested, Looked, refused, accepted}
+use Rattle.tries.specs.Chooser.{chooseTests}
+use Rattle.tries.specs.Build.{buildTests}
+use Rattle.tries.specs.Meaning.{Tested, Looked}
+use Rattle.tries.proofs.Choosing.{numbered-choose}
+use Rattle.tries.proofs.Builds.{numbered-build}
+use Rattle.tries.proofs.Demands.{looked-tested}
 use Rattle.tries.specs.declared.record.Record.{Record}
-use Rattle.tries.specs.declared.walk.Answer.{Answer}
-use Rattle.tries.specs.declared.walk.Answer.the-variants.{Match, NoRoute}
 use Rattle.gateway.specs.Numbers.{Told, outcomeNumber, outcomeDetail, outcomeNumbers, sharedNumbers, spanNumbers, choiceNumbers, buildNumbers, answerNumbers}
 use Rattle.gateway.specs.Allowed.{AllowedChoice, AllowedBuild}
 use Rattle.gateway.specs.declared.entries.Checked.{Checked}
@@ -41,23 +39,9 @@ pub record Tells (ts : List Test) (number detail : ℕ) : Type 0 where
   pub accepts : number ≡ 0 → Gives ts Accepted
   pub refuses : 0 < number → Gives ts (Refused number detail)
 
--- no test has the number 0
-abbrev Numbered : List Test → Type 0
-Numbered [] = Unit {0}
-Numbered (t ∷ ts) = (0 < t .number) × Numbered ts
-
-numbered-append : (ts us : List Test) → Numbered ts → Numbered us → Numbered (ts ++ us)
-numbered-append [] us p q = q
-numbered-append (t ∷ ts) us p q = (p .0, numbered-append ts us (p .1) q)
-
-refused-number : (ts : List Test) (n d : ℕ) → Numbered ts → Gives ts (Refused n d) → 0 < n
-refused-number [] n d p g = absurd (refused-not-accepted g)
-refused-number (t ∷ ts) n d p (inl g) = let e : n ≡ t .number = ap outcomeNumber (g .1) in omega (arith, p .0)
-refused-number (t ∷ ts) n d p (inr g) = refused-number ts n d (p .1) (g .1)
-
-outcome-tells : (ts : List Test) → Numbered ts → (o : Outcome) → Gives ts o → Tells ts (outcomeNumber o) (outcomeDetail o)
-outcome-tells ts p Accepted g = record { accepts = λ e. g; refuses = λ h. absurd (omega arith) }
-outcome-tells ts p (Refused n d) g = record { accepts = λ e. absurd (omega (arith, refused-number ts n d p g)); refuses = λ h. g }
+outcome-tells : (most : ℕ) (ts : List Test) → Numbered most ts → (o : Outcome) → Gives ts o → Tells ts (outcomeNumber o) (outcomeDetail o)
+outcome-tells most ts p Accepted g = record { accepts = λ e. g; refuses = λ h. absurd (omega arith) }
+outcome-tells most ts p (Refused n d) g = record { accepts = λ e. absurd (omega (arith, refused-number most ts n d p g .0)); refuses = λ h. g }
 
 pub tells-zero : (ts : List Test) (n d : ℕ) → Tells ts n d → Gives ts Accepted → n ≡ 0
 tells-zero ts n d t g = elim (decLe 1 n) [
@@ -65,45 +49,11 @@ tells-zero ts n d t g = elim (decLe 1 n) [
   | no p ↦ omega arith
 ]
 
--- ---- the numbers of 01's tests
-
-numbered-entries : (W : ℕ) (val len hop : ℕ → ℕ) (i m : ℕ) → Numbered (entryTests W hopBad val len hop i m)
-unfolding entryTests testsAt
-numbered-entries W val len hop i zero = tt
-numbered-entries W val len hop i (suc m) = (omega arith, (omega arith, numbered-entries W val len hop (suc i) m))
-
-module _ (W : ℕ) (vs ls hs : List ℕ) where
-  numbered-lists : Numbered (listTests W vs ls hs)
-  unfolding listTests
-  numbered-lists = (omega arith, numbered-entries W (at vs) (at ls) (at hs) 0 (length vs))
-
-  numbered-table : Numbered (tableTests W vs ls hs)
-  unfolding tableTests
-  numbered-table = (omega arith, numbered-lists)
-
-  numbered-zone : (p b : ℕ) → Numbered (zoneTests W vs ls hs p b)
-  unfolding zoneTests
-  numbered-zone p b = numbered-append (tableTests W vs ls hs) (prefixTest W p b ∷ []) numbered-table (omega arith, tt)
-
-  numbered-choose : (k words : ℕ) → Numbered (chooseTests W k vs ls hs words)
-  unfolding chooseTests
-  numbered-choose k words =
-      (omega arith, (omega arith, numbered-append (listTests W vs ls hs) (scratchTest W vs ls hs words ∷ []) numbered-lists (omega arith, tt)))
-
-  numbered-build : (k words room least : ℕ) → Numbered (buildTests W k vs ls hs words room least)
-  unfolding buildTests
-  numbered-build k words room least =
-      numbered-append (chooseTests W k vs ls hs words) (roomTest least room ∷ []) (numbered-choose k words) (omega arith, tt)
-
-numbered-shared : (W a l b m : ℕ) → Numbered (sharedTests W a l b m)
-unfolding sharedTests
-numbered-shared W a l b m = (omega arith, (omega arith, (omega arith, tt)))
-
 -- ---- each call's numbers
 
 pub checked-tells : (W : ℕ) (vs ls hs : List ℕ) {r : Checked} → Told (Gives (tableTests W vs ls hs)) outcomeNumbers r
     → Tells (tableTests W vs ls hs) (r .number) (r .detail)
-checked-tells W vs ls hs t = rw (t .2) (outcome-tells (tableTests W vs ls hs) (numbered-table W vs ls hs) (t .0) (t .1))
+checked-tells W vs ls hs t = rw (t .2) (outcome-tells 5 (tableTests W vs ls hs) (numbered-table 5 (omega arith) W vs ls hs) (t .0) (t .1))
 
 -- a refused shared length has detail 0
 shared-detail : (W a l b m : ℕ) (o : Outcome) → Gives (sharedTests W a l b m) o → outcomeDetail o ≡ 0
@@ -117,18 +67,18 @@ pub shared-bits-tells : (W a l b m : ℕ) {r : SharedBits} → Told (Shares W a 
 shared-bits-tells W a l b m t =
     let o = sharedOutcome (t .0) in
     let g = t .1 .tested in
-    rw (t .2) (subst (Tells (sharedTests W a l b m) (outcomeNumber o)) (shared-detail W a l b m o g) (outcome-tells (sharedTests W a l b m) (numbered-shared W a l b m) o g))
+    rw (t .2) (subst (Tells (sharedTests W a l b m) (outcomeNumber o)) (shared-detail W a l b m o g) (outcome-tells 10 (sharedTests W a l b m) (numbered-shared W a l b m) o g))
 
 pub zone-span-tells : (W : ℕ) (vs ls hs : List ℕ) (p b : ℕ) {r : ZoneSpan} → Told (Spans W vs ls hs p b) spanNumbers r
     → Tells (zoneTests W vs ls hs p b) (r .number) (r .detail)
 zone-span-tells W vs ls hs p b t =
-    rw (t .2) (outcome-tells (zoneTests W vs ls hs p b) (numbered-zone W vs ls hs p b) (spanOutcome (t .0)) (t .1 .tested))
+    rw (t .2) (outcome-tells 10 (zoneTests W vs ls hs p b) (numbered-zone W vs ls hs p b) (spanOutcome (t .0)) (t .1 .tested))
 
 module _ (kind : Kind) (W k : ℕ) (vs ls hs scratch : List ℕ) where
   pub choice-tells : {s : List ℕ} {r : Choice} → Told (AllowedChoice kind W k vs ls hs scratch s) choiceNumbers r
       → Tells (chooseTests W k vs ls hs (length scratch)) (r .number) (r .detail)
   choice-tells t =
-      rw (t .2) (outcome-tells (chooseTests W k vs ls hs (length scratch)) (numbered-choose W vs ls hs k (length scratch)) (t .0 .outcome) (t .1 .tested))
+      rw (t .2) (outcome-tells 6 (chooseTests W k vs ls hs (length scratch)) (numbered-choose 6 (omega arith) W k vs ls hs (length scratch)) (t .0 .outcome) (t .1 .tested))
 
   -- where the cheapest choice costs `least`
   pub built-tells : {rows rows′ : Lists} {s : List ℕ} {r : BuiltRows} → Told (AllowedBuild kind W k vs ls hs scratch rows s rows′) buildNumbers r
@@ -136,21 +86,9 @@ module _ (kind : Kind) (W k : ℕ) (vs ls hs scratch : List ℕ) where
       → Tells (buildTests W k vs ls hs (length scratch) (shortest rows) least) (r .number) (r .detail)
   built-tells {rows} t least c =
       rw (t .2)
-      (outcome-tells (buildTests W k vs ls hs (length scratch) (shortest rows) least) (numbered-build W vs ls hs k (length scratch) (shortest rows) least) (t .0 .outcome) (t .1 .tested least c))
+      (outcome-tells 7 (buildTests W k vs ls hs (length scratch) (shortest rows) least) (numbered-build W k vs ls hs (length scratch) (shortest rows) least) (t .0 .outcome) (t .1 .tested least c))
 
 -- ---- a lookup's number
-
-answered-zero : (best reads : ℕ) → numberOf (answer best reads) ≡ 0
-unfolding answer
-answered-zero best reads = go (eqb best 0)
-  where
-    go : (z : Bool) → numberOf (cond z (NoRoute reads) (Match best reads)) ≡ 0
-    go true = refl
-    go false = refl
-
-looked-tested : {rec : Record} {ls : Lists} {address : ℕ} {a : Answer} → Looked WIDTH rec ls address a → Tested WIDTH rec ls address (numberOf a)
-looked-tested (refused t h) = t
-looked-tested (accepted t p e) = rw e (rw (answered-zero _ _) t)
 
 -- its tests are passed where it is 0; else the test of that number is the first to fail
 pub found-tells : (rec : Record) (ls : Lists) (address : ℕ) {r : Found} → Told (Looked WIDTH rec ls address) answerNumbers r

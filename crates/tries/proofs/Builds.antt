@@ -18,6 +18,7 @@ use Rattle.table.specs.declared.entry.Outcome.{Outcome}
 use Rattle.table.specs.declared.entry.Outcome.the-variants.{Accepted, Refused}
 use Rattle.table.proofs.Bools.{or-false}
 use Rattle.table.proofs.Refusals.{outcome-fails, outcome-passes, outcome-append, outcome-gives, gives-outcome, refused-not-accepted}
+use Rattle.table.proofs.Numbered.{Numbered, numbered-append}
 use Rattle.table.proofs.Starts.{start-none}
 use Rattle.table.proofs.Table.{sorted}
 use Rattle.strides.specs.Trie.{Trie, none, node, depth, nodesAt}
@@ -41,7 +42,7 @@ use Rattle.tries.specs.Build.{roomTest, buildTests, NoRecord, Keeps, Row
 use Rattle.tries.proofs.Cost.{count-cost}
 use Rattle.tries.proofs.Laying.{lays-built}
 use Rattle.tries.proofs.Leveling.{padded-read}
-use Rattle.tries.proofs.Choosing.{accepted-plan, accepted-levels, below-cap, plan-depth-width}
+use Rattle.tries.proofs.Choosing.{numbered-choose, accepted-plan, accepted-levels, below-cap, plan-depth-width}
 
 -- ---- the floor: an entry of length 0 can only be the first
 
@@ -99,6 +100,11 @@ pub late : (W k : ℕ) (vs ls hs : List ℕ) (words room least : ℕ) → outcom
     → outcome (buildTests W k vs ls hs words room least) ≡ outcome (roomTest least room ∷ [])
 unfolding buildTests andThen
 late W k vs ls hs words room least e = outcome-append (chooseTests W k vs ls hs words) (roomTest least room ∷ []) ∙ ap (λ (o : Outcome). andThen o (outcome (roomTest least room ∷ []))) e
+
+pub numbered-build : (W k : ℕ) (vs ls hs : List ℕ) (words room least : ℕ) → Numbered 7 (buildTests W k vs ls hs words room least)
+unfolding buildTests
+numbered-build W k vs ls hs words room least =
+    numbered-append 7 (chooseTests W k vs ls hs words) (roomTest least room ∷ []) (numbered-choose 7 (omega arith) W k vs ls hs words) ((omega arith, omega arith), tt)
 
 pub few-rows : (room e : ℕ) → (ltb room e || ltb ELEMENTS e) ≡ false → e ≤ ELEMENTS
 few-rows room e f = ltb-false ELEMENTS e (or-false (ltb room e) (ltb ELEMENTS e) f .1)

@@ -104,10 +104,10 @@ module _ (W k : ℕ) (vs ls hs : List ℕ) (words : ℕ) where
       unfolding andThen outcome
       tests-pass e c q h = tests-rest ∙ rw (e, ← q, le-ltb (words / ROW) c h)
 
-pub numbered-choose : (W : ℕ) (vs ls hs : List ℕ) (k words : ℕ) → Numbered 6 (chooseTests W k vs ls hs words)
+pub numbered-choose : (most : ℕ) → 6 ≤ most → (W k : ℕ) (vs ls hs : List ℕ) (words : ℕ) → Numbered most (chooseTests W k vs ls hs words)
 unfolding chooseTests
-numbered-choose W vs ls hs k words =
-    let lists = numbered-append 6 (listTests W vs ls hs) (scratchTest W vs ls hs words ∷ []) (numbered-lists 6 (omega arith) W vs ls hs) ((omega arith, omega arith), tt) in
+numbered-choose most h W k vs ls hs words =
+    let lists = numbered-append most (listTests W vs ls hs) (scratchTest W vs ls hs words ∷ []) (numbered-lists most (omega arith) W vs ls hs) ((omega arith, omega arith), tt) in
     ((omega arith, omega arith), ((omega arith, omega arith), lists))
 
 -- what acceptance says

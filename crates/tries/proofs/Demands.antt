@@ -124,7 +124,7 @@ module _ {kind : Kind} {W k : ℕ} {vs ls hs scratch : List ℕ} {rows : Lists} 
       go Accepted p = subst (Gives tests) p (outcome-gives tests)
       go (Refused n x) p =
           let g = subst (Gives tests) p (outcome-gives tests) in
-          absurd (omega (arith, refused-number 6 tests n x (numbered-choose W vs ls hs k (length scratch)) g, seven (sym (refused-early g .0) ∙ e)))
+          absurd (omega (arith, refused-number 6 tests n x (numbered-choose 6 (omega arith) W k vs ls hs (length scratch)) g, seven (sym (refused-early g .0) ∙ e)))
 
   -- an accepted build zeroes all scratch, writes rows 0 to E - 1 and keeps later rows
   pub build-accepted : out ≡ Accepted → (s ≡ replicate (length scratch) 0) × ((i : ℕ) → rec .elements ≤ i → rowAt rows′ i ≡ rowAt rows i)
@@ -136,7 +136,7 @@ module _ {kind : Kind} {W k : ℕ} {vs ls hs scratch : List ℕ} {rows : Lists} 
 
 -- a lookup gives number n exactly when test n is the first that fails, 0 when none does; refused, it has no hop and 0 reads
 module _ {most : ℕ} {rec : Record} {ls : Lists} {a : ℕ} where
-  looked-tested : {r : Answer} → Looked most rec ls a r → Tested most rec ls a (numberOf r)
+  pub looked-tested : {r : Answer} → Looked most rec ls a r → Tested most rec ls a (numberOf r)
   looked-tested (refused t h) = t
   looked-tested (accepted {rs = rs} t o e) = rw (e, answer-number (latest (rowAt ls) (rec .floor) rs) (length rs)) t
 
