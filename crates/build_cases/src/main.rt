@@ -6,8 +6,12 @@
 // record, `look` asks it one address, `sweep` all addresses below a number.
 use cases::Held;
 use libc::STDIN_FILENO;
-use libc::STDOUT_FILENO;
-use table::Outcome;
+use printing::put;
+use printing::say;
+use printing::say_number;
+use printing::say_outcome;
+use printing::say_scratch;
+use printing::say_strides;
 use tries::Answer;
 use tries::Built;
 use tries::Kind;
@@ -27,53 +31,6 @@ struct State {
     record: Record,
     lists: Lists,
     at: usize,
-}
-
-fn say(word: &[u8]) {
-    io::write_all(STDOUT_FILENO, word);
-}
-
-fn say_number(n: u64) {
-    io::print_decimal(STDOUT_FILENO, n);
-}
-
-fn put(n: u64) {
-    say(b" ");
-    say_number(n);
-}
-
-fn say_refused(number: u32, detail: u64) {
-    say(b"refused");
-    put(number as u64);
-    put(detail);
-}
-
-fn say_outcome(outcome: Outcome) {
-    match outcome {
-        Outcome::Accepted => say(b"accepted"),
-        Outcome::Refused { number, detail } => say_refused(number, detail),
-    }
-}
-
-fn put_byte(byte: u8) {
-    put(byte as u64);
-}
-
-fn say_strides(strides: &[u8]) {
-    say(b" strides");
-    let mut i = 0;
-    while i < strides.len() {
-        put_byte(strides[i]);
-        i += 1;
-    }
-}
-
-// What scratch holds: the zeros that an accepted call leaves, and the sevens it was lent with.
-fn say_scratch(scratch: &[u64]) {
-    say(b" zeros");
-    put(cases::count64(scratch, 0, 0) as u64);
-    say(b" sevens");
-    put(cases::count64(scratch, 0, 7) as u64);
 }
 
 fn say_record(record: Record) {

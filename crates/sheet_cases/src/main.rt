@@ -2,22 +2,8 @@
 // A case is the word `text` with a number of bytes, a line end, so many bytes of any kind, and a line end.
 ghost use Prim.Native.Nat.{_≤_};
 use libc::STDIN_FILENO;
-use libc::STDOUT_FILENO;
+use printing::say;
 use sheet::Report;
-
-fn say(bytes: &[u8]) {
-    io::write_all(STDOUT_FILENO, bytes);
-}
-
-// The smaller of two numbers.
-fn least(a: usize, b: usize) -> usize
-    ensures { λ r. ⌜ r ≤ b ⌝ }
-{
-    if a < b {
-        return a;
-    }
-    b
-}
 
 // The place after `at`, or the end.
 fn past(at: usize, end: usize) -> usize
@@ -42,7 +28,7 @@ fn report(text: &[u8]) {
 fn case(cases: &[u8], at: usize) -> usize {
     let count = cases::number(cases, at);
     let from = past(count.next, cases.len());
-    let to = from + least(count.value as usize, cases.len() - from);
+    let to = from + cases::least(count.value as usize, cases.len() - from);
     report(&cases[from..to]);
     to
 }

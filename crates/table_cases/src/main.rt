@@ -4,35 +4,15 @@
 // in that table; `shared` for the shared length of two prefixes.
 use cases::Held;
 use libc::STDIN_FILENO;
-use libc::STDOUT_FILENO;
-use table::Outcome;
+use printing::put;
+use printing::say;
+use printing::say_outcome;
+use printing::say_refused;
 use table::Shared;
 use table::Span;
 
-fn say(word: &[u8]) {
-    io::write_all(STDOUT_FILENO, word);
-}
-
-fn put(n: u64) {
-    say(b" ");
-    io::print_decimal(STDOUT_FILENO, n);
-}
-
 fn put_value(value: u32) {
     put(value as u64);
-}
-
-fn say_refused(number: u32, detail: u64) {
-    say(b"refused");
-    put(number as u64);
-    put(detail);
-}
-
-fn say_outcome(outcome: Outcome) {
-    match outcome {
-        Outcome::Accepted => say(b"accepted"),
-        Outcome::Refused { number, detail } => say_refused(number, detail),
-    }
 }
 
 fn say_shared(shared: Shared) {

@@ -2,8 +2,8 @@
 use Prim.Native.Nat.{_≤_, _-_}
 use borrow.Author.Needs.{needs}
 use lib.ListN.{length}
-use Rattle.build_cases.proofs.say_strides.Statement.{statement}
-use Rattle.build_cases.proofs.say_strides.Tie as tie
+use Rattle.printing.proofs.say_strides.Statement.{statement}
+use Rattle.printing.proofs.say_strides.Tie as tie
 
 abbrev Inv-loop : tie.InvT-loop
 Inv-loop strides i₀ i = i ≤ length strides
