@@ -1,11 +1,13 @@
 -- Marks laid and counted place by place: each law is a turn of the loop, or its end.
-use mathlib.Core.Path.{_≡_, refl, sym, _∙_, ap}
+use mathlib.Core.Path.{_≡_, refl, sym, _∙_}
+use mathlib.Core.Bool.{Bool, true, false}
 use mathlib.Core.List.{List}
 use Prim.Native.Nat.{ℕ, suc, _+_, _≤_, _<_}
 use native.Mathlib.Numerals.{add-one}
 use native.Mathlib.Omega.{arith}
 use borrow.Author.Count.{below-more, below-none}
-use borrow.Author.Tests.{eq-eqb, ne-eqb}
+use mir.Val.{boolByte}
+use lib.Dec.{eqb}
 use lib.ListN.{length, drop, getD, set, replicate, length-set, length-replicate, getD-replicate, drop-of-length-le}
 use lib.Seq.{drop-cons, ext-getD, getD-set-same, getD-set-other}
 use Rattle.cases.specs.Marks.{times}
@@ -43,17 +45,17 @@ pub counted-start : (x : ℕ) (l : List ℕ) (from : ℕ) → Counted x l from 0
 counted-start x l from = record { sum = omega arith; few = omega arith }
 
 module _ {x : ℕ} {l : List ℕ} {from n i : ℕ} (c : Counted x l from n i) where
-  pub counted-hit : {m : ℕ} → i < length l → getD l i 0 ≡ x → m ≡ n + 1 → Counted x l from m (i + 1)
+  pub counted-on : i < length l → Counted x l from (n + boolByte (eqb (getD l i 0) x)) (i + 1)
   unfolding times
-  counted-hit h e q =
-      let step : times x (drop i l) ≡ suc (times x (drop (i + 1) l)) = rw (drop-cons l i 0 h, eq-eqb _ _ e, add-one) in
-      record { sum = omega (arith, c .sum); few = omega (arith, c .few) }
-
-  pub counted-miss : {m : ℕ} → i < length l → (getD l i 0 ≡ x → ⊥) → m ≡ n → Counted x l from m (i + 1)
-  unfolding times
-  counted-miss h e q =
-      let step : times x (drop i l) ≡ times x (drop (i + 1) l) = rw (drop-cons l i 0 h, ne-eqb _ _ e, add-one) in
-      record { sum = omega (arith, c .sum); few = omega (arith, c .few) }
+  counted-on h = go (eqb (getD l i 0) x) refl
+    where
+      go : (t : Bool) → eqb (getD l i 0) x ≡ t → Counted x l from (n + boolByte t) (i + 1)
+      go true e =
+          let step : times x (drop i l) ≡ suc (times x (drop (i + 1) l)) = rw (drop-cons l i 0 h, e, add-one) in
+          record { sum = omega (arith, c .sum); few = omega (arith, c .few) }
+      go false e =
+          let step : times x (drop i l) ≡ times x (drop (i + 1) l) = rw (drop-cons l i 0 h, e, add-one) in
+          record { sum = omega (arith, c .sum); few = omega (arith, c .few) }
 
   pub counted-end : length l ≤ i → n ≡ times x (drop from l)
   unfolding times

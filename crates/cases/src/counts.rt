@@ -9,9 +9,7 @@ pub fn count8(list: &[u8], from: usize, mark: u8) -> usize
     let mut n: usize = 0;
     let mut i = from;
     while i < list.len() {
-        if list[i] == mark {
-            n += 1;
-        }
+        n += (list[i] == mark) as usize;
         i += 1;
     }
     n
@@ -23,9 +21,7 @@ pub fn count16(list: &[u16], from: usize, mark: u16) -> usize
     let mut n: usize = 0;
     let mut i = from;
     while i < list.len() {
-        if list[i] == mark {
-            n += 1;
-        }
+        n += (list[i] == mark) as usize;
         i += 1;
     }
     n
@@ -37,9 +33,7 @@ pub fn count32(list: &[u32], from: usize, mark: u32) -> usize
     let mut n: usize = 0;
     let mut i = from;
     while i < list.len() {
-        if list[i] == mark {
-            n += 1;
-        }
+        n += (list[i] == mark) as usize;
         i += 1;
     }
     n
@@ -51,9 +45,7 @@ pub fn count64(list: &[u64], from: usize, mark: u64) -> usize
     let mut n: usize = 0;
     let mut i = from;
     while i < list.len() {
-        if list[i] == mark {
-            n += 1;
-        }
+        n += (list[i] == mark) as usize;
         i += 1;
     }
     n

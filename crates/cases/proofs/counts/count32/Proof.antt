@@ -1,9 +1,9 @@
 -- The loop's invariant: the marks counted and those from place i on are all of them.
-use mathlib.Core.Logic.{⊎-elim}
 use Prim.Native.Nat.{_-_}
+use native.Mathlib.Omega.{arith}
 use borrow.Author.Needs.{needs}
 use lib.ListN.{length}
-use Rattle.cases.proofs.Marking.{Counted, counted-start, counted-hit, counted-miss, counted-end}
+use Rattle.cases.proofs.Marking.{Counted, counted-start, counted-on, counted-end}
 use Rattle.cases.proofs.counts.count32.Statement.{statement}
 use Rattle.cases.proofs.counts.count32.Tie as tie
 
@@ -16,14 +16,17 @@ abbrev μ-loop : tie.MeasureT-loop
 loop-holds : tie.Need-loop-holds Inv-loop μ-loop
 loop-holds c = counted-start _ _ _
 
-mul-if1 : tie.Need-mul-if1 Inv-loop μ-loop
-mul-if1 c = search needs
+mul-n : tie.Need-mul-n Inv-loop μ-loop
+mul-n c = search needs
 
-shared-slice-read-if1 : tie.Need-shared-slice-read-if1 Inv-loop μ-loop
-shared-slice-read-if1 c = search needs
+shared-slice-read-n : tie.Need-shared-slice-read-n Inv-loop μ-loop
+shared-slice-read-n c = search needs
+
+cast-n : tie.Need-cast-n Inv-loop μ-loop
+cast-n c = search needs
 
 add-n : tie.Need-add-n Inv-loop μ-loop
-add-n c = search needs
+add-n c = omega (arith, counted-on (c .before .before .loop .inv) (c .before .loop-test .taken) .few)
 
 add-i : tie.Need-add-i Inv-loop μ-loop
 add-i c = search needs
@@ -32,12 +35,7 @@ loop-less : tie.Need-loop-less Inv-loop μ-loop
 loop-less c = search needs
 
 loop-again : tie.Need-loop-again Inv-loop μ-loop
-loop-again c =
-    let turn = c .before .before in
-    ⊎-elim
-    (λ w. counted-hit (turn .before .loop .inv) (turn .loop-test .taken) (w .0 .taken) (w .1))
-    (λ w. counted-miss (turn .before .loop .inv) (turn .loop-test .taken) (w .0 .left) (w .1))
-    (c .if1 .came)
+loop-again c = counted-on (c .before .before .loop .inv) (c .before .loop-test .taken)
 
 returns : tie.Need-returns Inv-loop μ-loop
 returns c = counted-end (c .before .loop .inv) (c .loop-test .left)
@@ -49,8 +47,9 @@ count32-spec =
     Inv-loop
     μ-loop
     loop-holds
-    mul-if1
-    shared-slice-read-if1
+    mul-n
+    shared-slice-read-n
+    cast-n
     add-n
     add-i
     loop-less
