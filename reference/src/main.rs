@@ -1,18 +1,7 @@
-//! An outside check of the project's definitions: the build's rules (01) written down once more, in
-//! plain Rust with the standard library only, literal rather than clever. `reference vectors` writes
-//! the inputs and expected outputs of the programs under crates/ that run in the gate.
+//! `reference vectors` writes the inputs and expected outputs of the programs under crates/ that run in
+//! the gate; `reference tablet` is the tablet program.
 
-mod build;
-mod choices;
-#[cfg(test)]
-mod examples;
-mod lookup;
-mod random;
-mod table;
-mod tablet;
-mod trie;
-mod vectors;
-
+use reference::{tablet, vectors};
 use std::io::{Read, Write};
 
 fn main() {
