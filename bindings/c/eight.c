@@ -1,0 +1,113 @@
+/* The eight-prefix table: builds it with variable strides and two levels, looks addresses up one by one and in a batch, and asks
+ * for a zone. Then the same calls with no lists at all: a null pointer with length 0 is a list. Exits with 1 where an answer is
+ * not the one expected. */
+#include <stdio.h>
+#include "hongsamuk.h"
+
+#define LIST(a) (a), sizeof (a) / sizeof *(a)
+#define NONE NULL, 0
+
+enum { WIDTH = 7, LEVELS = 2, NODES = 10, ELEMENTS = 26, ADDRESSES = 6 };
+
+static const uint32_t value[] = { 0, 64, 68, 80, 96, 96, 96, 96 };
+static const uint8_t length[] = { 1, 1, 5, 3, 2, 4, 6, 7 };
+static const uint16_t hop[] = { 1, 2, 5, 4, 3, 6, 7, 8 };
+
+static const uint32_t address[ADDRESSES] = { 97, 96, 103, 104, 71, 79 };
+static const uint16_t expected[ADDRESSES] = { 7, 8, 6, 3, 5, 2 };
+
+static uint64_t scratch[NODES * HONGSAMUK_ROW];
+static uint16_t row_hop[ELEMENTS];
+static uint32_t row_link[ELEMENTS];
+static uint8_t row_stride[ELEMENTS];
+
+static int wrong = 0;
+
+static void expect(int holds, const char *what)
+{
+    if (!holds) {
+        printf("WRONG: %s\n", what);
+        wrong = 1;
+    }
+}
+
+static hongsamuk_record build(void)
+{
+    hongsamuk_built built = hongsamuk_build_variable(WIDTH, LEVELS, LIST(value), LIST(length), LIST(hop), LIST(scratch),
+                                                     LIST(row_hop), LIST(row_link), LIST(row_stride));
+    printf("refusal=%u detail=%llu elements=%u root=%u\n", (unsigned)built.number, (unsigned long long)built.detail,
+           (unsigned)built.record.elements, (unsigned)built.record.strides[0]);
+    expect(built.number == 0 && built.record.elements == ELEMENTS && built.record.strides[0] == 4, "the build");
+    return built.record;
+}
+
+static void look(hongsamuk_record record)
+{
+    for (size_t i = 0; i < ADDRESSES; i++) {
+        hongsamuk_answer answer = hongsamuk_lookup(record, LIST(row_hop), LIST(row_link), LIST(row_stride), address[i]);
+        printf("address=%u hop=%u reads=%u\n", (unsigned)address[i], (unsigned)answer.hop, (unsigned)answer.reads);
+        expect(answer.number == 0 && answer.hop == expected[i], "a lookup");
+    }
+    expect(hongsamuk_lookup(record, LIST(row_hop), LIST(row_link), LIST(row_stride), 128).number == 8, "address 128");
+}
+
+static void look_in_a_batch(hongsamuk_record record)
+{
+    uint32_t number[ADDRESSES];
+    uint16_t best[ADDRESSES];
+    uint32_t reads[ADDRESSES];
+    size_t answered = hongsamuk_lookup_batch(record, LIST(row_hop), LIST(row_link), LIST(row_stride), LIST(address), LIST(number),
+                                             LIST(best), LIST(reads));
+    printf("batch of %zu\n", answered);
+    expect(answered == ADDRESSES, "the batch's count");
+    for (size_t i = 0; i < answered; i++)
+        expect(number[i] == 0 && best[i] == expected[i] && reads[i] >= 1 && reads[i] <= LEVELS, "the batch");
+}
+
+static void ask_the_table(void)
+{
+    hongsamuk_span zone = hongsamuk_zone_span(WIDTH, LIST(value), LIST(length), LIST(hop), 96, 4);
+    printf("zone 1100: index=%u count=%u\n", (unsigned)zone.index, (unsigned)zone.count);
+    expect(zone.number == 0 && zone.index == 5 && zone.count == 3, "the zone");
+    hongsamuk_shared shared = hongsamuk_shared_length(WIDTH, 68, 5, 80, 3);
+    expect(shared.number == 0 && shared.bits == 2, "the shared length");
+    expect(hongsamuk_check(WIDTH, LIST(value), LIST(length), LIST(hop)).number == 0, "the check");
+    hongsamuk_chosen chosen = hongsamuk_choose_fixed(WIDTH, 3, LIST(value), LIST(length), LIST(hop), LIST(scratch));
+    expect(chosen.number == 0 && chosen.cost == 20 && chosen.strides[0] == 3 && chosen.strides[2] == 2, "the fixed choice");
+    chosen = hongsamuk_choose_variable(WIDTH, 3, LIST(value), LIST(length), LIST(hop), scratch, 9 * HONGSAMUK_ROW);
+    expect(chosen.number == 6 && chosen.detail == NODES && chosen.cost == 0 && chosen.strides[0] == 0, "too little scratch");
+    hongsamuk_built built = hongsamuk_build_fixed(WIDTH, LEVELS, LIST(value), LIST(length), LIST(hop), LIST(scratch),
+                                                  LIST(row_hop), LIST(row_link), LIST(row_stride));
+    expect(built.number == 7 && built.detail == 32 && built.record.elements == 0, "too little room");
+}
+
+static void lend_nothing(void)
+{
+    expect(hongsamuk_check(WIDTH, NONE, NONE, NONE).number == 0, "the check of nothing");
+    hongsamuk_span zone = hongsamuk_zone_span(WIDTH, NONE, NONE, NONE, 96, 4);
+    expect(zone.number == 0 && zone.index == 0 && zone.count == 0, "the zone of nothing");
+    expect(hongsamuk_choose_fixed(WIDTH, LEVELS, NONE, NONE, NONE, NONE).number == 0, "the fixed choice for nothing");
+    expect(hongsamuk_choose_variable(WIDTH, LEVELS, NONE, NONE, NONE, NONE).number == 0, "the variable choice for nothing");
+    hongsamuk_built built = hongsamuk_build_fixed(WIDTH, LEVELS, NONE, NONE, NONE, NONE, NONE, NONE, NONE);
+    expect(built.number == 0 && built.record.elements == 0 && built.record.width == WIDTH, "the fixed build of nothing");
+    built = hongsamuk_build_variable(WIDTH, LEVELS, NONE, NONE, NONE, NONE, NONE, NONE, NONE);
+    expect(built.number == 0 && built.record.elements == 0 && built.record.width == WIDTH, "the variable build of nothing");
+    hongsamuk_answer answer = hongsamuk_lookup(built.record, NONE, NONE, NONE, 5);
+    expect(answer.number == 0 && answer.hop == 0 && answer.reads == 0, "the lookup in nothing");
+    expect(hongsamuk_lookup_batch(built.record, NONE, NONE, NONE, NONE, NONE, NONE, NONE) == 0, "the batch of nothing");
+    expect(hongsamuk_check(WIDTH, LIST(value), NONE, NONE).number == 3, "unequal lists");
+    built = hongsamuk_build_variable(WIDTH, LEVELS, LIST(value), LIST(length), LIST(hop), NONE, NONE, NONE, NONE);
+    expect(built.number == 6 && built.detail == NODES, "no scratch");
+    built = hongsamuk_build_variable(WIDTH, LEVELS, LIST(value), LIST(length), LIST(hop), LIST(scratch), NONE, NONE, NONE);
+    expect(built.number == 7 && built.detail == ELEMENTS, "no room");
+}
+
+int main(void)
+{
+    hongsamuk_record record = build();
+    look(record);
+    look_in_a_batch(record);
+    ask_the_table();
+    lend_nothing();
+    return wrong;
+}

@@ -1,0 +1,308 @@
+//! Lookup arrays for a gateway, proved: the safe calls for Rust, over the archive for C (`include/hongsamuk.h`).
+//!
+//! Every call takes any numbers and any lists, damaged ones included, and refuses by number what it cannot take; nothing has to be
+//! checked first. All lists are lent: no call allocates or keeps anything. The refusal numbers:
+//!
+//! | Number | Refused because | Detail |
+//! |---|---|---|
+//! | 1 | the width is 0 or above 32 | 0 |
+//! | 2 | the level limit is 0 or above 8 | 0 |
+//! | 3 | lists of unequal length, or more than 4,096 entries | 0 |
+//! | 4 | an entry is no prefix of that width, or has a bad hop | its index |
+//! | 5 | an entry does not stand above the one before | its index |
+//! | 6 | scratch has too few whole rows | the rows needed |
+//! | 7 | too little room for elements, or above 16,777,216 | the elements needed |
+//! | 8 | the address is not below 2^width | 0 |
+//! | 9 | a damaged record or damaged rows | 0 |
+//! | 10 | a prefix that is asked about is malformed | 0 |
+
+pub mod raw;
+
+/// The most bits of an address.
+pub const WIDTH: u32 = 32;
+/// The most levels.
+pub const LEVELS: usize = 8;
+/// The most entries of a table.
+pub const ENTRIES: usize = 4096;
+/// The most elements of a build.
+pub const ELEMENTS: u32 = 16_777_216;
+/// Numbers in a scratch row; a build needs one row for each node of the table's 1-bit trie.
+pub const SCRATCH_ROW: usize = 24;
+
+/// What a call decides before it answers.
+#[derive(Clone, Copy, PartialEq, Eq, Debug)]
+pub enum Outcome {
+    Accepted,
+    Refused { number: u32, detail: u64 },
+}
+
+/// The two kinds of stride choice: one stride a level, or one a block.
+#[derive(Clone, Copy, PartialEq, Eq, Debug)]
+pub enum Kind {
+    Fixed,
+    Variable,
+}
+
+/// How many leading bits two prefixes share.
+#[derive(Clone, Copy, PartialEq, Eq, Debug)]
+pub enum Shared {
+    Length(u32),
+    Refused { number: u32 },
+}
+
+/// The entries that start with a prefix.
+#[derive(Clone, Copy, PartialEq, Eq, Debug)]
+pub enum Span {
+    Part { index: u32, count: u32 },
+    Refused { number: u32, detail: u64 },
+}
+
+/// What a lookup answers.
+#[derive(Clone, Copy, PartialEq, Eq, Debug)]
+pub enum Answer {
+    Match { hop: u16, reads: u32 },
+    NoRoute { reads: u32 },
+    Refused { number: u32 },
+}
+
+/// What a build hands back beside its element rows; all of it is lent to each lookup. Any numbers may stand in it.
+#[repr(C)]
+#[derive(Clone, Copy, PartialEq, Eq, Debug, Default)]
+pub struct Record {
+    pub width: u32,
+    pub levels: u32,
+    /// E: rows 0 to E - 1 are the build's.
+    pub elements: u32,
+    /// The hop of the entry of length 0, else 0.
+    pub floor: u16,
+    /// Unused places are 0; a variable build fills the first only.
+    pub strides: [u8; LEVELS],
+}
+
+/// A table, lent: the width, and value, length and hop of each entry.
+#[derive(Clone, Copy, PartialEq, Eq, Debug)]
+pub struct Table<'a> {
+    pub width: u32,
+    pub value: &'a [u32],
+    pub length: &'a [u8],
+    pub hop: &'a [u16],
+}
+
+/// A prefix: its bits, leftmost first in a number of the table's width, and how many they are.
+#[derive(Clone, Copy, PartialEq, Eq, Debug)]
+pub struct Prefix {
+    pub value: u32,
+    pub bits: u8,
+}
+
+/// Element rows to read.
+#[derive(Clone, Copy, PartialEq, Eq, Debug)]
+pub struct Rows<'a> {
+    pub hop: &'a [u16],
+    pub link: &'a [u32],
+    pub stride: &'a [u8],
+}
+
+/// Room for element rows.
+#[derive(PartialEq, Eq, Debug)]
+pub struct RowsMut<'a> {
+    pub hop: &'a mut [u16],
+    pub link: &'a mut [u32],
+    pub stride: &'a mut [u8],
+}
+
+/// Room for the answers of a batch: number (0: accepted), hop (0: no route) and reads of each address.
+#[derive(PartialEq, Eq, Debug)]
+pub struct AnswersMut<'a> {
+    pub number: &'a mut [u32],
+    pub hop: &'a mut [u16],
+    pub reads: &'a mut [u32],
+}
+
+/// What a chooser answers; refused, cost and strides are 0.
+#[derive(Clone, Copy, PartialEq, Eq, Debug)]
+pub struct Chosen {
+    pub outcome: Outcome,
+    pub cost: u64,
+    pub strides: [u8; LEVELS],
+}
+
+/// What a build answers; refused, the record is all zeros.
+#[derive(Clone, Copy, PartialEq, Eq, Debug)]
+pub struct Built {
+    pub outcome: Outcome,
+    pub record: Record,
+}
+
+fn outcome(number: u32, detail: u64) -> Outcome {
+    match number {
+        0 => Outcome::Accepted,
+        _ => Outcome::Refused { number, detail },
+    }
+}
+
+impl From<raw::Answer> for Answer {
+    #[inline]
+    fn from(answer: raw::Answer) -> Answer {
+        match answer {
+            raw::Answer { number: 0, hop: 0, reads } => Answer::NoRoute { reads },
+            raw::Answer { number: 0, hop, reads } => Answer::Match { hop, reads },
+            raw::Answer { number, .. } => Answer::Refused { number },
+        }
+    }
+}
+
+/// Whether the lists are a table: tests 1, 3, 4, 5.
+pub fn check(table: Table) -> Outcome {
+    let Table { width, value, length, hop } = table;
+    // SAFETY: pointers and lengths are those of slices, which the call only reads.
+    let checked = unsafe {
+        raw::hongsamuk_check(width, value.as_ptr(), value.len(), length.as_ptr(), length.len(), hop.as_ptr(), hop.len())
+    };
+    outcome(checked.number, checked.detail)
+}
+
+/// How many leading bits two prefixes share: tests 1, then 10.
+pub fn shared_length(width: u32, a: Prefix, b: Prefix) -> Shared {
+    // SAFETY: numbers only.
+    let shared = unsafe { raw::hongsamuk_shared_length(width, a.value, a.bits, b.value, b.bits) };
+    match shared.number {
+        0 => Shared::Length(shared.bits),
+        number => Shared::Refused { number },
+    }
+}
+
+/// The first index and the number of the entries that start with a prefix; where there are none, count 0 at the index where the
+/// prefix itself would stand: tests 1, 3, 4, 5, 10.
+pub fn zone_span(table: Table, prefix: Prefix) -> Span {
+    let Table { width, value, length, hop } = table;
+    // SAFETY: pointers and lengths are those of slices, which the call only reads.
+    let span = unsafe {
+        raw::hongsamuk_zone_span(
+            width,
+            value.as_ptr(),
+            value.len(),
+            length.as_ptr(),
+            length.len(),
+            hop.as_ptr(),
+            hop.len(),
+            prefix.value,
+            prefix.bits,
+        )
+    };
+    match span.number {
+        0 => Span::Part { index: span.index, count: span.count },
+        number => Span::Refused { number, detail: span.detail },
+    }
+}
+
+/// The part of the value list with those entries, the caller's own memory; refused, the empty part at 0.
+pub fn zone<'a>(table: Table<'a>, prefix: Prefix) -> &'a [u32] {
+    match zone_span(table, prefix) {
+        Span::Part { index, count } => &table.value[index as usize..][..count as usize],
+        Span::Refused { .. } => &table.value[..0],
+    }
+}
+
+/// The least number of elements of any choice of strides of the kind with at most `levels` levels, and the strides of a build:
+/// tests 1 to 6. Accepted, all of scratch is 0; refused, it is as it was.
+pub fn choose(kind: Kind, levels: u32, table: Table, scratch: &mut [u64]) -> Chosen {
+    let call: raw::Choose = match kind {
+        Kind::Fixed => raw::hongsamuk_choose_fixed,
+        Kind::Variable => raw::hongsamuk_choose_variable,
+    };
+    let Table { width, value, length, hop } = table;
+    // SAFETY: pointers and lengths are those of slices; the call writes scratch only, which nobody else borrows.
+    let chosen = unsafe {
+        call(
+            width,
+            levels,
+            value.as_ptr(),
+            value.len(),
+            length.as_ptr(),
+            length.len(),
+            hop.as_ptr(),
+            hop.len(),
+            scratch.as_mut_ptr(),
+            scratch.len(),
+        )
+    };
+    Chosen { outcome: outcome(chosen.number, chosen.detail), cost: chosen.cost, strides: chosen.strides }
+}
+
+/// Turns a table into a record and element rows, with the least number of elements E of the kind: tests 1 to 7. Accepted, all of
+/// scratch is 0, rows 0 to E - 1 are the build's, and later rows are as they were. Refused by 7, all of scratch is 0 and no element
+/// changes; refused by 1 to 6, no list changes.
+pub fn build(kind: Kind, levels: u32, table: Table, scratch: &mut [u64], rows: RowsMut) -> Built {
+    let call: raw::Build = match kind {
+        Kind::Fixed => raw::hongsamuk_build_fixed,
+        Kind::Variable => raw::hongsamuk_build_variable,
+    };
+    let Table { width, value, length, hop } = table;
+    // SAFETY: pointers and lengths are those of slices; the call writes scratch and rows only, which nobody else borrows.
+    let built = unsafe {
+        call(
+            width,
+            levels,
+            value.as_ptr(),
+            value.len(),
+            length.as_ptr(),
+            length.len(),
+            hop.as_ptr(),
+            hop.len(),
+            scratch.as_mut_ptr(),
+            scratch.len(),
+            rows.hop.as_mut_ptr(),
+            rows.hop.len(),
+            rows.link.as_mut_ptr(),
+            rows.link.len(),
+            rows.stride.as_mut_ptr(),
+            rows.stride.len(),
+        )
+    };
+    Built { outcome: outcome(built.number, built.detail), record: built.record }
+}
+
+/// The hop of the longest prefix that begins the address, or none: tests 1, 2, 8, 9.
+#[inline]
+pub fn lookup(record: &Record, rows: Rows, address: u32) -> Answer {
+    // SAFETY: pointers and lengths are those of slices, which the call only reads.
+    let answer = unsafe {
+        raw::hongsamuk_lookup(
+            *record,
+            rows.hop.as_ptr(),
+            rows.hop.len(),
+            rows.link.as_ptr(),
+            rows.link.len(),
+            rows.stride.as_ptr(),
+            rows.stride.len(),
+            address,
+        )
+    };
+    answer.into()
+}
+
+/// Lookups one after the other: answers as many addresses as the shortest of the address list and the three answer lists has, keeps
+/// the later places of these lists, and returns how many.
+pub fn lookup_batch(record: &Record, rows: Rows, addresses: &[u32], answers: AnswersMut) -> usize {
+    // SAFETY: pointers and lengths are those of slices; the call writes the answer lists only, which nobody else borrows.
+    unsafe {
+        raw::hongsamuk_lookup_batch(
+            *record,
+            rows.hop.as_ptr(),
+            rows.hop.len(),
+            rows.link.as_ptr(),
+            rows.link.len(),
+            rows.stride.as_ptr(),
+            rows.stride.len(),
+            addresses.as_ptr(),
+            addresses.len(),
+            answers.number.as_mut_ptr(),
+            answers.number.len(),
+            answers.hop.as_mut_ptr(),
+            answers.hop.len(),
+            answers.reads.as_mut_ptr(),
+            answers.reads.len(),
+        )
+    }
+}

@@ -1,0 +1,205 @@
+//! The calls of `include/hongsamuk.h` as they are: pointers and lengths. A pointer must be good for its length, or the length 0.
+//! The structures are laid out as in C.
+
+use crate::{Record, LEVELS};
+
+#[repr(C)]
+#[derive(Clone, Copy, PartialEq, Eq, Debug, Default)]
+pub struct Checked {
+    pub number: u32,
+    pub detail: u64,
+}
+
+#[repr(C)]
+#[derive(Clone, Copy, PartialEq, Eq, Debug, Default)]
+pub struct Shared {
+    pub number: u32,
+    pub bits: u32,
+}
+
+#[repr(C)]
+#[derive(Clone, Copy, PartialEq, Eq, Debug, Default)]
+pub struct Span {
+    pub number: u32,
+    pub detail: u64,
+    pub index: u32,
+    pub count: u32,
+}
+
+#[repr(C)]
+#[derive(Clone, Copy, PartialEq, Eq, Debug, Default)]
+pub struct Chosen {
+    pub number: u32,
+    pub detail: u64,
+    pub cost: u64,
+    pub strides: [u8; LEVELS],
+}
+
+#[repr(C)]
+#[derive(Clone, Copy, PartialEq, Eq, Debug, Default)]
+pub struct Built {
+    pub number: u32,
+    pub detail: u64,
+    pub record: Record,
+}
+
+#[repr(C)]
+#[derive(Clone, Copy, PartialEq, Eq, Debug, Default)]
+pub struct Answer {
+    pub number: u32,
+    pub hop: u16,
+    pub reads: u32,
+}
+
+/// A build of either kind.
+pub type Build = unsafe extern "C" fn(
+    width: u32,
+    levels: u32,
+    value: *const u32,
+    values: usize,
+    length: *const u8,
+    lengths: usize,
+    hop: *const u16,
+    hops: usize,
+    scratch: *mut u64,
+    words: usize,
+    row_hop: *mut u16,
+    row_hops: usize,
+    row_link: *mut u32,
+    row_links: usize,
+    row_stride: *mut u8,
+    row_strides: usize,
+) -> Built;
+
+/// A chooser of either kind.
+pub type Choose = unsafe extern "C" fn(
+    width: u32,
+    levels: u32,
+    value: *const u32,
+    values: usize,
+    length: *const u8,
+    lengths: usize,
+    hop: *const u16,
+    hops: usize,
+    scratch: *mut u64,
+    words: usize,
+) -> Chosen;
+
+extern "C" {
+    pub fn hongsamuk_check(
+        width: u32,
+        value: *const u32,
+        values: usize,
+        length: *const u8,
+        lengths: usize,
+        hop: *const u16,
+        hops: usize,
+    ) -> Checked;
+
+    pub fn hongsamuk_shared_length(width: u32, a: u32, a_bits: u8, b: u32, b_bits: u8) -> Shared;
+
+    pub fn hongsamuk_zone_span(
+        width: u32,
+        value: *const u32,
+        values: usize,
+        length: *const u8,
+        lengths: usize,
+        hop: *const u16,
+        hops: usize,
+        prefix: u32,
+        bits: u8,
+    ) -> Span;
+
+    pub fn hongsamuk_choose_fixed(
+        width: u32,
+        levels: u32,
+        value: *const u32,
+        values: usize,
+        length: *const u8,
+        lengths: usize,
+        hop: *const u16,
+        hops: usize,
+        scratch: *mut u64,
+        words: usize,
+    ) -> Chosen;
+
+    pub fn hongsamuk_choose_variable(
+        width: u32,
+        levels: u32,
+        value: *const u32,
+        values: usize,
+        length: *const u8,
+        lengths: usize,
+        hop: *const u16,
+        hops: usize,
+        scratch: *mut u64,
+        words: usize,
+    ) -> Chosen;
+
+    pub fn hongsamuk_build_fixed(
+        width: u32,
+        levels: u32,
+        value: *const u32,
+        values: usize,
+        length: *const u8,
+        lengths: usize,
+        hop: *const u16,
+        hops: usize,
+        scratch: *mut u64,
+        words: usize,
+        row_hop: *mut u16,
+        row_hops: usize,
+        row_link: *mut u32,
+        row_links: usize,
+        row_stride: *mut u8,
+        row_strides: usize,
+    ) -> Built;
+
+    pub fn hongsamuk_build_variable(
+        width: u32,
+        levels: u32,
+        value: *const u32,
+        values: usize,
+        length: *const u8,
+        lengths: usize,
+        hop: *const u16,
+        hops: usize,
+        scratch: *mut u64,
+        words: usize,
+        row_hop: *mut u16,
+        row_hops: usize,
+        row_link: *mut u32,
+        row_links: usize,
+        row_stride: *mut u8,
+        row_strides: usize,
+    ) -> Built;
+
+    pub fn hongsamuk_lookup(
+        record: Record,
+        row_hop: *const u16,
+        row_hops: usize,
+        row_link: *const u32,
+        row_links: usize,
+        row_stride: *const u8,
+        row_strides: usize,
+        address: u32,
+    ) -> Answer;
+
+    pub fn hongsamuk_lookup_batch(
+        record: Record,
+        row_hop: *const u16,
+        row_hops: usize,
+        row_link: *const u32,
+        row_links: usize,
+        row_stride: *const u8,
+        row_strides: usize,
+        address: *const u32,
+        addresses: usize,
+        number: *mut u32,
+        numbers: usize,
+        hop: *mut u16,
+        hops: usize,
+        reads: *mut u32,
+        counts: usize,
+    ) -> usize;
+}

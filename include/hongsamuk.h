@@ -1,0 +1,167 @@
+/* Lookup arrays for a gateway, proved: the calls for C.
+ *
+ * Every call takes any numbers and any lists, damaged ones included, and refuses by number what it cannot take; nothing has to
+ * be checked first. `number` in an answer is 0 for accepted, else the refusal:
+ *
+ *    1  the width is 0 or above 32                                detail 0
+ *    2  the level limit is 0 or above 8                           detail 0
+ *    3  lists of unequal length, or more than 4,096 entries       detail 0
+ *    4  an entry is no prefix of that width, or has a bad hop     detail: its index
+ *    5  an entry does not stand above the one before              detail: its index
+ *    6  scratch has too few whole rows                            detail: the rows needed
+ *    7  too little room for elements, or above 16,777,216         detail: the elements needed
+ *    8  the address is not below 2^width                          detail 0
+ *    9  a damaged record or damaged rows                          detail 0
+ *   10  a prefix that is asked about is malformed                 detail 0
+ *
+ * A list is a pointer to its first number and, behind it, how many numbers it has. A pointer may be null where there are none.
+ * All lists belong to the caller before, during and after a call; no call keeps a pointer, allocates, or has a state of its
+ * own, so calls on different lists may run at the same time. A list that a call writes must not overlap another list of that call.
+ */
+#ifndef HONGSAMUK_H
+#define HONGSAMUK_H
+
+#include <stddef.h>
+#include <stdint.h>
+
+#ifdef __cplusplus
+extern "C" {
+#endif
+
+enum {
+    HONGSAMUK_WIDTH = 32,          /* the most bits of an address */
+    HONGSAMUK_LEVELS = 8,          /* the most levels */
+    HONGSAMUK_ENTRIES = 4096,      /* the most entries of a table */
+    HONGSAMUK_ELEMENTS = 16777216, /* the most elements of a build */
+    HONGSAMUK_ROW = 24             /* numbers in a scratch row */
+};
+
+/* What a build hands back beside its element rows; all of it is lent to each lookup. */
+typedef struct hongsamuk_record {
+    uint32_t width;
+    uint32_t levels;
+    uint32_t elements;                   /* E: rows 0 to E - 1 are the build's */
+    uint16_t floor;                      /* the hop of the entry of length 0, else 0 */
+    uint8_t strides[HONGSAMUK_LEVELS];   /* unused places 0; a variable build fills the first only */
+} hongsamuk_record;
+
+typedef struct hongsamuk_checked {
+    uint32_t number;
+    uint64_t detail;
+} hongsamuk_checked;
+
+typedef struct hongsamuk_shared {
+    uint32_t number;                     /* 0, 1 or 10, whose detail is always 0 */
+    uint32_t bits;                       /* refused: 0 */
+} hongsamuk_shared;
+
+typedef struct hongsamuk_span {
+    uint32_t number;
+    uint64_t detail;
+    uint32_t index;                      /* refused: 0 */
+    uint32_t count;                      /* refused: 0 */
+} hongsamuk_span;
+
+typedef struct hongsamuk_chosen {
+    uint32_t number;
+    uint64_t detail;
+    uint64_t cost;                       /* refused: 0 */
+    uint8_t strides[HONGSAMUK_LEVELS];   /* refused: all 0 */
+} hongsamuk_chosen;
+
+typedef struct hongsamuk_built {
+    uint32_t number;
+    uint64_t detail;
+    hongsamuk_record record;             /* refused: all 0 */
+} hongsamuk_built;
+
+typedef struct hongsamuk_answer {
+    uint32_t number;                     /* 0, 1, 2, 8 or 9, whose detail is always 0 */
+    uint16_t hop;                        /* 0: no route, or refused */
+    uint32_t reads;                      /* blocks read; refused: 0 */
+} hongsamuk_answer;
+
+/* Whether the three lists are a table of that width: tests 1, 3, 4, 5. No list changes. */
+hongsamuk_checked hongsamuk_check(
+    uint32_t width,
+    const uint32_t *value, size_t values,
+    const uint8_t *length, size_t lengths,
+    const uint16_t *hop, size_t hops);
+
+/* How many leading bits two prefixes share: tests 1, then 10. */
+hongsamuk_shared hongsamuk_shared_length(uint32_t width, uint32_t a, uint8_t a_bits, uint32_t b, uint8_t b_bits);
+
+/* The first index and the number of the entries that start with a prefix; where there are none, count 0 at the index where the
+ * prefix itself would stand: tests 1, 3, 4, 5, 10. No list changes. */
+hongsamuk_span hongsamuk_zone_span(
+    uint32_t width,
+    const uint32_t *value, size_t values,
+    const uint8_t *length, size_t lengths,
+    const uint16_t *hop, size_t hops,
+    uint32_t prefix, uint8_t bits);
+
+/* The least number of elements of any choice of strides, one a level (fixed) or one a block (variable), with at most `levels`
+ * levels, and the strides of a build: tests 1 to 6. Accepted, all of scratch is 0; refused, it is as it was. No other list
+ * changes. */
+hongsamuk_chosen hongsamuk_choose_fixed(
+    uint32_t width, uint32_t levels,
+    const uint32_t *value, size_t values,
+    const uint8_t *length, size_t lengths,
+    const uint16_t *hop, size_t hops,
+    uint64_t *scratch, size_t words);
+
+hongsamuk_chosen hongsamuk_choose_variable(
+    uint32_t width, uint32_t levels,
+    const uint32_t *value, size_t values,
+    const uint8_t *length, size_t lengths,
+    const uint16_t *hop, size_t hops,
+    uint64_t *scratch, size_t words);
+
+/* Turns a table into a record and element rows, with the least number of elements E of the kind: tests 1 to 7. Accepted, all of
+ * scratch is 0, rows 0 to E - 1 of the three element lists are the build's, and later rows are as they were. Refused by 7, all
+ * of scratch is 0 and no element changes; refused by 1 to 6, no list changes. The table's lists never change. */
+hongsamuk_built hongsamuk_build_fixed(
+    uint32_t width, uint32_t levels,
+    const uint32_t *value, size_t values,
+    const uint8_t *length, size_t lengths,
+    const uint16_t *hop, size_t hops,
+    uint64_t *scratch, size_t words,
+    uint16_t *row_hop, size_t row_hops,
+    uint32_t *row_link, size_t row_links,
+    uint8_t *row_stride, size_t row_strides);
+
+hongsamuk_built hongsamuk_build_variable(
+    uint32_t width, uint32_t levels,
+    const uint32_t *value, size_t values,
+    const uint8_t *length, size_t lengths,
+    const uint16_t *hop, size_t hops,
+    uint64_t *scratch, size_t words,
+    uint16_t *row_hop, size_t row_hops,
+    uint32_t *row_link, size_t row_links,
+    uint8_t *row_stride, size_t row_strides);
+
+/* The hop of the longest prefix that begins the address, or none: tests 1, 2, 8, 9. No list changes. */
+hongsamuk_answer hongsamuk_lookup(
+    hongsamuk_record record,
+    const uint16_t *row_hop, size_t row_hops,
+    const uint32_t *row_link, size_t row_links,
+    const uint8_t *row_stride, size_t row_strides,
+    uint32_t address);
+
+/* Lookups one after the other: answers as many addresses as the shortest of the address list and the three answer lists has, writes
+ * number, hop and reads of each at its index, keeps the later places of these lists, and returns how many. No other list changes. */
+size_t hongsamuk_lookup_batch(
+    hongsamuk_record record,
+    const uint16_t *row_hop, size_t row_hops,
+    const uint32_t *row_link, size_t row_links,
+    const uint8_t *row_stride, size_t row_strides,
+    const uint32_t *address, size_t addresses,
+    uint32_t *number, size_t numbers,
+    uint16_t *hop, size_t hops,
+    uint32_t *reads, size_t counts);
+
+#ifdef __cplusplus
+}
+#endif
+
+#endif

@@ -1,0 +1,98 @@
+//! The lookup: tests 1, 2, 8, 9, then one row a block.
+
+use super::{LEVELS, WIDTH};
+use hongsamuk::Record;
+
+#[derive(Clone, Copy, PartialEq, Eq, Debug)]
+pub enum Answer {
+    Match { hop: u16, reads: u32 },
+    NoRoute { reads: u32 },
+    Refused { number: u32 },
+}
+
+/// The three element lists.
+#[derive(Clone, Copy)]
+pub struct Elements<'a> {
+    pub hop: &'a [u16],
+    pub link: &'a [u32],
+    pub stride: &'a [u8],
+}
+
+/// Where a batch is answered.
+pub struct Answers<'a> {
+    pub number: &'a mut [u32],
+    pub hop: &'a mut [u16],
+    pub reads: &'a mut [u32],
+}
+
+const DAMAGED: Answer = Answer::Refused { number: 9 };
+
+fn finish(hop: u16, reads: u32) -> Answer {
+    if hop == 0 {
+        Answer::NoRoute { reads }
+    } else {
+        Answer::Match { hop, reads }
+    }
+}
+
+fn walk(record: &Record, rows: Elements, address: u32) -> Answer {
+    if record.width == 0 || record.width > WIDTH {
+        return Answer::Refused { number: 1 };
+    }
+    if record.levels == 0 || record.levels > LEVELS as u32 {
+        return Answer::Refused { number: 2 };
+    }
+    if u64::from(address) >= 1 << record.width {
+        return Answer::Refused { number: 8 };
+    }
+    let elements = record.elements as usize;
+    if elements > rows.hop.len().min(rows.link.len()).min(rows.stride.len()) {
+        return DAMAGED;
+    }
+    let mut stride = u32::from(record.strides[0]);
+    if stride == 0 {
+        return if elements == 0 { finish(record.floor, 0) } else { DAMAGED };
+    }
+    let (mut best, mut base, mut left) = (record.floor, 0, record.width);
+    for reads in 1..=record.levels {
+        if stride == 0 || stride > left {
+            return DAMAGED;
+        }
+        left -= stride;
+        let row = base + (address as usize >> left & ((1 << stride) - 1));
+        if row >= elements {
+            return DAMAGED;
+        }
+        if rows.hop[row] != 0 {
+            best = rows.hop[row];
+        }
+        if rows.link[row] == 0 {
+            return finish(best, reads);
+        }
+        base = rows.link[row] as usize;
+        stride = u32::from(rows.stride[row]);
+    }
+    DAMAGED
+}
+
+/// One lookup behind a call, as the archive's is: the caller keeps nothing of the tests between two lookups.
+#[inline(never)]
+pub fn lookup(record: Record, rows: Elements, address: u32) -> Answer {
+    walk(&record, rows, address)
+}
+
+/// Lookups one after the other: the compiler may take out of the loop what it can.
+#[inline(never)]
+pub fn lookup_batch(record: Record, rows: Elements, addresses: &[u32], answers: Answers) -> usize {
+    let places = answers.number.iter_mut().zip(answers.hop).zip(answers.reads);
+    let mut answered = 0;
+    for (address, ((number, hop), reads)) in addresses.iter().zip(places) {
+        (*number, *hop, *reads) = match walk(&record, rows, *address) {
+            Answer::Match { hop, reads } => (0, hop, reads),
+            Answer::NoRoute { reads } => (0, 0, reads),
+            Answer::Refused { number } => (number, 0, 0),
+        };
+        answered += 1;
+    }
+    answered
+}
