@@ -1,0 +1,206 @@
+//! The archive's calls over lent lists: what is only read is lent from the view that cannot be written.
+
+use crate::memory::{Edge, Lent};
+use hongsamuk::{raw, Record};
+use reference::build::Elements;
+use reference::choices::Kind;
+use reference::random::Random;
+use reference::table::Table;
+
+/// The memory for all lists of a case.
+pub struct Lists {
+    value: Lent<u32>,
+    length: Lent<u8>,
+    hop: Lent<u16>,
+    pub scratch: Lent<u64>,
+    pub row_hop: Lent<u16>,
+    pub row_link: Lent<u32>,
+    pub row_stride: Lent<u8>,
+    address: Lent<u32>,
+    pub number: Lent<u32>,
+    pub best: Lent<u16>,
+    pub reads: Lent<u32>,
+}
+
+/// The longest lists that are lent.
+pub struct Most {
+    pub entries: usize,
+    pub words: usize,
+    pub rows: usize,
+    pub addresses: usize,
+}
+
+fn edge(random: &mut Random) -> Edge {
+    if random.one_in(4) {
+        Edge::First
+    } else {
+        Edge::Last
+    }
+}
+
+fn lend<T: Copy + PartialEq>(lent: &mut Lent<T>, list: &[T], random: &mut Random) {
+    lent.copy(list, edge(random), random.one_in(2));
+}
+
+impl Lists {
+    pub fn new(most: &Most) -> Lists {
+        Lists {
+            value: Lent::new(most.entries),
+            length: Lent::new(most.entries),
+            hop: Lent::new(most.entries),
+            scratch: Lent::new(most.words),
+            row_hop: Lent::new(most.rows),
+            row_link: Lent::new(most.rows),
+            row_stride: Lent::new(most.rows),
+            address: Lent::new(most.addresses),
+            number: Lent::new(most.addresses),
+            best: Lent::new(most.addresses),
+            reads: Lent::new(most.addresses),
+        }
+    }
+
+    pub fn lend_table(&mut self, table: &Table, random: &mut Random) {
+        lend(&mut self.value, &table.value, random);
+        lend(&mut self.length, &table.length, random);
+        lend(&mut self.hop, &table.hop, random);
+    }
+
+    pub fn lend_scratch(&mut self, scratch: &[u64], random: &mut Random) {
+        lend(&mut self.scratch, scratch, random);
+    }
+
+    pub fn lend_rows(&mut self, rows: &Elements, random: &mut Random) {
+        lend(&mut self.row_hop, &rows.hop, random);
+        lend(&mut self.row_link, &rows.link, random);
+        lend(&mut self.row_stride, &rows.stride, random);
+    }
+
+    pub fn lend_addresses(&mut self, addresses: &[u32], random: &mut Random) {
+        lend(&mut self.address, addresses, random);
+    }
+
+    pub fn lend_answers(&mut self, number: &[u32], best: &[u16], reads: &[u32], random: &mut Random) {
+        lend(&mut self.number, number, random);
+        lend(&mut self.best, best, random);
+        lend(&mut self.reads, reads, random);
+    }
+
+    pub fn rows_are(&self, rows: &Elements) -> bool {
+        self.row_hop.held() == rows.hop && self.row_link.held() == rows.link && self.row_stride.held() == rows.stride
+    }
+
+    // SAFETY of all calls below: each pointer is good for its length, or null with length 0; lists do not overlap.
+
+    pub fn check(&self, width: u32) -> raw::Checked {
+        let (value, length, hop) = (&self.value, &self.length, &self.hop);
+        unsafe {
+            raw::hongsamuk_check(width, value.read(), value.len(), length.read(), length.len(), hop.read(), hop.len())
+        }
+    }
+
+    pub fn zone_span(&self, width: u32, prefix: u32, bits: u8) -> raw::Span {
+        let (value, length, hop) = (&self.value, &self.length, &self.hop);
+        unsafe {
+            raw::hongsamuk_zone_span(
+                width,
+                value.read(),
+                value.len(),
+                length.read(),
+                length.len(),
+                hop.read(),
+                hop.len(),
+                prefix,
+                bits,
+            )
+        }
+    }
+
+    pub fn choose(&mut self, kind: Kind, width: u32, levels: u32) -> raw::Chosen {
+        let call: raw::Choose = match kind {
+            Kind::Fixed => raw::hongsamuk_choose_fixed,
+            Kind::Variable => raw::hongsamuk_choose_variable,
+        };
+        unsafe {
+            call(
+                width,
+                levels,
+                self.value.read(),
+                self.value.len(),
+                self.length.read(),
+                self.length.len(),
+                self.hop.read(),
+                self.hop.len(),
+                self.scratch.write(),
+                self.scratch.len(),
+            )
+        }
+    }
+
+    pub fn build(&mut self, kind: Kind, width: u32, levels: u32) -> raw::Built {
+        let call: raw::Build = match kind {
+            Kind::Fixed => raw::hongsamuk_build_fixed,
+            Kind::Variable => raw::hongsamuk_build_variable,
+        };
+        unsafe {
+            call(
+                width,
+                levels,
+                self.value.read(),
+                self.value.len(),
+                self.length.read(),
+                self.length.len(),
+                self.hop.read(),
+                self.hop.len(),
+                self.scratch.write(),
+                self.scratch.len(),
+                self.row_hop.write(),
+                self.row_hop.len(),
+                self.row_link.write(),
+                self.row_link.len(),
+                self.row_stride.write(),
+                self.row_stride.len(),
+            )
+        }
+    }
+
+    pub fn lookup(&self, record: Record, address: u32) -> raw::Answer {
+        unsafe {
+            raw::hongsamuk_lookup(
+                record,
+                self.row_hop.read(),
+                self.row_hop.len(),
+                self.row_link.read(),
+                self.row_link.len(),
+                self.row_stride.read(),
+                self.row_stride.len(),
+                address,
+            )
+        }
+    }
+
+    pub fn lookup_batch(&mut self, record: Record) -> usize {
+        unsafe {
+            raw::hongsamuk_lookup_batch(
+                record,
+                self.row_hop.read(),
+                self.row_hop.len(),
+                self.row_link.read(),
+                self.row_link.len(),
+                self.row_stride.read(),
+                self.row_stride.len(),
+                self.address.read(),
+                self.address.len(),
+                self.number.write(),
+                self.number.len(),
+                self.best.write(),
+                self.best.len(),
+                self.reads.write(),
+                self.reads.len(),
+            )
+        }
+    }
+}
+
+pub fn shared_length(width: u32, a: (u32, u8), b: (u32, u8)) -> raw::Shared {
+    unsafe { raw::hongsamuk_shared_length(width, a.0, a.1, b.0, b.1) }
+}

@@ -1,0 +1,108 @@
+//! The archive for C against the independent reference, call by call, over lists that end at memory that may not be touched.
+
+mod calls;
+mod harm;
+mod large;
+mod memory;
+mod planted;
+mod tables;
+mod tally;
+mod trying;
+
+use calls::Lists;
+use reference::random::Random;
+use tally::Tally;
+use trying::{Trial, SMALL};
+
+const USAGE: &str = "usage: fuzz run [--seed S] [--first CASE] [--builds N] [--lookups M]
+       fuzz large
+       fuzz planted [--seed S]
+run tries cases until at least N builds and M lookups were done, from case CASE (0) on; the first difference ends it with status 1";
+
+/// Every so many cases one has a record and rows of any numbers instead of a table.
+const NOISE: u64 = 8;
+/// Every so many cases progress is told.
+const TOLD: u64 = 100_000;
+
+struct Wanted {
+    seed: u64,
+    first: u64,
+    builds: u64,
+    lookups: u64,
+}
+
+fn wanted(words: &[String]) -> Option<Wanted> {
+    let mut wanted = Wanted { seed: 1, first: 0, builds: 1_000_000, lookups: 10_000_000 };
+    for pair in words.chunks(2) {
+        let [name, number] = pair else { return None };
+        let place = match name.as_str() {
+            "--seed" => &mut wanted.seed,
+            "--first" => &mut wanted.first,
+            "--builds" => &mut wanted.builds,
+            "--lookups" => &mut wanted.lookups,
+            _ => return None,
+        };
+        *place = number.parse().ok()?;
+    }
+    Some(wanted)
+}
+
+/// Each case has a generator of its own, so that it can be tried alone.
+fn generator(seed: u64, case: u64) -> Random {
+    let mut random = Random::new(seed.wrapping_mul(0x2545_f491_4f6c_dd1d) ^ case);
+    random.next();
+    random
+}
+
+fn run(wanted: &Wanted) -> bool {
+    let (mut lists, mut tally) = (Lists::new(&SMALL), Tally::default());
+    let mut case = wanted.first;
+    while tally.builds() < wanted.builds || tally.lookups() < wanted.lookups {
+        let random = generator(wanted.seed, case);
+        let mut trial = Trial { lists: &mut lists, tally: &mut tally, random };
+        let same = if case % NOISE == NOISE - 1 { trial.noise() } else { trial.table() };
+        case += 1;
+        if let Err(text) = same {
+            println!("seed {} case {}: DIFFERENCE: {text}", wanted.seed, case - 1);
+            println!("caught after {case} cases, {} builds, {} lookups", tally.builds(), tally.lookups());
+            return false;
+        }
+        if case % TOLD == 0 {
+            eprintln!("case {case}: {} builds, {} lookups", tally.builds(), tally.lookups());
+        }
+    }
+    tally.print();
+    println!("seed {}: cases {} to {}, 0 differences", wanted.seed, wanted.first, case - 1);
+    true
+}
+
+/// Whether memory is guarded here: each stray access must end a process of its own by a signal.
+fn guarded() -> bool {
+    let program = std::env::current_exe().expect("the program's own name");
+    let touched = |place: &str| {
+        let status = std::process::Command::new(&program).args(["touch", place]).status().expect("a child process");
+        status.code()
+    };
+    let stopped = ["past", "before", "write-past", "write-read-only"].into_iter().all(|place| touched(place).is_none());
+    println!("stray accesses stop a process: {stopped}");
+    stopped && touched("inside") == Some(0)
+}
+
+fn main() {
+    let words: Vec<String> = std::env::args().skip(1).collect();
+    let (command, rest) = words.split_first().map_or(("", &words[..]), |(c, r)| (c.as_str(), r));
+    let good = match (command, wanted(rest)) {
+        ("run", Some(wanted)) => guarded() && run(&wanted),
+        ("large", Some(_)) => guarded() && large::run(),
+        ("planted", Some(wanted)) => planted::run(wanted.seed),
+        ("touch", None) => {
+            memory::touch(&rest[0]);
+            true
+        }
+        _ => {
+            eprintln!("{USAGE}");
+            std::process::exit(2);
+        }
+    };
+    std::process::exit(!good as i32);
+}

@@ -1,0 +1,291 @@
+//! A case: one table or record, every call on it through the archive, and the reference's answers. Everything is compared: number,
+//! detail, values, and after a call that may write, every place of every list that it may write. (Lists that it may not write are
+//! lent from memory that cannot be written.)
+
+use crate::calls::{shared_length, Lists, Most};
+use crate::tally::{Call, Tally};
+use crate::{harm, tables};
+use hongsamuk::raw;
+use reference::build::{build, chosen, Elements, Record, SCRATCH_ROW};
+use reference::choices::Kind;
+use reference::lookup::{lookup, walk};
+use reference::random::Random;
+use reference::table::{self, Refusal, Table, ENTRIES};
+use reference::trie::Trie;
+
+/// Lists of the small cases: 12 entries at width 32 have at most 384 nodes; longer element lists are not needed at small widths.
+pub const SMALL: Most = Most { entries: ENTRIES + 8, words: 10_240, rows: 1_200, addresses: 400 };
+/// The most addresses asked of one build.
+const ASKED: u64 = 12;
+/// All addresses are asked where there are at most so many.
+const ALL: u32 = 4;
+
+/// The two sides differ: what was asked, and both answers.
+pub type Same = Result<(), String>;
+
+fn same<T: PartialEq + std::fmt::Debug>(what: &str, archive: T, reference: T) -> Same {
+    if archive == reference {
+        return Ok(());
+    }
+    Err(format!("{what}: the archive has {archive:?}, the reference {reference:?}"))
+}
+
+/// Long lists are told by their first difference.
+fn same_list<T: PartialEq + std::fmt::Debug>(what: &str, archive: &[T], reference: &[T]) -> Same {
+    if archive == reference {
+        return Ok(());
+    }
+    match archive.iter().zip(reference).position(|(a, b)| a != b) {
+        Some(i) => same(&format!("{what} at {i}"), &archive[i], &reference[i]),
+        None => same(&format!("length of {what}"), archive.len(), reference.len()),
+    }
+}
+
+fn numbers(outcome: Result<(), Refusal>) -> (u32, u64) {
+    outcome.map_or_else(|refusal| (refusal.number, refusal.detail), |()| (0, 0))
+}
+
+fn c_record(record: &Record) -> hongsamuk::Record {
+    let Record { width, levels, elements, floor, strides } = *record;
+    hongsamuk::Record { width, levels, elements, floor, strides }
+}
+
+pub struct Trial<'a> {
+    pub lists: &'a mut Lists,
+    pub tally: &'a mut Tally,
+    pub random: Random,
+}
+
+impl Trial<'_> {
+    fn levels(&mut self) -> u32 {
+        if self.random.one_in(40) {
+            return [0, 9, 255, 256, u32::MAX][self.random.within(0, 4) as usize];
+        }
+        self.random.within(1, 8) as u32
+    }
+
+    fn kind(&mut self) -> Kind {
+        if self.random.one_in(2) {
+            Kind::Fixed
+        } else {
+            Kind::Variable
+        }
+    }
+
+    /// A number at, just below or above `about`, or any up to it.
+    fn around(&mut self, about: u64, above: u64) -> usize {
+        let length = match self.random.within(0, 15) {
+            0 => about.saturating_sub(1),
+            1 => self.random.within(0, about),
+            2..=9 => about,
+            _ => about + self.random.within(1, above),
+        };
+        length as usize
+    }
+
+    fn marks<T>(&mut self, length: usize, of: impl Fn(u64) -> T) -> Vec<T> {
+        let first = self.random.next();
+        (0..length as u64).map(|i| of(first.wrapping_mul(2 * i + 1) >> 7)).collect()
+    }
+
+    fn scratch(&mut self, table: &Table) -> Vec<u64> {
+        let nodes = if table.check().is_ok() { Trie::of(table).size() as u64 } else { 2 };
+        let words = self.around(nodes * SCRATCH_ROW as u64, 30);
+        self.marks(words, |mark| mark | 1)
+    }
+
+    fn rows(&mut self, hops: usize, links: usize, strides: usize) -> Elements {
+        Elements {
+            hop: self.marks(hops, |mark| mark as u16),
+            link: self.marks(links, |mark| mark as u32),
+            stride: self.marks(strides, |mark| mark as u8),
+        }
+    }
+
+    /// Element lists about as long as the least cost.
+    fn room(&mut self, cost: u64) -> Elements {
+        let about = cost.min(SMALL.rows as u64 - 20);
+        let about = if self.random.one_in(8) { self.random.within(0, about) } else { about };
+        let mut lengths = [about as usize + self.random.within(0, 9) as usize; 3];
+        lengths[self.random.within(0, 2) as usize] = self.around(about, 9);
+        if self.random.one_in(2) {
+            lengths = [about as usize; 3];
+        }
+        self.rows(lengths[0], lengths[1], lengths[2])
+    }
+
+    /// One table through every call.
+    pub fn table(&mut self) -> Same {
+        let table = tables::any(&mut self.random);
+        self.lists.lend_table(&table, &mut self.random);
+        self.entries(&table).map_err(|text| format!("{table:?}: {text}"))?;
+        let (kind, levels) = (self.kind(), self.levels());
+        let told = |text| format!("{table:?} {kind:?} levels {levels}: {text}");
+        let cost = self.choose(&table, kind, levels).map_err(told)?;
+        self.build(&table, kind, levels, cost).map_err(told)
+    }
+
+    fn entries(&mut self, table: &Table) -> Same {
+        let (number, detail) = numbers(table.check());
+        same("check", self.lists.check(table.width), raw::Checked { number, detail })?;
+        self.tally.count(Call::Check, number);
+        let (prefix, bits) = tables::prefix(table, &mut self.random);
+        let expected = match table.zone(prefix, bits) {
+            Ok((index, count)) => raw::Span { number: 0, detail: 0, index: index as u32, count: count as u32 },
+            Err(refusal) => raw::Span { number: refusal.number, detail: refusal.detail, index: 0, count: 0 },
+        };
+        same(&format!("zone {prefix}/{bits}"), self.lists.zone_span(table.width, prefix, bits), expected)?;
+        self.tally.count(Call::ZoneSpan, expected.number);
+        let (other, more) = tables::prefix(table, &mut self.random);
+        let expected = match table::shared_length(table.width, prefix, bits, other, more) {
+            Ok(bits) => raw::Shared { number: 0, bits },
+            Err(refusal) => raw::Shared { number: refusal.number, bits: 0 },
+        };
+        let answer = shared_length(table.width, (prefix, bits), (other, more));
+        same(&format!("shared length of {prefix}/{bits} and {other}/{more}"), answer, expected)?;
+        self.tally.count(Call::SharedLength, expected.number);
+        Ok(())
+    }
+
+    /// Answers the cost that the reference finds, 0 where it refuses.
+    fn choose(&mut self, table: &Table, kind: Kind, levels: u32) -> Result<u64, String> {
+        let mut scratch = self.scratch(table);
+        self.lists.lend_scratch(&scratch, &mut self.random);
+        let (outcome, cost, strides) = chosen(kind, levels, table, &mut scratch);
+        let (number, detail) = numbers(outcome);
+        let answer = self.lists.choose(kind, table.width, levels);
+        same("choice", answer, raw::Chosen { number, detail, cost, strides })?;
+        same_list("scratch after the choice", self.lists.scratch.held(), &scratch)?;
+        self.tally.count(if kind == Kind::Fixed { Call::ChooseFixed } else { Call::ChooseVariable }, number);
+        Ok(cost)
+    }
+
+    fn build(&mut self, table: &Table, kind: Kind, levels: u32, cost: u64) -> Same {
+        let mut scratch = self.scratch(table);
+        let mut rows = self.room(cost);
+        self.lists.lend_scratch(&scratch, &mut self.random);
+        self.lists.lend_rows(&rows, &mut self.random);
+        let (outcome, record) = build(kind, levels, table, &mut scratch, &mut rows);
+        let (number, detail) = numbers(outcome);
+        let answer = self.lists.build(kind, table.width, levels);
+        self.tally.count(if kind == Kind::Fixed { Call::BuildFixed } else { Call::BuildVariable }, number);
+        same("build", answer, raw::Built { number, detail, record: c_record(&record) })?;
+        same_list("scratch after the build", self.lists.scratch.held(), &scratch)?;
+        if !self.lists.rows_are(&rows) {
+            same_list("hops after the build", self.lists.row_hop.held(), &rows.hop)?;
+            same_list("links after the build", self.lists.row_link.held(), &rows.link)?;
+            same_list("strides after the build", self.lists.row_stride.held(), &rows.stride)?;
+        }
+        if number == 0 {
+            self.after(table, record, rows)?;
+        }
+        Ok(())
+    }
+
+    /// Lookups over what an accepted build left, then over the same damaged.
+    fn after(&mut self, table: &Table, mut record: Record, mut rows: Elements) -> Same {
+        let addresses = self.addresses(table);
+        self.longest(table, &record, &rows, addresses[0])?;
+        self.look(&record, &rows, &addresses)?;
+        if self.random.one_in(2) {
+            harm::harm(&mut record, &mut rows, &mut self.random);
+            self.lists.lend_rows(&rows, &mut self.random);
+            let told = |text| format!("damaged {record:?} {rows:?}: {text}");
+            self.look(&record, &rows, &addresses).map_err(told)?;
+        }
+        Ok(())
+    }
+
+    /// What the archive's answer is held to is itself held to longest match.
+    fn longest(&mut self, table: &Table, record: &Record, rows: &Elements, address: u32) -> Same {
+        if let Ok(found) = lookup(record, rows, address) {
+            self.tally.longest += 1;
+            let archive = self.lists.lookup(c_record(record), address).hop;
+            same("longest match", archive, table.answer(address))?;
+            same("longest match by the reference's rows", found.hop, table.answer(address))?;
+        }
+        Ok(())
+    }
+
+    /// Records and rows of any numbers.
+    pub fn noise(&mut self) -> Same {
+        let (record, rows) = harm::noise(&mut self.random);
+        self.lists.lend_rows(&rows, &mut self.random);
+        let below = 1u64 << record.width;
+        let addresses: Vec<u32> = (0..ASKED).map(|_| self.random.within(0, below) as u32).collect();
+        self.look(&record, &rows, &addresses).map_err(|text| format!("{record:?} {rows:?}: {text}"))
+    }
+
+    /// At and around entries, any, and some that are too large; all of a narrow table's.
+    fn addresses(&mut self, table: &Table) -> Vec<u32> {
+        let last = ((1u64 << table.width) - 1) as u32;
+        if table.width <= ALL {
+            return (0..=last + 1).collect();
+        }
+        (0..ASKED)
+            .map(|_| {
+                let any = self.random.next() as u32 & last;
+                let n = table.value.len() as u64;
+                if n == 0 || self.random.one_in(4) {
+                    return if self.random.one_in(8) { self.random.next() as u32 } else { any };
+                }
+                let i = self.random.within(0, n - 1) as usize;
+                let inside = ((1u64 << (table.width - table.length[i] as u32)) - 1) as u32;
+                match self.random.within(0, 4) {
+                    0 => table.value[i],
+                    1 => table.value[i] | inside,
+                    2 => (table.value[i] | inside).wrapping_add(1),
+                    _ => table.value[i] | (any & inside),
+                }
+            })
+            .collect()
+    }
+
+    fn expected(&mut self, record: &Record, rows: &Elements, address: u32) -> raw::Answer {
+        match lookup(record, rows, address) {
+            Ok(found) => {
+                self.tally.no_routes += (found.hop == 0) as u64;
+                raw::Answer { number: 0, hop: found.hop, reads: found.reads }
+            }
+            Err(refusal) => {
+                if refusal.number == 9 {
+                    self.tally.damage(walk(record, rows, address).expect_err("refused by 9"));
+                }
+                raw::Answer { number: refusal.number, hop: 0, reads: 0 }
+            }
+        }
+    }
+
+    /// The addresses one by one, then in a batch, over the rows that are lent.
+    fn look(&mut self, record: &Record, rows: &Elements, addresses: &[u32]) -> Same {
+        let mut answers = vec![];
+        for address in addresses {
+            let expected = self.expected(record, rows, *address);
+            self.tally.count(Call::Lookup, expected.number);
+            let answer = self.lists.lookup(c_record(record), *address);
+            same(&format!("lookup of {address}"), answer, expected)?;
+            answers.push(expected);
+        }
+        self.batch(record, addresses, &answers)
+    }
+
+    fn batch(&mut self, record: &Record, addresses: &[u32], answers: &[raw::Answer]) -> Same {
+        let about = addresses.len() as u64;
+        let lengths = [self.around(about, 3), self.around(about, 3), self.around(about, 3)];
+        let mut number = self.marks(lengths[0], |mark| mark as u32);
+        let mut best = self.marks(lengths[1], |mark| mark as u16);
+        let mut reads = self.marks(lengths[2], |mark| mark as u32);
+        self.lists.lend_addresses(addresses, &mut self.random);
+        self.lists.lend_answers(&number, &best, &reads, &mut self.random);
+        let count = lengths.iter().copied().min().unwrap_or(0).min(addresses.len());
+        for (i, answer) in answers[..count].iter().enumerate() {
+            (number[i], best[i], reads[i]) = (answer.number, answer.hop, answer.reads);
+            self.tally.count(Call::BatchedLookup, answer.number);
+        }
+        self.tally.batches += 1;
+        same("length of the batch", self.lists.lookup_batch(c_record(record)), count)?;
+        same_list("numbers of the batch", self.lists.number.held(), &number)?;
+        same_list("hops of the batch", self.lists.best.held(), &best)?;
+        same_list("reads of the batch", self.lists.reads.held(), &reads)
+    }
+}
