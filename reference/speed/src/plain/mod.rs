@@ -9,7 +9,7 @@ mod rows;
 mod table;
 mod walk;
 
-pub use building::{build, Built, Lent, SCRATCH_ROW};
+pub use building::{build, Lent, SCRATCH_ROW};
 pub use table::Table;
 pub use walk::{lookup, lookup_batch, Answer, Answers, Elements};
 

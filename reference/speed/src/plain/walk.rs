@@ -27,6 +27,7 @@ pub struct Answers<'a> {
 
 const DAMAGED: Answer = Answer::Refused { number: 9 };
 
+#[inline(always)]
 fn finish(hop: u16, reads: u32) -> Answer {
     if hop == 0 {
         Answer::NoRoute { reads }
@@ -35,6 +36,7 @@ fn finish(hop: u16, reads: u32) -> Answer {
     }
 }
 
+#[inline(always)]
 fn walk(record: &Record, rows: Elements, address: u32) -> Answer {
     if record.width == 0 || record.width > WIDTH {
         return Answer::Refused { number: 1 };

@@ -1,0 +1,145 @@
+//! Builds: the archive against the same algorithm in plain Rust, and how the time grows; and how many elements they need.
+
+use crate::plain;
+use crate::rounds::{alternate, Timed};
+use crate::routes::{Routes, WIDTH};
+use hongsamuk::{Kind, Outcome, Record, Table};
+
+/// The level limit of the lookups, and one of those at which growth is measured.
+pub const K: u32 = 3;
+const LEVELS: u32 = 8;
+const SIZES: [usize; 4] = [512, 1024, 2048, 4096];
+const ROUNDS: usize = 11;
+/// The most elements of a build.
+const ELEMENTS: usize = hongsamuk::ELEMENTS as usize;
+/// Rows of a block of 8 bits.
+const OCTET: u64 = 256;
+
+/// Element lists.
+#[derive(Clone)]
+pub struct Rows {
+    pub hop: Vec<u16>,
+    pub link: Vec<u32>,
+    pub stride: Vec<u8>,
+}
+
+impl Rows {
+    fn new(n: usize) -> Rows {
+        Rows { hop: vec![0; n], link: vec![0; n], stride: vec![0; n] }
+    }
+
+    /// What the archive builds, in lists just long enough.
+    pub fn of(kind: Kind, levels: u32, routes: &Routes) -> (Record, Rows) {
+        let mut rows = Rows::new(least(kind, levels, routes) as usize);
+        let built = archive(kind, levels, routes, &mut scratch(routes), &mut rows);
+        assert!(built.0 == Outcome::Accepted, "room for the least number of elements");
+        (built.1, rows)
+    }
+
+    pub fn elements(&self) -> plain::Elements<'_> {
+        plain::Elements { hop: &self.hop, link: &self.link, stride: &self.stride }
+    }
+
+    pub fn lent(&self) -> hongsamuk::Rows<'_> {
+        hongsamuk::Rows { hop: &self.hop, link: &self.link, stride: &self.stride }
+    }
+}
+
+fn table(routes: &Routes) -> Table<'_> {
+    Table { width: WIDTH, value: &routes.value, length: &routes.length, hop: &routes.hop }
+}
+
+fn nodes(routes: &Routes) -> usize {
+    (0..WIDTH).map(|level| routes.nodes(level) as usize).sum()
+}
+
+fn scratch(routes: &Routes) -> Vec<u64> {
+    vec![0; nodes(routes) * plain::SCRATCH_ROW]
+}
+
+fn least(kind: Kind, levels: u32, routes: &Routes) -> u64 {
+    hongsamuk::choose(kind, levels, table(routes), &mut scratch(routes)).cost
+}
+
+fn archive(kind: Kind, levels: u32, routes: &Routes, scratch: &mut [u64], rows: &mut Rows) -> (Outcome, Record) {
+    let room = hongsamuk::RowsMut { hop: &mut rows.hop, link: &mut rows.link, stride: &mut rows.stride };
+    let built = hongsamuk::build(kind, levels, table(routes), scratch, room);
+    (built.outcome, built.record)
+}
+
+fn in_plain_rust(kind: Kind, levels: u32, routes: &Routes, scratch: &mut [u64], rows: &mut Rows) -> (Outcome, Record) {
+    let table = plain::Table { width: WIDTH, value: &routes.value, length: &routes.length, hop: &routes.hop };
+    let room = plain::Lent { hop: &mut rows.hop, link: &mut rows.link, stride: &mut rows.stride };
+    let built = plain::build(kind, levels, &table, scratch, room);
+    let refused = |(number, detail)| Outcome::Refused { number, detail };
+    (built.refusal.map_or_else(refused, |()| Outcome::Accepted), built.record)
+}
+
+fn timed(kind: Kind, levels: u32, routes: &Routes) -> (Timed, u64) {
+    let cost = least(kind, levels, routes);
+    let mut ours = Rows::new((cost as usize).min(ELEMENTS));
+    let mut theirs = ours.clone();
+    let (mut scratch, mut other) = (scratch(routes), scratch(routes));
+    let timed = alternate(
+        ROUNDS,
+        || archive(kind, levels, routes, &mut scratch, &mut ours),
+        || in_plain_rust(kind, levels, routes, &mut other, &mut theirs),
+    );
+    assert!(ours.hop == theirs.hop && ours.link == theirs.link && ours.stride == theirs.stride, "the same rows");
+    (timed, cost)
+}
+
+fn milliseconds(nanoseconds: f64) -> f64 {
+    nanoseconds / 1e6
+}
+
+/// All k at the full size.
+pub fn measure(routes: &Routes) {
+    println!("| Kind | k | E | Archive, ms | Plain Rust, ms | Ratio |");
+    println!("|---|---|---|---|---|---|");
+    for kind in [Kind::Fixed, Kind::Variable] {
+        for levels in 1..=LEVELS {
+            let (timed, cost) = timed(kind, levels, routes);
+            let (ours, theirs) = (milliseconds(timed.first), milliseconds(timed.second));
+            println!("| {kind:?} | {levels} | {cost} | {ours:.2} | {theirs:.2} | {:.2} |", timed.ratio);
+        }
+    }
+}
+
+/// Growth with the number of routes.
+pub fn growth(seed: u64) {
+    println!("| Kind | k | n | 1-bit nodes | E | Archive, ms | Plain Rust, ms | Ratio |");
+    println!("|---|---|---|---|---|---|---|---|");
+    for kind in [Kind::Fixed, Kind::Variable] {
+        for levels in [K, LEVELS] {
+            for n in SIZES {
+                let routes = Routes::new(n, 0, seed);
+                let (timed, cost) = timed(kind, levels, &routes);
+                let (ours, theirs) = (milliseconds(timed.first), milliseconds(timed.second));
+                let nodes = nodes(&routes);
+                println!(
+                    "| {kind:?} | {levels} | {n} | {nodes} | {cost} | {ours:.2} | {theirs:.2} | {:.2} |",
+                    timed.ratio
+                );
+            }
+        }
+    }
+}
+
+/// E of both kinds against a table of one level, and one of 8, 8, 8 and 8 bits.
+pub fn memory(routes: &Routes) {
+    let octets: u64 = (0..WIDTH).step_by(8).map(|level| routes.nodes(level) * OCTET).sum();
+    let one = 1u64 << routes.longest();
+    println!("One level: {one} elements. 8-8-8-8: {octets} elements.\n");
+    println!("| k | Fixed: E | of one level | of 8-8-8-8 | Variable: E | of one level | of 8-8-8-8 |");
+    println!("|---|---|---|---|---|---|---|");
+    let share = |e: u64, of: u64| format!("{:.3} %", 100.0 * e as f64 / of as f64);
+    for levels in 2..=LEVELS {
+        let columns: String = [Kind::Fixed, Kind::Variable]
+            .into_iter()
+            .map(|kind| least(kind, levels, routes))
+            .map(|e| format!(" {e} | {} | {} |", share(e, one), share(e, octets)))
+            .collect();
+        println!("| {levels} |{columns}");
+    }
+}

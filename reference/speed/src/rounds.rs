@@ -1,0 +1,42 @@
+//! Two ways to do the same work, timed in alternating rounds of one process.
+
+use std::time::Instant;
+
+/// The medians: of the first way's time, of the second's (both in nanoseconds), and of their ratios.
+pub struct Timed {
+    pub first: f64,
+    pub second: f64,
+    pub ratio: f64,
+}
+
+fn median(mut numbers: Vec<f64>) -> f64 {
+    numbers.sort_by(f64::total_cmp);
+    numbers[numbers.len() / 2]
+}
+
+fn time<T: PartialEq>(work: &mut impl FnMut() -> T) -> (f64, T) {
+    let start = Instant::now();
+    let answer = std::hint::black_box(work());
+    (start.elapsed().as_secs_f64() * 1e9, answer)
+}
+
+/// One round is not counted: it warms the caches. Both ways must answer the same.
+pub fn alternate<T: PartialEq>(rounds: usize, mut a: impl FnMut() -> T, mut b: impl FnMut() -> T) -> Timed {
+    let (mut first, mut second, mut ratio) = (vec![], vec![], vec![]);
+    for round in 0..=rounds {
+        let ((time_a, answer_a), (time_b, answer_b)) = if round % 2 == 0 {
+            let a = time(&mut a);
+            (a, time(&mut b))
+        } else {
+            let b = time(&mut b);
+            (time(&mut a), b)
+        };
+        assert!(answer_a == answer_b, "both ways answer the same");
+        if round > 0 {
+            first.push(time_a);
+            second.push(time_b);
+            ratio.push(time_a / time_b);
+        }
+    }
+    Timed { first: median(first), second: median(second), ratio: median(ratio) }
+}
