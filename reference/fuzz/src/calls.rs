@@ -30,32 +30,25 @@ pub struct Most {
     pub addresses: usize,
 }
 
-fn edge(random: &mut Random) -> Edge {
-    if random.one_in(4) {
-        Edge::First
-    } else {
-        Edge::Last
-    }
-}
-
+/// Half of the lists without elements are null pointers.
 fn lend<T: Copy + PartialEq>(lent: &mut Lent<T>, list: &[T], random: &mut Random) {
-    lent.copy(list, edge(random), random.one_in(2));
+    lent.copy(list, random.one_in(2));
 }
 
 impl Lists {
-    pub fn new(most: &Most) -> Lists {
+    pub fn new(most: &Most, edge: Edge) -> Lists {
         Lists {
-            value: Lent::new(most.entries),
-            length: Lent::new(most.entries),
-            hop: Lent::new(most.entries),
-            scratch: Lent::new(most.words),
-            row_hop: Lent::new(most.rows),
-            row_link: Lent::new(most.rows),
-            row_stride: Lent::new(most.rows),
-            address: Lent::new(most.addresses),
-            number: Lent::new(most.addresses),
-            best: Lent::new(most.addresses),
-            reads: Lent::new(most.addresses),
+            value: Lent::new(most.entries, edge),
+            length: Lent::new(most.entries, edge),
+            hop: Lent::new(most.entries, edge),
+            scratch: Lent::new(most.words, edge),
+            row_hop: Lent::new(most.rows, edge),
+            row_link: Lent::new(most.rows, edge),
+            row_stride: Lent::new(most.rows, edge),
+            address: Lent::new(most.addresses, edge),
+            number: Lent::new(most.addresses, edge),
+            best: Lent::new(most.addresses, edge),
+            reads: Lent::new(most.addresses, edge),
         }
     }
 

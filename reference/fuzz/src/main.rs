@@ -10,17 +10,21 @@ mod tally;
 mod trying;
 
 use calls::Lists;
+use memory::Edge;
 use reference::random::Random;
 use tally::Tally;
 use trying::{Trial, SMALL};
 
-const USAGE: &str = "usage: fuzz run [--seed S] [--first CASE] [--builds N] [--lookups M]
+const USAGE: &str = "usage: fuzz run [--seed S] [--first CASE] [--builds N] [--lookups M] [--edge 0|1]
        fuzz large
        fuzz planted [--seed S]
-run tries cases until at least N builds and M lookups were done, from case CASE (0) on; the first difference ends it with status 1";
+run tries cases until at least N builds and M lookups were done, from case CASE (0) on; the first difference ends it with status 1.
+Each lent list ends at a page that may not be touched; with --edge 1 each begins after one instead.";
 
 /// Every so many cases one has a record and rows of any numbers instead of a table.
 const NOISE: u64 = 8;
+/// The most addresses asked of one build.
+const ASKED: u64 = 12;
 /// Every so many cases progress is told.
 const TOLD: u64 = 100_000;
 
@@ -29,10 +33,11 @@ struct Wanted {
     first: u64,
     builds: u64,
     lookups: u64,
+    edge: u64,
 }
 
 fn wanted(words: &[String]) -> Option<Wanted> {
-    let mut wanted = Wanted { seed: 1, first: 0, builds: 1_000_000, lookups: 10_000_000 };
+    let mut wanted = Wanted { seed: 1, first: 0, builds: 1_000_000, lookups: 10_000_000, edge: 0 };
     for pair in words.chunks(2) {
         let [name, number] = pair else { return None };
         let place = match name.as_str() {
@@ -40,6 +45,7 @@ fn wanted(words: &[String]) -> Option<Wanted> {
             "--first" => &mut wanted.first,
             "--builds" => &mut wanted.builds,
             "--lookups" => &mut wanted.lookups,
+            "--edge" => &mut wanted.edge,
             _ => return None,
         };
         *place = number.parse().ok()?;
@@ -55,11 +61,12 @@ fn generator(seed: u64, case: u64) -> Random {
 }
 
 fn run(wanted: &Wanted) -> bool {
-    let (mut lists, mut tally) = (Lists::new(&SMALL), Tally::default());
+    let edge = if wanted.edge == 0 { Edge::Last } else { Edge::First };
+    let (mut lists, mut tally) = (Lists::new(&SMALL, edge), Tally::default());
     let mut case = wanted.first;
     while tally.builds() < wanted.builds || tally.lookups() < wanted.lookups {
         let random = generator(wanted.seed, case);
-        let mut trial = Trial { lists: &mut lists, tally: &mut tally, random };
+        let mut trial = Trial { lists: &mut lists, tally: &mut tally, random, asked: ASKED };
         let same = if case % NOISE == NOISE - 1 { trial.noise() } else { trial.table() };
         case += 1;
         if let Err(text) = same {
@@ -72,7 +79,7 @@ fn run(wanted: &Wanted) -> bool {
         }
     }
     tally.print();
-    println!("seed {}: cases {} to {}, 0 differences", wanted.seed, wanted.first, case - 1);
+    println!("seed {}, lists at edge {edge:?}: cases {} to {}, 0 differences", wanted.seed, wanted.first, case - 1);
     true
 }
 

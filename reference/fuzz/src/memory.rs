@@ -34,6 +34,7 @@ pub enum Edge {
 /// A list and the memory it is lent from.
 pub struct Lent<T> {
     bytes: usize,
+    edge: Edge,
     writing: *mut u8,
     reading: *const u8,
     from: usize,
@@ -56,8 +57,8 @@ fn view(file: c_int, bytes: usize, protection: c_int) -> *mut u8 {
 }
 
 impl<T: Copy + PartialEq> Lent<T> {
-    /// Room for lists of at most `most` elements.
-    pub fn new(most: usize) -> Lent<T> {
+    /// Room for lists of at most `most` elements, all at one edge of it.
+    pub fn new(most: usize, edge: Edge) -> Lent<T> {
         let bytes = (most * size_of::<T>()).div_ceil(PAGE).max(1) * PAGE;
         // SAFETY: the name ends with 0; the mappings keep the file's memory.
         unsafe {
@@ -66,23 +67,24 @@ impl<T: Copy + PartialEq> Lent<T> {
             let writing = view(file, bytes, PROT_READ | PROT_WRITE);
             let reading = view(file, bytes, PROT_READ);
             close(file);
-            Lent { bytes, writing, reading, from: 0, length: 0, null: false, element: PhantomData }
+            Lent { bytes, edge, writing, reading, from: 0, length: 0, null: false, element: PhantomData }
         }
     }
 
-    /// Lends a list of that length, at one edge of the memory; a list of no elements may be a null pointer.
-    pub fn lay(&mut self, length: usize, edge: Edge, null: bool) -> &mut [T] {
+    /// A list of that length; one of no elements may be a null pointer.
+    fn lay(&mut self, length: usize, null: bool) -> &mut [T] {
         let bytes = length * size_of::<T>();
         assert!(bytes <= self.bytes && PAGE % ALIGN == 0, "room for {length} elements");
         self.length = length;
         self.null = null && length == 0;
-        self.from = if edge == Edge::Last { self.bytes - bytes } else { 0 };
+        self.from = if self.edge == Edge::Last { self.bytes - bytes } else { 0 };
         // SAFETY: inside the writable view, aligned, and borrowed as self is.
         unsafe { std::slice::from_raw_parts_mut(self.writing.add(self.from) as *mut T, length) }
     }
 
-    pub fn copy(&mut self, list: &[T], edge: Edge, null: bool) {
-        self.lay(list.len(), edge, null).copy_from_slice(list);
+    /// Lends a copy of the list.
+    pub fn copy(&mut self, list: &[T], null: bool) {
+        self.lay(list.len(), null).copy_from_slice(list);
     }
 
     pub fn held(&self) -> &[T] {
@@ -115,9 +117,9 @@ impl<T: Copy + PartialEq> Lent<T> {
 
 /// What a stray access does: ends the process. Only for a child process that is expected to end so.
 pub fn touch(where_to: &str) {
-    let mut list: Lent<u32> = Lent::new(5);
     let edge = if where_to == "before" { Edge::First } else { Edge::Last };
-    list.copy(&[1, 2, 3, 4, 5], edge, false);
+    let mut list: Lent<u32> = Lent::new(5, edge);
+    list.copy(&[1, 2, 3, 4, 5], false);
     // SAFETY: none; these are the accesses that must stop the process.
     unsafe {
         match where_to {

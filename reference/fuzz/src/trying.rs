@@ -14,9 +14,7 @@ use reference::table::{self, Refusal, Table, ENTRIES};
 use reference::trie::Trie;
 
 /// Lists of the small cases: 12 entries at width 32 have at most 384 nodes; longer element lists are not needed at small widths.
-pub const SMALL: Most = Most { entries: ENTRIES + 8, words: 10_240, rows: 1_200, addresses: 400 };
-/// The most addresses asked of one build.
-const ASKED: u64 = 12;
+pub const SMALL: Most = Most { entries: ENTRIES + 8, words: 10_240, rows: 1_200, addresses: 64 };
 /// All addresses are asked where there are at most so many.
 const ALL: u32 = 4;
 
@@ -54,6 +52,8 @@ pub struct Trial<'a> {
     pub lists: &'a mut Lists,
     pub tally: &'a mut Tally,
     pub random: Random,
+    /// Addresses asked of each build, where not all are.
+    pub asked: u64,
 }
 
 impl Trial<'_> {
@@ -125,6 +125,16 @@ impl Trial<'_> {
         self.build(&table, kind, levels, cost).map_err(told)
     }
 
+    /// A given table through every call, with just enough scratch and element lists of that length.
+    pub fn given(&mut self, table: &Table, kind: Kind, levels: u32, rows: usize) -> Same {
+        self.lists.lend_table(table, &mut self.random);
+        self.entries(table)?;
+        self.choose(table, kind, levels)?;
+        let scratch = self.marks(Trie::of(table).size() * SCRATCH_ROW, |mark| mark | 1);
+        let rows = self.rows(rows, rows, rows);
+        self.build_over(table, kind, levels, scratch, rows)
+    }
+
     fn entries(&mut self, table: &Table) -> Same {
         let (number, detail) = numbers(table.check());
         same("check", self.lists.check(table.width), raw::Checked { number, detail })?;
@@ -161,8 +171,19 @@ impl Trial<'_> {
     }
 
     fn build(&mut self, table: &Table, kind: Kind, levels: u32, cost: u64) -> Same {
-        let mut scratch = self.scratch(table);
-        let mut rows = self.room(cost);
+        let (scratch, rows) = (self.scratch(table), self.room(cost));
+        self.build_over(table, kind, levels, scratch, rows)
+    }
+
+    /// The build over these lists, and lookups where it is accepted.
+    fn build_over(
+        &mut self,
+        table: &Table,
+        kind: Kind,
+        levels: u32,
+        mut scratch: Vec<u64>,
+        mut rows: Elements,
+    ) -> Same {
         self.lists.lend_scratch(&scratch, &mut self.random);
         self.lists.lend_rows(&rows, &mut self.random);
         let (outcome, record) = build(kind, levels, table, &mut scratch, &mut rows);
@@ -212,7 +233,7 @@ impl Trial<'_> {
         let (record, rows) = harm::noise(&mut self.random);
         self.lists.lend_rows(&rows, &mut self.random);
         let below = 1u64 << record.width;
-        let addresses: Vec<u32> = (0..ASKED).map(|_| self.random.within(0, below) as u32).collect();
+        let addresses: Vec<u32> = (0..self.asked).map(|_| self.random.within(0, below) as u32).collect();
         self.look(&record, &rows, &addresses).map_err(|text| format!("{record:?} {rows:?}: {text}"))
     }
 
@@ -222,7 +243,7 @@ impl Trial<'_> {
         if table.width <= ALL {
             return (0..=last + 1).collect();
         }
-        (0..ASKED)
+        (0..self.asked)
             .map(|_| {
                 let any = self.random.next() as u32 & last;
                 let n = table.value.len() as u64;

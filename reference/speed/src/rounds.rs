@@ -1,6 +1,27 @@
-//! Two ways to do the same work, timed in alternating rounds of one process.
+//! Two ways to do the same work, timed in alternating rounds of one process. The time is that of the thread alone, so that what else
+//! runs on the machine counts less.
 
-use std::time::Instant;
+use std::ffi::{c_int, c_long};
+
+const THREAD_TIME: c_int = 3;
+
+#[repr(C)]
+struct Time {
+    seconds: c_long,
+    nanoseconds: c_long,
+}
+
+extern "C" {
+    fn clock_gettime(clock: c_int, to: *mut Time) -> c_int;
+}
+
+/// The thread's time so far, in nanoseconds.
+fn now() -> f64 {
+    let mut time = Time { seconds: 0, nanoseconds: 0 };
+    // SAFETY: the call writes the structure, which is laid out as in C.
+    assert!(unsafe { clock_gettime(THREAD_TIME, &mut time) } == 0, "the thread's clock");
+    time.seconds as f64 * 1e9 + time.nanoseconds as f64
+}
 
 /// The medians: of the first way's time, of the second's (both in nanoseconds), and of their ratios.
 pub struct Timed {
@@ -15,9 +36,9 @@ fn median(mut numbers: Vec<f64>) -> f64 {
 }
 
 fn time<T: PartialEq>(work: &mut impl FnMut() -> T) -> (f64, T) {
-    let start = Instant::now();
+    let start = now();
     let answer = std::hint::black_box(work());
-    (start.elapsed().as_secs_f64() * 1e9, answer)
+    (now() - start, answer)
 }
 
 /// One round is not counted: it warms the caches. Both ways must answer the same.
