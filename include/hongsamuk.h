@@ -17,6 +17,9 @@
  * A list is a pointer to its first number and, behind it, how many numbers it has. A pointer may be null where there are none.
  * All lists belong to the caller before, during and after a call; no call keeps a pointer, allocates, or has a state of its
  * own, so calls on different lists may run at the same time. A list that a call writes must not overlap another list of that call.
+ *
+ * How long the lists of a build must be: a build with no scratch is refused by 6, and its detail is the number of scratch rows
+ * (HONGSAMUK_ROW numbers each) that the table needs; a chooser answers the number of elements.
  */
 #ifndef HONGSAMUK_H
 #define HONGSAMUK_H

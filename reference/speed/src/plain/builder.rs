@@ -39,12 +39,18 @@ impl Source<'_> {
 
     /// Writes the 2^c rows from `base` on, below the trie at a link; child blocks lie from row `free` on. Returns the row after them.
     fn fill(&self, link: usize, c: usize, r: usize, base: usize, best: u16, free: usize, to: &mut Lent) -> usize {
+        if link == 0 {
+            to.hop[base..base + (1 << c)].fill(best);
+            to.link[base..base + (1 << c)].fill(0);
+            to.stride[base..base + (1 << c)].fill(0);
+            return free;
+        }
         if c == 0 {
             let stride = self.stride(link, r);
             to.hop[base] = best;
-            to.link[base] = if link == 0 { 0 } else { free as u32 };
+            to.link[base] = free as u32;
             to.stride[base] = stride as u8;
-            return if link == 0 { free } else { free + (1 << stride) };
+            return free + (1 << stride);
         }
         let (left, right) = (self.best_below(link, 0, best), self.best_below(link, 1, best));
         let free = self.fill(asked(self.rows, link, 0), c - 1, r, base, left, free, to);

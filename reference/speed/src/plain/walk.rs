@@ -56,7 +56,7 @@ fn walk(record: &Record, rows: Elements, address: u32) -> Answer {
         return if elements == 0 { finish(record.floor, 0) } else { DAMAGED };
     }
     let (mut best, mut base, mut left) = (record.floor, 0, record.width);
-    for reads in 1..=record.levels {
+    for reads in 0..record.levels {
         if stride == 0 || stride > left {
             return DAMAGED;
         }
@@ -69,7 +69,7 @@ fn walk(record: &Record, rows: Elements, address: u32) -> Answer {
             best = rows.hop[row];
         }
         if rows.link[row] == 0 {
-            return finish(best, reads);
+            return finish(best, reads + 1);
         }
         base = rows.link[row] as usize;
         stride = u32::from(rows.stride[row]);
