@@ -7,7 +7,7 @@ use crate::trying::{Same, Trial};
 use reference::build::ELEMENTS;
 use reference::choices::Kind;
 use reference::random::Random;
-use reference::table::{Table, ENTRIES};
+use reference::table::{Refusal, Table, ENTRIES};
 
 const SEED: u64 = 24;
 const KINDS: [Kind; 2] = [Kind::Fixed, Kind::Variable];
@@ -36,14 +36,14 @@ fn one_entry(bits: u32) -> Table {
     Table { width: bits, value: vec![5], length: vec![bits as u8], hop: vec![7] }
 }
 
-/// E at the limit is accepted; one row less, or twice as many elements, is refused.
+/// E at the limit is accepted where the lists have as many rows; twice as many elements are refused.
 fn limits(trial: &mut Trial) -> Same {
     let most = ELEMENTS as usize;
-    for kind in KINDS {
-        trial.given(&one_entry(24), kind, 1, most)?;
-        trial.given(&one_entry(24), kind, 1, most - 1)?;
-        trial.given(&one_entry(25), kind, 1, ROWS)?;
-        println!("{kind:?}: {ELEMENTS} elements, one row less, and twice as many: the same");
+    for (bits, rows) in [(24, most), (24, most - 1), (25, ROWS)] {
+        for kind in KINDS {
+            let Refusal { number, detail } = trial.given(&one_entry(bits), kind, 1, rows)?;
+            println!("{kind:?}, one entry of {bits} bits, k = 1, {rows} rows lent: number {number}, detail {detail}");
+        }
     }
     Ok(())
 }
@@ -68,7 +68,7 @@ fn many(trial: &mut Trial) -> Same {
                 trial.given(table, kind, levels, ROOM).map_err(told)?;
             }
         }
-        println!("table {i}, {} entries of width {}: the same", table.value.len(), table.width);
+        println!("table {i}, {} entries of width {}, both kinds, k = 1, 2, 3, 5, 8", table.value.len(), table.width);
     }
     Ok(())
 }

@@ -125,8 +125,8 @@ impl Trial<'_> {
         self.build(&table, kind, levels, cost).map_err(told)
     }
 
-    /// A given table through every call, with just enough scratch and element lists of that length.
-    pub fn given(&mut self, table: &Table, kind: Kind, levels: u32, rows: usize) -> Same {
+    /// A given table through every call, with just enough scratch and element lists of that length. Answers the build's outcome.
+    pub fn given(&mut self, table: &Table, kind: Kind, levels: u32, rows: usize) -> Result<Refusal, String> {
         self.lists.lend_table(table, &mut self.random);
         self.entries(table)?;
         self.choose(table, kind, levels)?;
@@ -172,10 +172,10 @@ impl Trial<'_> {
 
     fn build(&mut self, table: &Table, kind: Kind, levels: u32, cost: u64) -> Same {
         let (scratch, rows) = (self.scratch(table), self.room(cost));
-        self.build_over(table, kind, levels, scratch, rows)
+        self.build_over(table, kind, levels, scratch, rows).map(|_| ())
     }
 
-    /// The build over these lists, and lookups where it is accepted.
+    /// The build over these lists, and lookups where it is accepted. Answers number and detail, which both sides have.
     fn build_over(
         &mut self,
         table: &Table,
@@ -183,7 +183,7 @@ impl Trial<'_> {
         levels: u32,
         mut scratch: Vec<u64>,
         mut rows: Elements,
-    ) -> Same {
+    ) -> Result<Refusal, String> {
         self.lists.lend_scratch(&scratch, &mut self.random);
         self.lists.lend_rows(&rows, &mut self.random);
         let (outcome, record) = build(kind, levels, table, &mut scratch, &mut rows);
@@ -200,7 +200,7 @@ impl Trial<'_> {
         if number == 0 {
             self.after(table, record, rows)?;
         }
-        Ok(())
+        Ok(Refusal { number, detail })
     }
 
     /// Lookups over what an accepted build left, then over the same damaged.
