@@ -75,16 +75,16 @@ fn build_rows(
     levels: u32,
     vals: &[u32],
     lens: &[u8],
-    tops: &[u16],
+    marks: &[u16],
     scratch: &mut [u64],
     hops: &mut [u16],
     links: &mut [u32],
     strides: &mut [u8],
 ) -> Built
-    requires { ⌜ PlanIn width levels (now vals) (now lens) (now tops) (now scratch) ⌝ }
-    ensures { λ r. ⌜ RowsBuilt (kindOf kind) width levels (now (vals .entry)) (now (lens .entry)) (now (tops .entry)) (lists (now (hops .entry)) (now (links .entry)) (now (strides .entry))) (r .outcome) (r .record) (lists (now (hops .exit)) (now (links .exit)) (now (strides .exit))) ⌝ }
+    requires { ⌜ PlanIn width levels (now vals) (now lens) (now marks) (now scratch) ⌝ }
+    ensures { λ r. ⌜ RowsBuilt (kindOf kind) width levels (now (vals .entry)) (now (lens .entry)) (now (marks .entry)) (lists (now (hops .entry)) (now (links .entry)) (now (strides .entry))) (r .outcome) (r .record) (lists (now (hops .exit)) (now (links .exit)) (now (strides .exit))) ⌝ }
 {
-    let p = planned(kind, width, levels, vals, lens, tops, scratch);
+    let p = planned(kind, width, levels, vals, lens, marks, scratch);
     let e = p.cost;
     if is_crowded(e, hops.len(), links.len(), strides.len()) {
         return refused(7, e);
@@ -108,7 +108,7 @@ fn build_rows(
             width: width,
             levels: levels,
             elements: e as u32,
-            floor: floor_hop(lens, tops),
+            floor: floor_hop(lens, marks),
             strides: named,
         },
     }
