@@ -9,7 +9,7 @@ use hongsamuk::{Kind, Outcome, Record, Table};
 pub const K: u32 = 3;
 const LEVELS: u32 = 8;
 const SIZES: [usize; 4] = [512, 1024, 2048, 4096];
-const ROUNDS: usize = 21;
+const ROUNDS: usize = 101;
 /// The most elements of a build.
 const ELEMENTS: usize = hongsamuk::ELEMENTS as usize;
 /// Rows of a block of 8 bits.
