@@ -5,10 +5,8 @@
 use std::ffi::{c_char, c_int, c_long, c_void};
 use std::marker::PhantomData;
 
-const PAGE: usize = 4096;
-/// A list is never moved within its memory by less than its own alignment: 8 bytes at most.
-const ALIGN: usize = 8;
-
+/// The name of the page's size, for `sysconf`.
+const PAGE_SIZE: c_int = 30;
 const PROT_NONE: c_int = 0;
 const PROT_READ: c_int = 1;
 const PROT_WRITE: c_int = 2;
@@ -22,6 +20,13 @@ extern "C" {
     fn memfd_create(name: *const c_char, flags: u32) -> c_int;
     fn ftruncate(file: c_int, bytes: c_long) -> c_int;
     fn close(file: c_int) -> c_int;
+    fn sysconf(name: c_int) -> c_long;
+}
+
+/// Bytes of a page.
+fn page() -> usize {
+    // SAFETY: a number only.
+    unsafe { sysconf(PAGE_SIZE) as usize }
 }
 
 /// Which end of a list touches a forbidden page.
@@ -48,9 +53,9 @@ fn view(file: c_int, bytes: usize, protection: c_int) -> *mut u8 {
     let nowhere = std::ptr::null_mut();
     // SAFETY: a new reservation; the fixed mapping lies inside it.
     unsafe {
-        let room = mmap(nowhere, bytes + 2 * PAGE, PROT_NONE, MAP_PRIVATE | MAP_ANONYMOUS, -1, 0) as *mut u8;
+        let room = mmap(nowhere, bytes + 2 * page(), PROT_NONE, MAP_PRIVATE | MAP_ANONYMOUS, -1, 0) as *mut u8;
         assert!(room as isize != -1, "address space for a list");
-        let inside = room.add(PAGE) as *mut c_void;
+        let inside = room.add(page()) as *mut c_void;
         assert!(mmap(inside, bytes, protection, MAP_SHARED | MAP_FIXED, file, 0) == inside, "memory for a list");
         inside as *mut u8
     }
@@ -59,7 +64,7 @@ fn view(file: c_int, bytes: usize, protection: c_int) -> *mut u8 {
 impl<T: Copy + PartialEq> Lent<T> {
     /// Room for lists of at most `most` elements, all at one edge of it.
     pub fn new(most: usize, edge: Edge) -> Lent<T> {
-        let bytes = (most * size_of::<T>()).div_ceil(PAGE).max(1) * PAGE;
+        let bytes = (most * size_of::<T>()).div_ceil(page()).max(1) * page();
         // SAFETY: the name ends with 0; the mappings keep the file's memory.
         unsafe {
             let file = memfd_create(c"lent".as_ptr(), 0);
@@ -74,11 +79,11 @@ impl<T: Copy + PartialEq> Lent<T> {
     /// A list of that length; one of no elements may be a null pointer.
     fn lay(&mut self, length: usize, null: bool) -> &mut [T] {
         let bytes = length * size_of::<T>();
-        assert!(bytes <= self.bytes && PAGE % ALIGN == 0, "room for {length} elements");
+        assert!(bytes <= self.bytes, "room for {length} elements");
         self.length = length;
         self.null = null && length == 0;
         self.from = if self.edge == Edge::Last { self.bytes - bytes } else { 0 };
-        // SAFETY: inside the writable view, aligned, and borrowed as self is.
+        // SAFETY: inside the writable view and borrowed as self is; aligned, since a page's ends are.
         unsafe { std::slice::from_raw_parts_mut(self.writing.add(self.from) as *mut T, length) }
     }
 
