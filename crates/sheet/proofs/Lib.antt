@@ -1,5 +1,5 @@
 -- Laws by notion: reading (keys, digits, a line, what every line keeps, lists, the whole text; its first bytes; a good text
--- is the text of its sheet), writing, the values, the answers, a sheet solved, and the run.
+-- is the text of its sheet, and the text of a sound sheet is good), writing, the values, the answers, a sheet solved, and the run.
 pub mod Keys
 pub mod Digits
 pub mod Reading
@@ -9,6 +9,8 @@ pub mod Whole
 pub mod FirstBytes
 pub mod Writing
 pub mod Spelled
+pub mod ReadBack
+pub mod Sound
 pub mod Placing
 pub mod Queries
 pub mod Solutions

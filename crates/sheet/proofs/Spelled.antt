@@ -114,13 +114,13 @@ stretch-then {s} {p} {q} {r} {xs} {ys} a b =
 
 module _ (s : List ℕ) (p : Spot) (R : Item → Type 0) where
   -- a line behind a test
-  tested-good : (t : Bool) (l : Item) → (t ≡ true → l .spot .good ≡ true → R l) → cond t l (badLine p) .spot .good ≡ true → R (cond t l (badLine p))
+  pub tested-good : (t : Bool) (l : Item) → (t ≡ true → l .spot .good ≡ true → R l) → cond t l (badLine p) .spot .good ≡ true → R (cond t l (badLine p))
   unfolding badLine
   tested-good true l h e = h refl e
   tested-good false l h e = absurd (let z : _≡_ {A = ℕ} 0 1 = cc in omega arith)
 
   -- and its end
-  close-good : (end : ℕ) (d : Digits)
+  pub close-good : (end : ℕ) (d : Digits)
       → (p .good ≡ true → byteAt s end ≡ 10 → R (record { value = d .value; count = d .count; spot = record { at = suc end; line = suc (p .line); good = true } }))
       → close s p end d .spot .good ≡ true → R (close s p end d)
   unfolding close

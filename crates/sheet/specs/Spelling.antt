@@ -1,9 +1,12 @@
 -- The text that says a sheet (01, "The tablet program"), line after line, each number without leading zeros. No other text
--- is good (proofs/Spelled.antt, `good-is-spelled`): "anything else, extra text or an early end is 11".
+-- is good (proofs/Spelled.antt, `good-is-spelled`): "anything else, extra text or an early end is 11". And the text of
+-- every sound sheet is good and says that sheet (proofs/Sound.antt, `spelled-is-good`).
+use mathlib.Core.Path.{_≡_}
 use mathlib.Core.List.{List, [], _∷_, _++_}
-use Prim.Native.Nat.{ℕ, zero, suc}
+use Prim.Native.Nat.{ℕ, zero, suc, _^_, _≤_, _<_}
 use lib.ListN.{length}
 use Rattle.table.specs.Table.{at}
+use Rattle.sheet.specs.Limits.{COUNT, NUMBER, HOP, BITS}
 use Rattle.sheet.specs.Keys.{widthKey, fixedKey, variableKey, levelsKey, entriesKey, bitsKey, hopKey, queriesKey, addressKey}
 use Rattle.sheet.specs.Report.{lineOf, bitsLineOf, joined}
 use Rattle.sheet.specs.Sheet.{Sheet}
@@ -29,3 +32,17 @@ sheetText sh =
     ++ joined (entryText (sh .bits) (sh .lengths) (sh .hops)) (length (sh .bits))
     ++ lineOf queriesKey (length (sh .addresses))
     ++ joined (queryText (sh .addresses) (sh .places)) (length (sh .addresses))
+
+-- a sheet that the text can say: lists of one length for the entries and of one for the queries, COUNT at most, and
+-- numbers within the text's limits; bits and addresses are numbers of so many binary digits, an address of one at least
+pub record Sound (sh : Sheet) : Type 0 where
+  pub width-fits : sh .width ≤ NUMBER
+  pub kind-fits : sh .kind ≤ 1
+  pub levels-fit : sh .levels ≤ NUMBER
+  pub entries-few : length (sh .bits) ≤ COUNT
+  pub as-many-lengths : length (sh .lengths) ≡ length (sh .bits)
+  pub as-many-hops : length (sh .hops) ≡ length (sh .bits)
+  pub entry : (i : ℕ) → i < length (sh .bits) → (at (sh .lengths) i ≤ BITS) × (at (sh .bits) i < 2 ^ at (sh .lengths) i) × (at (sh .hops) i ≤ HOP)
+  pub queries-few : length (sh .addresses) ≤ COUNT
+  pub as-many-places : length (sh .places) ≡ length (sh .addresses)
+  pub query : (i : ℕ) → i < length (sh .addresses) → (1 ≤ at (sh .places) i) × (at (sh .places) i ≤ BITS) × (at (sh .addresses) i < 2 ^ at (sh .places) i)

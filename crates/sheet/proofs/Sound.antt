@@ -1,0 +1,210 @@
+-- The text of a sound sheet is good and says that very sheet; and the sheet of a good text is sound. So with `good-is-spelled`
+-- (Spelled) a text is good exactly where it is the text of a sound sheet.
+use mathlib.Core.Path.{_≡_, refl, sym, ap, subst, _∙_}
+use mathlib.Core.List.{List, [], _++_, append-assoc, append-nil}
+use mathlib.Core.Bool.{Bool, true, false, _&&_, cond}
+use Prim.Native.Nat.{ℕ, zero, suc, _+_, _-_, _^_, _≤_, _<_}
+use Prim.Dec.{yes, no}
+use native.Mathlib.Omega.{arith}
+use native.Mathlib.Decide.{decLt}
+use lib.ListN.{length, length-drop}
+use lib.Dec.{eqb, leb, lit≤}
+use borrow.Author.Tests.{eq-eqb, leb-true}
+use Rattle.sheet.specs.declared.lines.Spot.{Spot}
+use Rattle.sheet.specs.declared.lines.Item.{Item}
+use Rattle.sheet.specs.Limits.{COUNT, NUMBER-DIGITS, NUMBER, HOP, BITS}
+use Rattle.sheet.specs.Keys.{widthKey, levelsKey, entriesKey, bitsKey, hopKey, queriesKey, addressKey}
+use Rattle.sheet.specs.Lines.{keyAt, countAt, digitsAt, close, bitsLine}
+use Rattle.sheet.specs.Entries.{entryFrom, addressFrom, afterEntries, afterQueries, entryBits, entryLength, entryHop, queryAddress, queryPlaces}
+use Rattle.sheet.specs.Sheet.{Sheet, good, bad, start, widthItem, kindItem, levelsItem, entriesItem, queriesItem, lastSpot, sheetOf, textOf}
+use Rattle.sheet.specs.Spelling.{kindText, entryText, queryText, sheetText, Sound}
+use Rattle.sheet.specs.Report.{places, lineOf, joined}
+use Rattle.sheet.proofs.Steps.{both, number-is, bits-is}
+use Rattle.sheet.proofs.Listing.{listed-length, listed-at}
+use Rattle.sheet.proofs.Whole.{width-line, kind-line, levels-line, entries-line, queries-line, to-last}
+use Rattle.sheet.proofs.Spelled.{tested-good, close-good, bits-spelled}
+use Rattle.sheet.proofs.ReadBack.{Ahead, ReadAs, number-read, kind-read, listed-all, EntriesAs, entries-read, QueriesAs, queries-read}
+
+-- ---- the whole text
+
+-- seven texts, from the first on
+seven : (a b c d e f g : List ℕ) → a ++ b ++ c ++ d ++ e ++ f ++ g ≡ a ++ (b ++ (c ++ (d ++ (e ++ (f ++ (g ++ []))))))
+seven a b c d e f g =
+    rw (
+      append-nil g,
+      append-assoc (a ++ b ++ c ++ d ++ e) f g,
+      append-assoc (a ++ b ++ c ++ d) e (f ++ g),
+      append-assoc (a ++ b ++ c) d (e ++ (f ++ g)),
+      append-assoc (a ++ b) c (d ++ (e ++ (f ++ g))),
+      append-assoc a b (c ++ (d ++ (e ++ (f ++ g)))),
+    )
+
+module _ (sh : Sheet) (sound : Sound sh) where
+  abbrev n : ℕ
+  n = length (sh .bits)
+
+  abbrev m : ℕ
+  m = length (sh .addresses)
+
+  abbrev entriesText : List ℕ
+  entriesText = joined (entryText (sh .bits) (sh .lengths) (sh .hops)) n
+
+  abbrev queriesText : List ℕ
+  queriesText = joined (queryText (sh .addresses) (sh .places)) m
+
+  -- what is left after the entries, after their count, and after the kind
+  abbrev entriesRest : List ℕ
+  entriesRest = lineOf queriesKey m ++ (queriesText ++ [])
+
+  abbrev countRest : List ℕ
+  countRest = entriesText ++ entriesRest
+
+  abbrev kindRest : List ℕ
+  kindRest = lineOf levelsKey (sh .levels) ++ (lineOf entriesKey n ++ countRest)
+
+  module _ (s : List ℕ) (is : s ≡ sheetText sh) where
+    all-ahead : Ahead s start (lineOf widthKey (sh .width) ++ (kindText (sh .kind) ++ kindRest))
+    unfolding sheetText
+    all-ahead =
+        record {
+          on = refl;
+          left =
+              is
+              ∙ seven (lineOf widthKey (sh .width)) (kindText (sh .kind)) (lineOf levelsKey (sh .levels)) (lineOf entriesKey n) entriesText
+              (lineOf queriesKey m) queriesText;
+        }
+
+    width-said : ReadAs s (kindText (sh .kind) ++ kindRest) (sh .width) (places (sh .width)) (widthItem s)
+    unfolding widthItem
+    width-said = number-read widthKey s start (kindText (sh .kind) ++ kindRest) NUMBER (sh .width) (lit≤ tt) (sound .width-fits) all-ahead
+
+    kind-said : ReadAs s kindRest (sh .kind) 0 (kindItem s)
+    unfolding kindItem
+    kind-said = kind-read s (widthItem s .spot) kindRest (sh .kind) (sound .kind-fits) (width-said .ahead)
+
+    levels-said : ReadAs s (lineOf entriesKey n ++ countRest) (sh .levels) (places (sh .levels)) (levelsItem s)
+    unfolding levelsItem
+    levels-said =
+        number-read levelsKey s (kindItem s .spot) (lineOf entriesKey n ++ countRest) NUMBER (sh .levels) (lit≤ tt) (sound .levels-fit) (kind-said .ahead)
+
+    count-said : ReadAs s countRest n (places n) (entriesItem s)
+    unfolding entriesItem
+    count-said = number-read entriesKey s (levelsItem s .spot) countRest COUNT n (lit≤ tt) (sound .entries-few) (levels-said .ahead)
+
+    entries-said : EntriesAs s (entriesItem s .spot) (sh .bits) (sh .lengths) (sh .hops) entriesRest n
+    entries-said = entries-read s (entriesItem s .spot) (sh .bits) (sh .lengths) (sh .hops) n entriesRest (sound .entry) (count-said .ahead)
+
+    queries-count-said : ReadAs s (queriesText ++ []) m (places m) (queriesItem s)
+    unfolding queriesItem
+    queries-count-said =
+        rw (count-said .value)
+        (number-read queriesKey s (afterEntries s (entriesItem s .spot) n) (queriesText ++ []) COUNT m (lit≤ tt) (sound .queries-few) (entries-said .ahead))
+
+    queries-said : QueriesAs s (queriesItem s .spot) (sh .addresses) (sh .places) [] m
+    queries-said = queries-read s (queriesItem s .spot) (sh .addresses) (sh .places) m [] (sound .query) (queries-count-said .ahead)
+
+    last-said : Ahead s (lastSpot s) []
+    unfolding lastSpot
+    last-said = rw (queries-count-said .value) (queries-said .ahead)
+
+    sheet-said : sheetOf s ≡ sh
+    unfolding sheetOf
+    sheet-said =
+        rw (
+          width-said .value,
+          kind-said .value,
+          levels-said .value,
+          count-said .value,
+          queries-count-said .value,
+          entries-said .bits ∙ listed-all (sh .bits) n refl,
+          entries-said .lengths ∙ listed-all (sh .lengths) n (sound .as-many-lengths),
+          entries-said .hops ∙ listed-all (sh .hops) n (sound .as-many-hops),
+          queries-said .addresses ∙ listed-all (sh .addresses) m refl,
+          queries-said .places ∙ listed-all (sh .places) m (sound .as-many-places),
+        )
+
+    text-said : textOf s ≡ good sh
+    unfolding textOf
+    text-said =
+        let l : 0 ≡ length s - lastSpot s .at = sym (ap length (last-said .left)) ∙ length-drop (lastSpot s .at) s in
+        let e : lastSpot s .at ≡ length s = omega (arith, to-last s .within (omega arith)) in
+        rw (last-said .on, eq-eqb (lastSpot s .at) (length s) e, sheet-said)
+
+-- the text of a sound sheet is good, and says that sheet
+pub spelled-is-good : (sh : Sheet) → Sound sh → textOf (sheetText sh) ≡ good sh
+spelled-is-good sh sound = text-said sh sound (sheetText sh) refl
+
+-- ---- and the sheet of a good text is sound
+
+-- a good line of bits has as many as are asked for
+bits-enough : (least : ℕ) (key s : List ℕ) (p : Spot) → bitsLine least key s p .spot .good ≡ true → least ≤ bitsLine least key s p .count
+unfolding bitsLine digitsAt
+bits-enough least key s p e =
+    let q = p .at + length key in
+    tested-good s p R (keyAt key s (p .at) && leb least (countAt 2 BITS s q)) (close s p (q + countAt 2 BITS s q) (digitsAt 2 BITS s q))
+    (λ t g.
+    close-good s p R (q + countAt 2 BITS s q) (digitsAt 2 BITS s q)
+    (λ pg lf. leb-true _ _ (both (keyAt key s (p .at)) (leb least (countAt 2 BITS s q)) t .1)) g)
+    e
+  where
+    R : Item → Type 0
+    R l = least ≤ l .count
+
+-- so has each query, where the last is good
+queries-enough : (s : List ℕ) (p : Spot) (n : ℕ) → afterQueries s p n .good ≡ true → (i : ℕ) → i < n → 1 ≤ queryPlaces s p i
+unfolding afterQueries addressFrom queryPlaces
+queries-enough s p zero e i k = absurd (omega arith)
+queries-enough s p (suc n) e i k =
+    elim (decLt i n) [
+      | yes l ↦ queries-enough s p n (bits-spelled addressKey s (afterQueries s p n) 1 e .good) i l
+      | no l ↦ let f : i ≡ n = omega arith in rw f (bits-enough 1 addressKey s (afterQueries s p n) e)
+    ]
+
+module _ (s : List ℕ) (p : Spot) (i : ℕ) where
+  entry-fits : (entryLength s p i ≤ BITS) × (entryBits s p i < 2 ^ entryLength s p i) × (entryHop s p i ≤ HOP)
+  unfolding entryLength entryBits entryHop entryFrom
+  entry-fits =
+      let q = afterEntries s p i in
+      let w = bits-is bitsKey s q 0 .value in
+      (w .1, w .0, number-is hopKey s (bitsLine 0 bitsKey s q .spot) NUMBER-DIGITS HOP .value)
+
+  query-fits : (queryAddress s p i < 2 ^ queryPlaces s p i) × (queryPlaces s p i ≤ BITS)
+  unfolding queryAddress queryPlaces addressFrom
+  query-fits = bits-is addressKey s (afterQueries s p i) 1 .value
+
+sheet-sound : (s : List ℕ) → lastSpot s .good ≡ true → Sound (sheetOf s)
+unfolding sheetOf lastSpot
+sheet-sound s e =
+    let p = entriesItem s .spot in
+    let n = entriesItem s .value in
+    let q = queriesItem s .spot in
+    let m = queriesItem s .value in
+    record {
+      width-fits = width-line s .value;
+      kind-fits = kind-line s .value;
+      levels-fit = levels-line s .value;
+      entries-few = rw (listed-length (entryBits s p) n) (entries-line s .value);
+      as-many-lengths = listed-length (entryLength s p) n ∙ sym (listed-length (entryBits s p) n);
+      as-many-hops = listed-length (entryHop s p) n ∙ sym (listed-length (entryBits s p) n);
+      entry =
+          λ i k.
+          let l : i < n = omega (arith, listed-length (entryBits s p) n) in
+          rw (listed-at (entryLength s p) n i l, listed-at (entryBits s p) n i l, listed-at (entryHop s p) n i l) (entry-fits s p i);
+      queries-few = rw (listed-length (queryAddress s q) m) (queries-line s .value);
+      as-many-places = listed-length (queryPlaces s q) m ∙ sym (listed-length (queryAddress s q) m);
+      query =
+          λ i k.
+          let l : i < m = omega (arith, listed-length (queryAddress s q) m) in
+          let w = query-fits s q i in
+          rw (listed-at (queryPlaces s q) m i l, listed-at (queryAddress s q) m i l) (queries-enough s q m e i l, w .1, w .0);
+    }
+
+-- a good text says a sound sheet
+pub good-is-sound : (s : List ℕ) (sh : Sheet) → textOf s ≡ good sh → Sound sh
+unfolding textOf
+good-is-sound s sh e = go (lastSpot s .good) (eqb (lastSpot s .at) (length s)) refl e
+  where
+    go : (t u : Bool) → lastSpot s .good ≡ t → cond (t && u) (good (sheetOf s)) (bad (lastSpot s .line)) ≡ good sh → Sound sh
+    go true true f h = let x : sheetOf s ≡ sh = cc in subst Sound x (sheet-sound s f)
+    go true false f h = absurd (let z : _≡_ {A = ℕ} 0 1 = cc in omega arith)
+    go false u f h = absurd (let z : _≡_ {A = ℕ} 0 1 = cc in omega arith)
