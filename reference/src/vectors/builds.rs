@@ -252,8 +252,10 @@ fn small(vectors: &mut Vectors, random: &mut Random) {
         table(vectors, &made);
         for kind in KINDS {
             let shown = random.within(1, width as u64) as u32;
-            for levels in 1..=width + 1 {
-                let room = 64 + random.within(0, 9) as usize;
+            for levels in 1..=LEVELS as u32 {
+                // More levels than bits add no choice: no room is drawn for them.
+                let more = if levels > width + 1 { 0 } else { random.within(0, 9) as usize };
+                let room = 64 + more;
                 let left = built(vectors, &made, kind, levels, (nodes(&made) + 5, room, room + 1, 80));
                 if levels == shown {
                     rows(vectors, &left);
