@@ -15,16 +15,16 @@ use Rattle.table.specs.declared.entry.Outcome.the-variants.{Accepted, Refused}
 use Rattle.table.proofs.Refusals.{gives-unique, refused-not-accepted}
 use Rattle.table.proofs.Numbered.{Numbered, refused-number, numbered-table, numbered-zone, numbered-shared}
 use Rattle.strides.specs.Cheapest.{Kind, Cheapest}
-use Rattle.tries.specs.Limits.{WIDTH}
-use Rattle.tries.specs.Rows.{Lists, shortest}
-use Rattle.tries.specs.Built.{tableTrie}
+use Rattle.walk.specs.Limits.{WIDTH}
+use Rattle.walk.specs.Rows.{Lists, shortest}
+use Rattle.layout.specs.Built.{tableTrie}
 use Rattle.tries.specs.Chooser.{chooseTests}
 use Rattle.tries.specs.Build.{buildTests}
-use Rattle.tries.specs.Meaning.{Tested, Looked}
+use Rattle.walk.specs.Meaning.{Tested, Looked}
 use Rattle.tries.proofs.Choosing.{numbered-choose}
 use Rattle.tries.proofs.Builds.{numbered-build}
 use Rattle.tries.proofs.Demands.{looked-tested}
-use Rattle.tries.specs.declared.record.Record.{Record}
+use Rattle.walk.specs.declared.record.Record.{Record}
 use Rattle.gateway.specs.Numbers.{Told, outcomeNumber, outcomeDetail, outcomeNumbers, sharedNumbers, spanNumbers, choiceNumbers, buildNumbers, answerNumbers}
 use Rattle.gateway.specs.Allowed.{AllowedChoice, AllowedBuild}
 use Rattle.gateway.specs.declared.entries.Checked.{Checked}

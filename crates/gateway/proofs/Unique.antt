@@ -10,15 +10,15 @@ use Rattle.table.specs.Table.{tableTests}
 use Rattle.table.specs.Answers.{Shares, Spans}
 use Rattle.table.proofs.Unique.{check-unique, shares-unique, spans-unique}
 use Rattle.strides.specs.Cheapest.{Kind}
-use Rattle.tries.specs.Limits.{WIDTH}
-use Rattle.tries.specs.Rows.{Lists}
-use Rattle.tries.specs.Meaning.{Looked}
+use Rattle.walk.specs.Limits.{WIDTH}
+use Rattle.walk.specs.Rows.{Lists}
+use Rattle.walk.specs.Meaning.{Looked}
 use Rattle.tries.specs.declared.chooser.Chosen.{Chosen}
 use Rattle.tries.specs.declared.building.Built.{Built}
-use Rattle.tries.specs.declared.record.Record.{Record}
+use Rattle.walk.specs.declared.record.Record.{Record}
 use Rattle.tries.proofs.Choosing.{chooses-unique}
 use Rattle.tries.proofs.OneBuild.{builds-unique}
-use Rattle.tries.proofs.Unique.{looked-unique}
+use Rattle.walk.proofs.Unique.{looked-unique}
 use Rattle.gateway.specs.Numbers.{Told, outcomeNumbers, sharedNumbers, spanNumbers, choiceNumbers, buildNumbers, answerNumbers}
 use Rattle.gateway.specs.Allowed.{AllowedChoice, AllowedBuild}
 use Rattle.gateway.specs.Batch.{Columns, columns, foundAt, Written, Answered}

@@ -7,11 +7,11 @@ use borrow.Author.Count.{below-more}
 use lib.ListN.{length, set, length-set}
 use lib.Seq.{getD-set-same, getD-set-other}
 use Rattle.table.specs.Table.{at}
-use Rattle.tries.specs.Limits.{WIDTH}
-use Rattle.tries.specs.Rows.{Lists}
-use Rattle.tries.specs.Meaning.{Looked}
-use Rattle.tries.specs.declared.record.Record.{Record}
-use Rattle.tries.specs.declared.walk.Answer.{Answer}
+use Rattle.walk.specs.Limits.{WIDTH}
+use Rattle.walk.specs.Rows.{Lists}
+use Rattle.walk.specs.Meaning.{Looked}
+use Rattle.walk.specs.declared.record.Record.{Record}
+use Rattle.walk.specs.declared.walk.Answer.{Answer}
 use Rattle.gateway.specs.Numbers.{Told, answerNumbers}
 use Rattle.gateway.specs.Batch.{Columns, columns, foundAt, Exactly, Written}
 use Rattle.gateway.specs.declared.looking.Found.{Found}

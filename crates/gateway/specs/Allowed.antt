@@ -2,7 +2,7 @@
 use mathlib.Core.List.{List}
 use Prim.Native.Nat.{ℕ}
 use Rattle.strides.specs.Cheapest.{Kind}
-use Rattle.tries.specs.Rows.{Lists}
+use Rattle.walk.specs.Rows.{Lists}
 use Rattle.tries.specs.Chooser.{ChosenIs, Chooses}
 use Rattle.tries.specs.Build.{BuildIs, Builds}
 use Rattle.tries.specs.declared.chooser.Chosen.{Chosen}

@@ -4,11 +4,11 @@ use mathlib.Core.List.{List}
 use Prim.Native.Nat.{ℕ, min, _≤_, _<_}
 use lib.ListN.{length}
 use Rattle.table.specs.Table.{at}
-use Rattle.tries.specs.Limits.{WIDTH}
-use Rattle.tries.specs.Rows.{Lists}
-use Rattle.tries.specs.Lookup.{lookupOf}
-use Rattle.tries.specs.declared.record.Record.{Record}
-use Rattle.tries.specs.declared.walk.Answer.{Answer}
+use Rattle.walk.specs.Limits.{WIDTH}
+use Rattle.walk.specs.Rows.{Lists}
+use Rattle.walk.specs.Lookup.{lookupOf}
+use Rattle.walk.specs.declared.record.Record.{Record}
+use Rattle.walk.specs.declared.walk.Answer.{Answer}
 use Rattle.gateway.specs.Numbers.{Told, answerNumbers}
 use Rattle.gateway.specs.declared.looking.Found.{Found}
 

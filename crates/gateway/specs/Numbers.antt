@@ -7,10 +7,10 @@ use Rattle.table.specs.declared.entry.Outcome.{Outcome}
 use Rattle.table.specs.declared.entry.Outcome.the-variants.{Accepted, Refused}
 use Rattle.table.specs.declared.sharing.Shared.{Shared}
 use Rattle.table.specs.declared.zoning.Span.{Span}
-use Rattle.tries.specs.Answers.{numberOf, hopOf, readsOf}
+use Rattle.walk.specs.Answers.{numberOf, hopOf, readsOf}
 use Rattle.tries.specs.declared.chooser.Chosen.{Chosen}
 use Rattle.tries.specs.declared.building.Built.{Built}
-use Rattle.tries.specs.declared.walk.Answer.{Answer}
+use Rattle.walk.specs.declared.walk.Answer.{Answer}
 use Rattle.gateway.specs.declared.entries.Checked.{Checked}
 use Rattle.gateway.specs.declared.entries.SharedBits.{SharedBits}
 use Rattle.gateway.specs.declared.entries.ZoneSpan.{ZoneSpan}

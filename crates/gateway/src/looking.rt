@@ -1,11 +1,11 @@
 // The lookup for C, one address or many (01, "The element rows").
 ghost use mathlib.Core.Path.{_≡_};
 ghost use Prim.Native.Nat.{min};
-ghost use Rattle.tries.specs.Limits.{WIDTH};
-ghost use Rattle.tries.specs.Rows.{lists};
-ghost use Rattle.tries.specs.Answers.{hopOf};
-ghost use Rattle.tries.specs.Lookup.{lookupOf};
-ghost use Rattle.tries.specs.Meaning.{Looked};
+ghost use Rattle.walk.specs.Limits.{WIDTH};
+ghost use Rattle.walk.specs.Rows.{lists};
+ghost use Rattle.walk.specs.Answers.{hopOf};
+ghost use Rattle.walk.specs.Lookup.{lookupOf};
+ghost use Rattle.walk.specs.Meaning.{Looked};
 ghost use Rattle.gateway.specs.Numbers.{Told, answerNumbers};
 ghost use Rattle.gateway.specs.Batch.{columns, Exactly, Answered};
 use tries::Answer;

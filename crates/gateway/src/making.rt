@@ -1,7 +1,7 @@
 // The builds for C (01, "The element rows").
 ghost use mathlib.Core.Path.{_≡_};
 ghost use Rattle.strides.specs.Cheapest.{fixed, variable};
-ghost use Rattle.tries.specs.Rows.{lists};
+ghost use Rattle.walk.specs.Rows.{lists};
 ghost use Rattle.gateway.specs.Numbers.{Told, buildNumbers};
 ghost use Rattle.gateway.specs.Allowed.{ExactBuild, AllowedBuild};
 use crate::entries::outcome_numbers;

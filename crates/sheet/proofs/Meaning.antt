@@ -16,12 +16,12 @@ use Rattle.strides.proofs.Insertion.{trie-depth-width}
 use Rattle.strides.specs.Strides.{Good, Follows}
 use Rattle.strides.proofs.Cheapest.{least-cheapest}
 use Rattle.strides.proofs.Follows.{follows-good, follows-unique}
-use Rattle.tries.specs.Blocks.{Strides, blocksAlong, rowCount, strideOf}
+use Rattle.layout.specs.Blocks.{Strides, blocksAlong, rowCount, strideOf}
 use Rattle.tries.specs.Build.{roomTest, buildTests}
-use Rattle.tries.specs.Built.{tableTrie}
+use Rattle.layout.specs.Built.{tableTrie}
 use Rattle.tries.specs.Chooser.{chooseTests}
 use Rattle.tries.specs.Scratch.{ROW}
-use Rattle.tries.proofs.Agreeing.{Agree, same-agree, blocks-same, count-same, stride-same}
+use Rattle.layout.proofs.Agreeing.{Agree, same-agree, blocks-same, count-same, stride-same}
 use Rattle.tries.proofs.Choosing.{accepted-levels, accepted-tests-table}
 use Rattle.tries.proofs.Builds.{tests-least, table-follows}
 use Rattle.sheet.specs.declared.running.Report.{Report}

@@ -9,12 +9,12 @@ use lib.ListN.{length}
 use borrow.Author.Tests.{lt-ltb, le-ltb, ltb-false, eqb-true, not-false}
 use Rattle.table.specs.Table.{at}
 use Rattle.table.proofs.Find.{find-first}
-use Rattle.tries.specs.Limits.{WIDTH}
-use Rattle.tries.specs.Rows.{Lists, root}
-use Rattle.tries.specs.Answers.{hopOf, readsOf}
-use Rattle.tries.specs.Lookup.{lookupOf}
-use Rattle.tries.specs.declared.record.Record.{Record}
-use Rattle.tries.specs.declared.walk.Answer.{Answer}
+use Rattle.walk.specs.Limits.{WIDTH}
+use Rattle.walk.specs.Rows.{Lists, root}
+use Rattle.walk.specs.Answers.{hopOf, readsOf}
+use Rattle.walk.specs.Lookup.{lookupOf}
+use Rattle.walk.specs.declared.record.Record.{Record}
+use Rattle.walk.specs.declared.walk.Answer.{Answer}
 use Rattle.sheet.specs.Lent.{LentQueries}
 use Rattle.sheet.specs.Report.{refusalLines, headLines, answerLines, joined, Wrote}
 use Rattle.sheet.specs.Answers.{wrong, firstWrong, queryLines, answersReport, hopIn, readsIn, lookedUp}

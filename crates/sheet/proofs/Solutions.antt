@@ -7,14 +7,14 @@ use lib.ListN.{length}
 use Rattle.table.specs.declared.entry.Outcome.{Outcome}
 use Rattle.table.specs.declared.entry.Outcome.the-variants.{Accepted, Refused}
 use Rattle.strides.specs.Cheapest.{Kind, fixed, variable}
-use Rattle.tries.specs.Limits.{WIDTH}
-use Rattle.tries.specs.Rows.{Lists, shortest}
-use Rattle.tries.specs.Blocks.{rowCount, strideOf}
+use Rattle.walk.specs.Limits.{WIDTH}
+use Rattle.walk.specs.Rows.{Lists, shortest}
+use Rattle.layout.specs.Blocks.{rowCount, strideOf}
 use Rattle.tries.specs.Build.{BuildIs}
-use Rattle.tries.specs.Built.{tableTrie, Laid}
+use Rattle.layout.specs.Built.{tableTrie, Laid}
 use Rattle.tries.specs.Scratch.{ROW}
-use Rattle.tries.specs.declared.record.Record.{Record}
-use Rattle.tries.proofs.Laid.{hop-longest, reads-blocks}
+use Rattle.walk.specs.declared.record.Record.{Record}
+use Rattle.layout.proofs.Laid.{hop-longest, reads-blocks}
 use Rattle.sheet.specs.Limits.{LENT-ROWS, LENT-ELEMENTS}
 use Rattle.sheet.specs.Lent.{LentQueries}
 use Rattle.sheet.specs.Report.{refusalLines}

@@ -7,11 +7,11 @@ use lib.ListN.{length}
 use lib.Dec.{ltb, eqb}
 use Rattle.table.specs.Table.{at}
 use Rattle.table.specs.Zone.{find}
-use Rattle.tries.specs.Limits.{WIDTH}
-use Rattle.tries.specs.Rows.{Lists, root}
-use Rattle.tries.specs.Answers.{hopOf, readsOf}
-use Rattle.tries.specs.Lookup.{lookupOf}
-use Rattle.tries.specs.declared.record.Record.{Record}
+use Rattle.walk.specs.Limits.{WIDTH}
+use Rattle.walk.specs.Rows.{Lists, root}
+use Rattle.walk.specs.Answers.{hopOf, readsOf}
+use Rattle.walk.specs.Lookup.{lookupOf}
+use Rattle.walk.specs.declared.record.Record.{Record}
 use Rattle.sheet.specs.Report.{refusalLines, headLines, answerLines, joined}
 
 -- query i has not W digits

@@ -10,9 +10,9 @@ use Rattle.table.specs.declared.entry.Outcome.{Outcome}
 use Rattle.table.specs.declared.entry.Outcome.the-variants.{Accepted, Refused}
 use Rattle.strides.specs.Cheapest.{Kind, Cheapest}
 use Rattle.strides.specs.Strides.{Follows}
-use Rattle.tries.specs.Blocks.{Strides}
+use Rattle.layout.specs.Blocks.{Strides}
 use Rattle.tries.specs.Build.{buildTests}
-use Rattle.tries.specs.Built.{tableTrie}
+use Rattle.layout.specs.Built.{tableTrie}
 use Rattle.tries.specs.Scratch.{ROW}
 use Rattle.sheet.specs.declared.running.Report.{Report}
 use Rattle.sheet.specs.Limits.{LENT-ROWS, LENT-ELEMENTS}

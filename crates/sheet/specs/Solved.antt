@@ -12,9 +12,9 @@ use Rattle.table.specs.declared.entry.Outcome.the-variants.{Accepted, Refused}
 use Rattle.strides.specs.Cheapest.{Kind, fixed, variable}
 use Rattle.strides.specs.Recurrence.{plain, leastBy}
 use Rattle.strides.specs.Strides.{chosenBy}
-use Rattle.tries.specs.Blocks.{Strides, blocksAlong, rowCount, strideOf}
+use Rattle.layout.specs.Blocks.{Strides, blocksAlong, rowCount, strideOf}
 use Rattle.tries.specs.Build.{buildTests}
-use Rattle.tries.specs.Built.{tableTrie}
+use Rattle.layout.specs.Built.{tableTrie}
 use Rattle.tries.specs.Costs.{held}
 use Rattle.tries.specs.Scratch.{ROW}
 use Rattle.sheet.specs.Limits.{LENT-ROWS, LENT-ELEMENTS}

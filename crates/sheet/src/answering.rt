@@ -2,10 +2,10 @@
 ghost use mathlib.Core.Path.{_≡_};
 ghost use Prim.Native.Nat.{_+_, _*_, _≤_};
 ghost use lib.ListN.{length};
-ghost use Rattle.tries.specs.Rows.{lists};
+ghost use Rattle.walk.specs.Rows.{lists};
 ghost use Rattle.sheet.specs.Limits.{BITS, PAGE};
 ghost use Rattle.sheet.specs.Lent.{LentQueries};
-ghost use Rattle.tries.specs.Answers.{hopOf, readsOf};
+ghost use Rattle.walk.specs.Answers.{hopOf, readsOf};
 ghost use Rattle.sheet.specs.Report.{Wrote, answerLines};
 ghost use Rattle.sheet.specs.Answers.{firstWrong, answered, lookedUp};
 use crate::printing::put_answer;

@@ -29,17 +29,18 @@ use Rattle.strides.specs.Strides.{Follows, chosenBy, costBy, variableStride, fi
 use Rattle.strides.proofs.Insertion.{trie-depth-width}
 use Rattle.strides.proofs.Cheapest.{chosen-good, least-cheapest, strides-named, cheapest-unique}
 use Rattle.strides.proofs.Capped.{chosen-capped, strides-capped, follows-capped, cap-never-bites}
-use Rattle.tries.specs.declared.record.Record.{Record}
-use Rattle.tries.specs.Limits.{WIDTH, LEVELS, ELEMENTS, COST_CAP}
-use Rattle.tries.specs.Rows.{Lists, lists, shortest, root, rowAt}
-use Rattle.tries.specs.Blocks.{Strides, strideOf, rowCount}
-use Rattle.tries.specs.Built.{tableTrie, tableFloor, Laid}
+use Rattle.walk.specs.declared.record.Record.{Record}
+use Rattle.walk.specs.Limits.{WIDTH, LEVELS}
+use Rattle.tries.specs.Limits.{ELEMENTS, COST_CAP}
+use Rattle.walk.specs.Rows.{Lists, lists, shortest, root, rowAt}
+use Rattle.layout.specs.Blocks.{Strides, strideOf, rowCount}
+use Rattle.layout.specs.Built.{tableTrie, tableFloor, Laid}
 use Rattle.tries.specs.Filling.{Trunk, Room, LayAsks, LayGives, Lays, CanLay}
 use Rattle.tries.specs.Costs.{held}
 use Rattle.tries.specs.Levels.{padded}
 use Rattle.tries.specs.Chooser.{chooseTests, ifAccepted, PlanIn, Planned}
 use Rattle.tries.specs.Build.{roomTest, buildTests, NoRecord, Keeps, RowsAre, RowsBuilt, BuildIs, Builds}
-use Rattle.tries.proofs.Cost.{count-cost}
+use Rattle.layout.proofs.Cost.{count-cost}
 use Rattle.tries.proofs.Laying.{lays-built}
 use Rattle.tries.proofs.Leveling.{padded-read}
 use Rattle.tries.proofs.Choosing.{numbered-choose, accepted-plan, accepted-levels, below-cap, plan-depth-width}

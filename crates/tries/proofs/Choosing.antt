@@ -33,9 +33,10 @@ use Rattle.strides.proofs.Counting.{node-count}
 use Rattle.strides.proofs.Strides.{pick-variable}
 use Rattle.strides.proofs.Cheapest.{least-cheapest, strides-named, cheapest-unique, named-unique}
 use Rattle.strides.proofs.Capped.{least-capped, strides-capped, cap-never-bites}
-use Rattle.tries.specs.Limits.{WIDTH, LEVELS, ENTRIES, COST_CAP, Within}
+use Rattle.walk.specs.Limits.{WIDTH, LEVELS, Within}
+use Rattle.tries.specs.Limits.{ENTRIES, COST_CAP}
 use Rattle.tries.specs.Scratch.{ROW, ask, strideAt, Here, Stands}
-use Rattle.tries.specs.Built.{tableTrie}
+use Rattle.layout.specs.Built.{tableTrie}
 use Rattle.tries.specs.Trees.{Tree, nil, fork, shape, linkOf, Stand, Has, lt, rt, lmark, rmark, rowAt, next, side, setSide, setMark, insertR, addEntry, treeOf}
 use Rattle.tries.specs.Making.{Prefixes, InRows, MakeIn, MakeOut}
 use Rattle.tries.specs.Costs.{held, Priced, Costed, AllPriced, TreeIn, TreeOut, TreeAsk, TreeDone}

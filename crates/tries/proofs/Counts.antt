@@ -7,7 +7,7 @@ use Rattle.table.specs.Shared.{shared}
 use Rattle.table.specs.declared.sharing.Shared.{Shared}
 use Rattle.table.specs.declared.sharing.Shared.the-variants.{Length}
 use Rattle.strides.specs.Insertion.{newAfter, newNodes, nodeCount}
-use Rattle.tries.specs.Limits.{WIDTH}
+use Rattle.walk.specs.Limits.{WIDTH}
 
 pub same-length : {s r : ℕ} → Length s ≡ Length r → s ≡ r
 same-length e = cc

@@ -27,23 +27,24 @@ use Rattle.strides.specs.Cheapest.{Kind, Cheapest}
 use Rattle.strides.specs.Recurrence.{plain, leastBy}
 use Rattle.strides.proofs.Cheapest.{least-cheapest}
 use Rattle.strides.proofs.Follows.{follows-cheapest}
-use Rattle.tries.specs.declared.record.Record.{Record}
-use Rattle.tries.specs.declared.walk.Answer.{Answer}
-use Rattle.tries.specs.declared.walk.Answer.the-variants.{NoRoute}
-use Rattle.tries.specs.Limits.{WIDTH, LEVELS, ELEMENTS}
-use Rattle.tries.specs.Rows.{Lists, shortest, rowAt}
-use Rattle.tries.specs.Answers.{numberOf, hopOf, readsOf, latest}
-use Rattle.tries.specs.Lookup.{pathRows, lookupOf}
-use Rattle.tries.specs.Meaning.{OnPath, Tested, Looked, refused, accepted}
+use Rattle.walk.specs.declared.record.Record.{Record}
+use Rattle.walk.specs.declared.walk.Answer.{Answer}
+use Rattle.walk.specs.declared.walk.Answer.the-variants.{NoRoute}
+use Rattle.walk.specs.Limits.{WIDTH, LEVELS}
+use Rattle.tries.specs.Limits.{ELEMENTS}
+use Rattle.walk.specs.Rows.{Lists, shortest, rowAt}
+use Rattle.walk.specs.Answers.{numberOf, hopOf, readsOf, latest}
+use Rattle.walk.specs.Lookup.{pathRows, lookupOf}
+use Rattle.walk.specs.Meaning.{OnPath, Tested, Looked, refused, accepted}
 use Rattle.tries.specs.Levels.{padded}
-use Rattle.tries.specs.Blocks.{rowsAlong}
-use Rattle.tries.specs.Built.{tableTrie, NoMatch, Longest}
+use Rattle.layout.specs.Blocks.{rowsAlong}
+use Rattle.layout.specs.Built.{tableTrie, NoMatch, Longest}
 use Rattle.tries.specs.Chooser.{chooseTests, Chooses}
 use Rattle.tries.specs.Build.{roomTest, buildTests, NoRecord, Builds}
-use Rattle.tries.proofs.Unique.{tested-unique, looked-unique}
-use Rattle.tries.proofs.Looked.{looked}
-use Rattle.tries.proofs.Reading.{answer-number, path-rows, reads-path, reads-most, lookup-local}
-use Rattle.tries.proofs.Laid.{blocks, laid-longest, no-route, rows-exactly, reads-blocks, reads-few, rows-alone, elements-cost, one-answer}
+use Rattle.walk.proofs.Unique.{tested-unique, looked-unique}
+use Rattle.walk.proofs.Looked.{looked}
+use Rattle.walk.proofs.Reading.{answer-number, path-rows, reads-path, reads-most, lookup-local}
+use Rattle.layout.proofs.Laid.{blocks, laid-longest, no-route, rows-exactly, reads-blocks, reads-few, rows-alone, elements-cost, one-answer}
 use Rattle.tries.proofs.Choosing.{numbered-choose}
 use Rattle.tries.proofs.Builds.{early, late}
 

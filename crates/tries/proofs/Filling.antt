@@ -11,12 +11,13 @@ use lib.Seq.{getD-set-same, getD-set-other}
 use lib.Pow.{pow-mono, low, high}
 use Rattle.strides.specs.Trie.{Trie, none, left, right, leftMark, rightMark, bit, newer, markAlong, subAlong}
 use Rattle.strides.proofs.Paths.{bit-mod, mark-same, sub-same, sub-none, mark-none}
-use Rattle.tries.specs.Limits.{WIDTH, LEVELS, ELEMENTS}
-use Rattle.tries.specs.Rows.{Lists, lists, shortest, rowAt}
+use Rattle.walk.specs.Limits.{WIDTH, LEVELS}
+use Rattle.tries.specs.Limits.{ELEMENTS}
+use Rattle.walk.specs.Rows.{Lists, lists, shortest, rowAt}
 use Rattle.tries.specs.Scratch.{ROW, ask, strideAt}
-use Rattle.tries.specs.Blocks.{Strides, wide, leftOf, linkTo, rowBelow}
+use Rattle.layout.specs.Blocks.{Strides, wide, leftOf, linkTo, rowBelow}
 use Rattle.tries.specs.Filling.{Room, Bare, FillAsks, FillGives}
-use Rattle.tries.proofs.Blocks.{wide-sides, left-same}
+use Rattle.layout.proofs.Blocks.{wide-sides, left-same}
 use Rattle.tries.proofs.Standing.{mark-left, mark-right, trunk-fits, trunk-none, trunk-left, trunk-right, trunk-child}
 
 -- ---- the two halves of the rows below a node

@@ -12,7 +12,8 @@ use lib.Seq.{getD-set-same, getD-set-other}
 use borrow.Author.Tests.{lt-ltb, le-ltb}
 use Rattle.strides.specs.Trie.{Trie, none, node, depth, sumBelow, sumBy}
 use Rattle.strides.specs.Recurrence.{atCap, optBy}
-use Rattle.tries.specs.Limits.{WIDTH, LEVELS, COST_CAP}
+use Rattle.walk.specs.Limits.{WIDTH, LEVELS}
+use Rattle.tries.specs.Limits.{COST_CAP}
 use Rattle.tries.specs.Scratch.{ROW, ask}
 use Rattle.tries.specs.Costs.{held, Priced, Costed, CELLS, slot, sumAt, RowAdded, GatherIn, Gathered}
 

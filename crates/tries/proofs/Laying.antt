@@ -8,13 +8,13 @@ use native.Mathlib.Decide.{decLe}
 use lib.ListN.{length}
 use lib.Seq.{ext-getD}
 use Rattle.strides.specs.Trie.{Trie}
-use Rattle.tries.specs.declared.record.Record.{Record}
-use Rattle.tries.specs.Limits.{WIDTH}
-use Rattle.tries.specs.Rows.{Row, Lists, lists, shortest, rowAt, root}
-use Rattle.tries.specs.Blocks.{Strides, strideOf, rowsOf, rowCount}
+use Rattle.walk.specs.declared.record.Record.{Record}
+use Rattle.walk.specs.Limits.{WIDTH}
+use Rattle.walk.specs.Rows.{Row, Lists, lists, shortest, rowAt, root}
+use Rattle.layout.specs.Blocks.{Strides, strideOf, rowsOf, rowCount}
 use Rattle.tries.specs.Filling.{LayAsks, LayGives}
-use Rattle.tries.specs.Built.{Built}
-use Rattle.tries.proofs.Blocks.{hold-unique, rows-length}
+use Rattle.layout.specs.Built.{Built}
+use Rattle.layout.proofs.Blocks.{hold-unique, rows-length}
 
 -- a record with these fields beside the rows
 pub lays-built : {σ : Strides} {t : Trie} {rows plan : List ℕ} {link w k e : ℕ} {ls ls′ : Lists} (rec : Record)

@@ -20,7 +20,8 @@ use Rattle.strides.proofs.Scan.{found}
 use Rattle.strides.proofs.Insertion.{trie-insert, trie-empty, insert-size, met-none, met-within, trie-depth, trie-depth-width}
 use Rattle.strides.proofs.Sums.{nodes-deep}
 use Rattle.strides.proofs.Counting.{new-nodes}
-use Rattle.tries.specs.Limits.{WIDTH, LEVELS, ENTRIES}
+use Rattle.walk.specs.Limits.{WIDTH, LEVELS}
+use Rattle.tries.specs.Limits.{ENTRIES}
 use Rattle.tries.specs.Costs.{held, slot, price, bestCost, bestStride}
 use Rattle.tries.specs.Making.{Prefixes}
 use Rattle.tries.specs.Levels.{within, levelCount, LEVEL_CELLS, Filled, RowFilled, padded, StridesFilled, Reading, FixedOut}

@@ -8,12 +8,13 @@ use native.Mathlib.Omega.{arith}
 use native.Mathlib.Numerals.{add-one}
 use lib.ListN.{length}
 use Rattle.strides.specs.Trie.{Trie, none, left, right}
-use Rattle.tries.specs.Limits.{WIDTH, LEVELS, ELEMENTS}
-use Rattle.tries.specs.Rows.{Row, Lists, shortest, rowAt}
+use Rattle.walk.specs.Limits.{WIDTH, LEVELS}
+use Rattle.tries.specs.Limits.{ELEMENTS}
+use Rattle.walk.specs.Rows.{Row, Lists, shortest, rowAt}
 use Rattle.tries.specs.Scratch.{ROW, ask, strideAt}
-use Rattle.tries.specs.Blocks.{Strides, wide, rowBelow, listOf, blockRows, levelRows, firstRow, levelsRows, rowsOf, rowCount, Hold}
+use Rattle.layout.specs.Blocks.{Strides, wide, rowBelow, listOf, blockRows, levelRows, firstRow, levelsRows, rowsOf, rowCount, Hold}
 use Rattle.tries.specs.Filling.{FillAsks, FillGives, LevelAsks, LevelGives, LayAsks, LayGives}
-use Rattle.tries.proofs.Blocks.{hold-append, hold-all, hold-kept, level-length, wide-sides, level-sides, wide-own, level-own, wide-below, level-below, first-next, first-le, levels-length}
+use Rattle.layout.proofs.Blocks.{hold-append, hold-all, hold-kept, level-length, wide-sides, level-sides, wide-own, level-own, wide-below, level-below, first-next, first-le, levels-length}
 use Rattle.tries.proofs.Standing.{zero?, trunk-fits, trunk-none, trunk-some, trunk-width, trunk-left, trunk-right, trunk-child, trunk-level, trunk-stride, trunk-below}
 use Rattle.tries.proofs.Filling.{room-kept}
 

@@ -1,20 +1,6 @@
-pub mod Bits
-pub mod Tests
-pub mod Walks
-pub mod Unique
-pub mod Paths
-pub mod Looked
-pub mod Reading
-pub mod Blocks
-pub mod Cost
-pub mod Buildable
 pub mod Standing
 pub mod Filling
 pub mod Levels
-pub mod Order
-pub mod Answering
-pub mod Hops
-pub mod Laid
 pub mod Laying
 pub mod Inserting
 pub mod Zeroes
@@ -26,6 +12,5 @@ pub mod Settling
 pub mod Leveling
 pub mod Choosing
 pub mod Builds
-pub mod Agreeing
 pub mod OneBuild
 pub mod Demands

@@ -14,7 +14,7 @@ use Rattle.strides.specs.Entries.{trieOf}
 use Rattle.strides.specs.Insertion.{insertT, place, markFor, nodeCount}
 use Rattle.strides.proofs.Insertion.{trie-insert, trie-empty}
 use Rattle.strides.proofs.Counting.{node-count}
-use Rattle.tries.specs.Limits.{WIDTH}
+use Rattle.walk.specs.Limits.{WIDTH}
 use Rattle.tries.specs.Scratch.{ROW}
 use Rattle.tries.specs.Trees.{Tree, nil, fork, shape, linkOf, rowAt, next, side, setSide, setMark, lt, rt, lmark, rmark, Stand, Has, Apart, Under, insertR, countR, addEntry, treeOf}
 use Rattle.tries.specs.Inserting.{InsertIn, Inserted}

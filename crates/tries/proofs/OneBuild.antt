@@ -16,16 +16,16 @@ use Rattle.strides.specs.Recurrence.{plain, leastBy}
 use Rattle.strides.specs.Strides.{Good, Follows}
 use Rattle.strides.proofs.Cheapest.{least-cheapest, named-unique}
 use Rattle.strides.proofs.Follows.{follows-unique}
-use Rattle.tries.specs.declared.record.Record.{Record}
-use Rattle.tries.specs.Limits.{WIDTH, LEVELS}
-use Rattle.tries.specs.Rows.{Lists, shortest, rowAt}
-use Rattle.tries.specs.Blocks.{Strides, rowsOf, rowCount, Hold}
-use Rattle.tries.specs.Built.{tableTrie, Laid}
+use Rattle.walk.specs.declared.record.Record.{Record}
+use Rattle.walk.specs.Limits.{WIDTH, LEVELS}
+use Rattle.walk.specs.Rows.{Lists, shortest, rowAt}
+use Rattle.layout.specs.Blocks.{Strides, rowsOf, rowCount, Hold}
+use Rattle.layout.specs.Built.{tableTrie, Laid}
 use Rattle.tries.specs.Filling.{LayGives}
 use Rattle.tries.specs.Levels.{padded}
 use Rattle.tries.specs.Chooser.{chooseTests}
 use Rattle.tries.specs.Build.{buildTests, NoRecord, Keeps, Builds}
-use Rattle.tries.proofs.Agreeing.{Agree, same-agree, good-agree, rows-same, count-same}
+use Rattle.layout.proofs.Agreeing.{Agree, same-agree, good-agree, rows-same, count-same}
 use Rattle.tries.proofs.Choosing.{accepted-or}
 use Rattle.tries.proofs.Laying.{lay-unique}
 

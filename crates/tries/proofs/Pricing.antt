@@ -14,7 +14,8 @@ use borrow.Author.Tests.{leb-true, leb-false}
 use Rattle.strides.specs.Trie.{Trie, none, node, depth, sumBelow, sumBy}
 use Rattle.strides.specs.Recurrence.{atCap, keeps, scan, withFirst, optBy, pickBy}
 use Rattle.strides.proofs.Capped.{sum-capped, opt-capped}
-use Rattle.tries.specs.Limits.{WIDTH, LEVELS, ENTRIES, COST_CAP}
+use Rattle.walk.specs.Limits.{WIDTH, LEVELS}
+use Rattle.tries.specs.Limits.{ENTRIES, COST_CAP}
 use Rattle.tries.specs.Scratch.{ROW, ask}
 use Rattle.tries.specs.Trees.{col}
 use Rattle.tries.specs.Costs.{held, slot, price, bestCost, bestStride, Stored}

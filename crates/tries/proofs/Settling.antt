@@ -14,7 +14,8 @@ use lib.Seq.{getD-set-same, getD-set-other}
 use borrow.Author.Tests.{ne-eqb, le-ltb}
 use Rattle.strides.specs.Trie.{Trie, none, node, depth, sumBelow}
 use Rattle.strides.specs.Recurrence.{optBy, pickBy}
-use Rattle.tries.specs.Limits.{WIDTH, LEVELS, COST_CAP}
+use Rattle.walk.specs.Limits.{WIDTH, LEVELS}
+use Rattle.tries.specs.Limits.{COST_CAP}
 use Rattle.tries.specs.Scratch.{ROW, ask}
 use Rattle.tries.specs.Trees.{Tree, nil, fork, shape, linkOf, col, Row, Stand, Has, Apart}
 use Rattle.tries.specs.Costs.{held, Priced, Costed, CELLS, slot, sumAt, GatherIn, Gathered, Summed, DepthOver, bestCost, bestStride, Stored, SettleIn, Settled, AllPriced, AboveZero, TreeIn, TreeOut, TreeAsk, TreeDone}

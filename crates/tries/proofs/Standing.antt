@@ -7,11 +7,11 @@ use native.Mathlib.Omega.{arith}
 use lib.ListN.{length}
 use Rattle.strides.specs.Trie.{Trie, none, node, Some, left, right, leftMark, rightMark}
 use Rattle.strides.specs.Strides.{Good}
-use Rattle.tries.specs.Limits.{WIDTH, LEVELS}
+use Rattle.walk.specs.Limits.{WIDTH, LEVELS}
 use Rattle.tries.specs.Scratch.{ROW, ask, strideAt, Stands}
-use Rattle.tries.specs.Blocks.{Strides, wide, linkTo, strideOf}
+use Rattle.layout.specs.Blocks.{Strides, wide, linkTo, strideOf}
 use Rattle.tries.specs.Filling.{Trunk}
-use Rattle.tries.proofs.Buildable.{good-left, good-right, good-width, good-level, good-stride, good-below}
+use Rattle.layout.proofs.Buildable.{good-left, good-right, good-width, good-level, good-stride, good-below}
 
 pub zero? : (k : ℕ) → (k ≡ 0) ⊎ (0 < k)
 zero? zero = inl refl

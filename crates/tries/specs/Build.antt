@@ -11,11 +11,12 @@ use Rattle.table.specs.declared.entry.Outcome.the-variants.{Accepted}
 use Rattle.strides.specs.Cheapest.{Kind, Cheapest, Named}
 use Rattle.strides.specs.Recurrence.{plain, leastBy, stridesBy}
 use Rattle.strides.specs.Strides.{chosenBy, Follows}
-use Rattle.tries.specs.declared.record.Record.{Record}
-use Rattle.tries.specs.Limits.{WIDTH, LEVELS, ELEMENTS}
-use Rattle.tries.specs.Rows.{Lists, shortest, rowAt}
-use Rattle.tries.specs.Blocks.{Strides}
-use Rattle.tries.specs.Built.{tableTrie, Laid}
+use Rattle.walk.specs.declared.record.Record.{Record}
+use Rattle.walk.specs.Limits.{WIDTH, LEVELS}
+use Rattle.tries.specs.Limits.{ELEMENTS}
+use Rattle.walk.specs.Rows.{Lists, shortest, rowAt}
+use Rattle.layout.specs.Blocks.{Strides}
+use Rattle.layout.specs.Built.{tableTrie, Laid}
 use Rattle.tries.specs.Costs.{held}
 use Rattle.tries.specs.Levels.{padded}
 use Rattle.tries.specs.Chooser.{chooseTests, ifAccepted}

@@ -9,7 +9,8 @@ use lib.ListN.{length, getD}
 use lib.Dec.{ltb, eqb}
 use Rattle.strides.specs.Trie.{Trie, none, node, depth, sumBelow}
 use Rattle.strides.specs.Recurrence.{atCap, scan, optBy, pickBy}
-use Rattle.tries.specs.Limits.{WIDTH, LEVELS, COST_CAP}
+use Rattle.walk.specs.Limits.{WIDTH, LEVELS}
+use Rattle.tries.specs.Limits.{COST_CAP}
 use Rattle.tries.specs.Scratch.{ROW, ask}
 use Rattle.tries.specs.Trees.{Tree, nil, fork, shape, linkOf, col, Stand, Has, Apart}
 

@@ -7,10 +7,11 @@ use mathlib.Core.List.{List}
 use lib.ListN.{length}
 use Rattle.strides.specs.Trie.{Trie}
 use Rattle.strides.specs.Strides.{Good}
-use Rattle.tries.specs.Limits.{WIDTH, LEVELS, ELEMENTS}
-use Rattle.tries.specs.Rows.{Lists, shortest, rowAt}
+use Rattle.walk.specs.Limits.{WIDTH, LEVELS}
+use Rattle.tries.specs.Limits.{ELEMENTS}
+use Rattle.walk.specs.Rows.{Lists, shortest, rowAt}
 use Rattle.tries.specs.Scratch.{Stands}
-use Rattle.tries.specs.Blocks.{Strides, wide, rowBelow, levelRows, rowsOf, rowCount, Hold}
+use Rattle.layout.specs.Blocks.{Strides, wide, rowBelow, levelRows, rowsOf, rowCount, Hold}
 
 -- the lists have e rows, and that is not too many (refusal 7)
 pub record Room (e : ℕ) (ls : Lists) : Type 0 where

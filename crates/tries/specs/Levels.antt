@@ -10,7 +10,8 @@ use Rattle.strides.specs.Insertion.{newNodes}
 use Rattle.strides.specs.Entries.{trieOf}
 use Rattle.strides.specs.Cheapest.{fixed}
 use Rattle.strides.specs.Recurrence.{fixBy, pickFixedBy, listBy, leastBy, stridesBy}
-use Rattle.tries.specs.Limits.{WIDTH, LEVELS, ENTRIES}
+use Rattle.walk.specs.Limits.{WIDTH, LEVELS}
+use Rattle.tries.specs.Limits.{ENTRIES}
 use Rattle.tries.specs.Costs.{held, slot, bestCost, bestStride}
 use Rattle.tries.specs.Making.{Prefixes}
 

@@ -1,21 +1,14 @@
+-- What an inspector reads, in the order of 01: limits, the two kinds, the choosers' promise, the build's.
 pub mod Limits
-pub mod Refusals
-pub mod Rows
-pub mod Scratch
-pub mod Blocks
-pub mod Order
-pub mod Built
-pub mod ExampleRows
-pub mod Filling
-pub mod Answers
-pub mod Lookup
-pub mod Meaning
-pub mod Examples
-pub mod Trees
-pub mod Inserting
-pub mod Costs
-pub mod Making
-pub mod Levels
 pub mod Kinds
 pub mod Chooser
 pub mod Build
+-- What only the inside needs: the scratch rows and their columns, the trie in them (a tree that names its rows, one entry more, a
+-- whole table), costs and levels, and what the functions that write element rows ask and give.
+pub mod Scratch
+pub mod Trees
+pub mod Inserting
+pub mod Making
+pub mod Costs
+pub mod Levels
+pub mod Filling

@@ -9,7 +9,7 @@ use Rattle.table.specs.Entry.{Rises}
 use Rattle.table.specs.Table.{at}
 use Rattle.strides.specs.Trie.{size}
 use Rattle.strides.specs.Entries.{trieOf}
-use Rattle.tries.specs.Limits.{WIDTH}
+use Rattle.walk.specs.Limits.{WIDTH}
 use Rattle.tries.specs.Scratch.{ROW}
 use Rattle.tries.specs.Trees.{Tree, shape, linkOf, rowAt, Stand, Apart, Under, addEntry, treeOf}
 

@@ -4,8 +4,8 @@
 ghost use mathlib.Core.Path.{_≡_};
 ghost use Prim.Native.Nat.{_+_, _*_, _^_, _<_, _≤_};
 ghost use lib.ListN.{length, set};
-ghost use Rattle.tries.specs.Limits.{WIDTH};
-ghost use Rattle.tries.specs.Rows.{lists, shortest};
+ghost use Rattle.walk.specs.Limits.{WIDTH};
+ghost use Rattle.walk.specs.Rows.{lists, shortest};
 ghost use Rattle.strides.specs.Trie.{newer};
 ghost use Rattle.tries.specs.Scratch.{ROW, ask};
 ghost use Rattle.tries.specs.Filling.{Bare, CanFill, Fills, CanBlock, Blocks, CanLevel, Levels, CanLay, Lays};

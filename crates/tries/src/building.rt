@@ -8,20 +8,20 @@ ghost use Rattle.table.specs.Table.{Table};
 ghost use Rattle.table.specs.declared.entry.Outcome.the-variants.{Refused};
 ghost use Rattle.tries.specs.Limits.{ELEMENTS};
 ghost use Rattle.tries.specs.Kinds.{kindOf};
-ghost use Rattle.tries.specs.Rows.{lists};
-ghost use Rattle.tries.specs.Built.{tableFloor};
+ghost use Rattle.walk.specs.Rows.{lists};
+ghost use Rattle.layout.specs.Built.{tableFloor};
 ghost use Rattle.tries.specs.Chooser.{PlanIn};
 ghost use Rattle.tries.specs.Build.{NoRecord, RowsBuilt, BuildIs, Builds};
 use crate::builder::lay;
+use crate::chooser::Kind;
 use crate::chooser::planned;
 use crate::chooser::tested;
 use crate::counting::smaller;
 use crate::limits::ELEMENTS;
-use crate::limits::LEVELS;
-use crate::record::Kind;
-use crate::record::Record;
 use crate::scratch::zero;
 use table::Outcome;
+use walk::LEVELS;
+use walk::Record;
 
 pub struct Built {
     pub outcome: Outcome,

@@ -9,10 +9,6 @@ ghost use Rattle.tries.specs.Chooser.{chooseTests, ChosenIs, Chooses, Pl
 use crate::costs::settle_tree;
 use crate::counting::node_count;
 use crate::fixed::fixed_choice;
-use crate::limits::LEVELS;
-use crate::limits::WIDTH;
-use crate::limits::is_outside;
-use crate::record::Kind;
 use crate::rows::make_rows;
 use crate::scratch::BEFORE_COSTS;
 use crate::scratch::BEFORE_STRIDES;
@@ -20,6 +16,15 @@ use crate::scratch::ROW;
 use crate::scratch::asked;
 use crate::scratch::zero;
 use table::Outcome;
+use table::WIDTH;
+use table::is_outside;
+use walk::LEVELS;
+
+// The two kinds of stride choice: one stride a level, or one a block.
+pub enum Kind {
+    Fixed,
+    Variable,
+}
 
 pub struct Chosen {
     pub outcome: Outcome,

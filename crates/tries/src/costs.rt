@@ -4,18 +4,19 @@ ghost use mathlib.Core.Path.{_≡_};
 ghost use Prim.Native.Nat.{_+_, _-_, _*_, _^_, _<_, _≤_, max};
 ghost use lib.ListN.{length, set};
 ghost use Rattle.strides.specs.Recurrence.{scan};
-ghost use Rattle.tries.specs.Limits.{WIDTH, LEVELS, ENTRIES};
+ghost use Rattle.walk.specs.Limits.{WIDTH, LEVELS};
+ghost use Rattle.tries.specs.Limits.{ENTRIES};
 ghost use Rattle.tries.specs.Scratch.{ROW, ask};
 ghost use Rattle.tries.specs.Costs.{held, CELLS, slot, RowAdded, GatherIn, Gathered, price, bestCost, bestStride, Stored, SettleIn, Summed, DepthOver, Settled, TreeAsk, TreeDone};
 use crate::limits::COST_CAP;
 use crate::limits::SLOTS;
-use crate::limits::WIDTH;
 use crate::scratch::COST;
 use crate::scratch::STRIDE;
 use crate::scratch::asked;
 use crate::scratch::put;
 use strides::capped_power;
 use strides::capped_sum;
+use table::WIDTH;
 
 // Places of the sums: every stride, and every number of levels left.
 const CELLS: usize = WIDTH as usize * SLOTS;

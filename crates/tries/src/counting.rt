@@ -6,7 +6,8 @@ ghost use lib.ListN.{length};
 ghost use Rattle.table.specs.Prefix.{IsPrefix};
 ghost use Rattle.table.specs.Table.{at};
 ghost use Rattle.strides.specs.Insertion.{newAfter, newNodes, nodeCount};
-ghost use Rattle.tries.specs.Limits.{WIDTH, ENTRIES};
+ghost use Rattle.walk.specs.Limits.{WIDTH};
+ghost use Rattle.tries.specs.Limits.{ENTRIES};
 ghost use Rattle.tries.specs.Making.{Prefixes};
 use table::Shared;
 

@@ -6,7 +6,8 @@ ghost use lib.ListN.{length, getD, drop};
 ghost use Rattle.table.specs.Table.{at};
 ghost use Rattle.strides.specs.Entries.{longestLength};
 ghost use Rattle.strides.specs.Recurrence.{listBy};
-ghost use Rattle.tries.specs.Limits.{WIDTH, LEVELS, ENTRIES};
+ghost use Rattle.walk.specs.Limits.{WIDTH, LEVELS};
+ghost use Rattle.tries.specs.Limits.{ENTRIES};
 ghost use Rattle.tries.specs.Costs.{held};
 ghost use Rattle.tries.specs.Making.{Prefixes};
 ghost use Rattle.tries.specs.Levels.{within, levelCount, LEVEL_CELLS, Filled, RowFilled, padded, StridesFilled, SomeNodes, FixedOut};
@@ -14,7 +15,7 @@ use crate::costs::choice;
 use crate::costs::larger;
 use crate::counting::new_at;
 use crate::limits::SLOTS;
-use crate::limits::WIDTH;
+use table::WIDTH;
 
 // Places of the table of fixed strides: every level and one past the last, and every number of levels left.
 const LEVEL_CELLS: usize = (WIDTH as usize + 1) * SLOTS;

@@ -1,5 +1,5 @@
-// The tries: the stride choosers, the builder of element rows, the record that a build hands back, and the lookup.
-mod address;
+// The tries: the stride choosers, the builder of element rows, and the build. The record and the lookup are `walk`'s, and stand here
+// too, so that a caller who builds needs no other name.
 mod builder;
 mod building;
 mod chooser;
@@ -7,21 +7,19 @@ mod costs;
 mod counting;
 mod fixed;
 mod limits;
-mod record;
 mod rows;
 mod scratch;
-mod walk;
 
 pub use building::Built;
 pub use building::build;
 pub use chooser::Chosen;
+pub use chooser::Kind;
 pub use chooser::choose_fixed;
 pub use chooser::choose_variable;
 pub use limits::ELEMENTS;
-pub use limits::LEVELS;
-pub use limits::WIDTH;
-pub use record::Kind;
-pub use record::Record;
 pub use scratch::ROW;
+pub use table::WIDTH;
 pub use walk::Answer;
+pub use walk::LEVELS;
+pub use walk::Record;
 pub use walk::lookup;

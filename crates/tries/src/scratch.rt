@@ -3,7 +3,7 @@
 ghost use mathlib.Core.Path.{_≡_};
 ghost use Prim.Native.Nat.{_+_, _*_, _<_, _≤_};
 ghost use lib.ListN.{length, replicate, set};
-ghost use Rattle.tries.specs.Limits.{LEVELS};
+ghost use Rattle.walk.specs.Limits.{LEVELS};
 ghost use Rattle.tries.specs.Scratch.{ROW, ask, strideAt};
 
 // Numbers in a row.

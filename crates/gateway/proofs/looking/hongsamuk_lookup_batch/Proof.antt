@@ -3,7 +3,7 @@ use mathlib.Core.Path.{_≡_}
 use Prim.Native.Nat.{_-_, _≤_}
 use native.Mathlib.Omega.{arith}
 use borrow.Author.Needs.{needs}
-use Rattle.tries.specs.Rows.{lists}
+use Rattle.walk.specs.Rows.{lists}
 use Rattle.gateway.specs.Batch.{columns, Written}
 use Rattle.gateway.proofs.Writing.{Promised, written-none, written-more, written-by}
 use Rattle.gateway.proofs.looking.hongsamuk_lookup_batch.Statement.{statement}

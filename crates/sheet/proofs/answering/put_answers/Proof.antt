@@ -5,7 +5,7 @@ use native.Mathlib.Omega.{arith}
 use denote.Ref.{now}
 use lib.ListN.{length}
 use Rattle.table.specs.Table.{at}
-use Rattle.tries.specs.Rows.{lists}
+use Rattle.walk.specs.Rows.{lists}
 use Rattle.sheet.specs.Report.{joined, Wrote}
 use Rattle.sheet.specs.Answers.{queryLines, hopIn, readsIn}
 use Rattle.sheet.proofs.Writing.{wrote-length, wrote-up-to, length-answer, joined-none}

@@ -3,10 +3,10 @@ use mathlib.Core.Path.{_≡_, sym}
 use Prim.Native.Nat.{_-_, _*_}
 use native.Mathlib.Omega.{arith}
 use lib.ListN.{length}
-use Rattle.tries.specs.Rows.{lists}
+use Rattle.walk.specs.Rows.{lists}
 use Rattle.sheet.proofs.Writing.{wrote-is}
 use Rattle.sheet.proofs.Solutions.{solved-refused, solved-accepted}
-use Rattle.tries.specs.Rows.{shortest}
+use Rattle.walk.specs.Rows.{shortest}
 use Rattle.sheet.specs.Limits.{LENT-ROWS, LENT-ELEMENTS}
 use Rattle.tries.specs.Scratch.{ROW}
 use borrow.Author.Needs.{needs}

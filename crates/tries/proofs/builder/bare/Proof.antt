@@ -4,7 +4,7 @@ use mathlib.Core.Path.{_≡_, refl, subst}
 use native.Mathlib.Omega.{arith}
 use lib.ListN.{length}
 use borrow.Author.Needs.{needs}
-use Rattle.tries.specs.Rows.{lists}
+use Rattle.walk.specs.Rows.{lists}
 use Rattle.tries.specs.Filling.{Bare}
 use Rattle.tries.proofs.Filling.{bare-none, bare-more}
 use Rattle.tries.proofs.builder.bare.Statement.{statement}

@@ -4,8 +4,8 @@ use native.Mathlib.Omega.{arith}
 use borrow.Author.Needs.{needs}
 use lib.ListN.{length}
 use Rattle.strides.specs.Trie.{Trie}
-use Rattle.tries.specs.Rows.{lists}
-use Rattle.tries.specs.Blocks.{Strides}
+use Rattle.walk.specs.Rows.{lists}
+use Rattle.layout.specs.Blocks.{Strides}
 use Rattle.tries.specs.Filling.{LayAsks}
 use Rattle.tries.proofs.Levels.{Done, lay-bounds, done-none, next-asks, done-more, done-all}
 use Rattle.tries.proofs.builder.lay.Statement.{statement}

@@ -2,7 +2,7 @@ use Prim.Native.Nat.{ℕ}
 use mathlib.Core.Path.{_≡_, sym, ap, _∙_}
 use lib.ListN.{length, replicate}
 use native.Mathlib.Omega.{arith}
-use Rattle.tries.specs.Rows.{lists}
+use Rattle.walk.specs.Rows.{lists}
 use Rattle.tries.proofs.Choosing.{accepted-plan}
 use Rattle.tries.proofs.Builds.{early-is, past-is, build-means}
 use borrow.Author.Needs.{needs}

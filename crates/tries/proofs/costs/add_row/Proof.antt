@@ -3,7 +3,7 @@ use Prim.Native.Nat.{ℕ, _+_, _*_, _≤_, _-_}
 use mathlib.Core.Path.{_≡_, ap, subst, _∙_}
 use native.Mathlib.Omega.{arith}
 use lib.ListN.{length, length-set}
-use Rattle.tries.specs.Limits.{LEVELS}
+use Rattle.walk.specs.Limits.{LEVELS}
 use Rattle.tries.specs.Costs.{CELLS, RowAdded}
 use Rattle.tries.proofs.Gathering.{row-start, row-next}
 use borrow.Author.Needs.{needs}

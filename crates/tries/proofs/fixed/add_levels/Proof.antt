@@ -4,7 +4,7 @@ use mathlib.Core.Path.{_≡_, subst, _∙_}
 use native.Mathlib.Omega.{arith}
 use borrow.Author.Needs.{needs}
 use lib.ListN.{length, getD, length-set}
-use Rattle.tries.specs.Limits.{WIDTH}
+use Rattle.walk.specs.Limits.{WIDTH}
 use Rattle.tries.specs.Levels.{within}
 use Rattle.tries.proofs.Leveling.{within-same, within-one, run-next}
 use Rattle.tries.proofs.fixed.add_levels.Statement.{statement}

@@ -5,7 +5,7 @@ use native.Mathlib.Nat.{le-trans}
 use native.Mathlib.Omega.{arith}
 use lib.ListN.{length, getD}
 use Rattle.table.specs.Table.{at}
-use Rattle.tries.specs.Limits.{WIDTH}
+use Rattle.walk.specs.Limits.{WIDTH}
 use Rattle.tries.specs.Levels.{within, levelCount}
 use Rattle.tries.proofs.Counts.{new-short}
 use Rattle.tries.proofs.Leveling.{level-small, level-next}

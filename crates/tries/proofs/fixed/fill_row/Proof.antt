@@ -5,7 +5,7 @@ use mathlib.Core.List.{List}
 use native.Mathlib.Omega.{arith}
 use lib.ListN.{length, drop, length-set, length-drop}
 use lib.Seq.{drop-set-lt}
-use Rattle.tries.specs.Limits.{LEVELS}
+use Rattle.walk.specs.Limits.{LEVELS}
 use Rattle.tries.specs.Costs.{bestCost, bestStride}
 use Rattle.tries.specs.Levels.{LEVEL_CELLS, RowFilled}
 use Rattle.tries.proofs.Leveling.{rest-all, row-start, row-next}

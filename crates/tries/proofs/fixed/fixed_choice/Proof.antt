@@ -3,7 +3,7 @@ use mathlib.Core.Path.{_≡_, refl}
 use native.Mathlib.Omega.{arith}
 use lib.ListN.{replicate}
 use Rattle.table.specs.Table.{at}
-use Rattle.tries.specs.Limits.{WIDTH}
+use Rattle.walk.specs.Limits.{WIDTH}
 use Rattle.tries.specs.Levels.{LEVEL_CELLS}
 use Rattle.tries.proofs.Zeroes.{zeros-read}
 use Rattle.tries.proofs.Leveling.{depth-wide, counts-small, filled-start, fixed-out}

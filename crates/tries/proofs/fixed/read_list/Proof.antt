@@ -4,7 +4,7 @@ use mathlib.Core.Path.{_≡_, refl, subst, _∙_}
 use native.Mathlib.Nat.{mod-eq-of-lt}
 use native.Mathlib.Omega.{arith}
 use lib.ListN.{length, getD, length-set}
-use Rattle.tries.specs.Limits.{LEVELS}
+use Rattle.walk.specs.Limits.{LEVELS}
 use Rattle.tries.specs.Levels.{StridesFilled, Reading}
 use Rattle.tries.proofs.Leveling.{pick-within, reading-start, reading-next, reading-done}
 use borrow.Author.Needs.{needs}

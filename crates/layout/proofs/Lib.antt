@@ -1,0 +1,8 @@
+pub mod Blocks
+pub mod Cost
+pub mod Buildable
+pub mod Order
+pub mod Answering
+pub mod Hops
+pub mod Laid
+pub mod Agreeing

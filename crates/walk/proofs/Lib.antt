@@ -1,0 +1,7 @@
+pub mod Bits
+pub mod Tests
+pub mod Unique
+pub mod Walks
+pub mod Paths
+pub mod Looked
+pub mod Reading

@@ -1,0 +1,152 @@
+use Prim.Native.Nat.{ℕ, _≤_, _<_, _+_, _-_, _^_}
+use mathlib.Core.Path.{_≡_, _∙_, sym, ap}
+use native.Mathlib.Nat.{sub-zero}
+use native.Mathlib.Omega.{arith}
+use borrow.Author.Needs.{needs}
+use Rattle.walk.specs.Limits.{WIDTH}
+use Rattle.walk.specs.Rows.{lists, rowAt, rowOf}
+use Rattle.walk.specs.Lookup.{walk}
+use Rattle.walk.specs.Meaning.{Readable, no-stride, too-wide, past-end}
+use Rattle.walk.proofs.Bits.{cut-le}
+use Rattle.walk.proofs.Walks.{walk-stops, walk-spends, walk-ends, walk-goes}
+use Rattle.walk.proofs.walk.follow.Statement.{statement}
+use Rattle.walk.proofs.walk.follow.Tie as tie
+
+-- the walk from here on is the walk from the root's block
+abbrev Inv-loop : tie.InvT-loop
+Inv-loop elements address hop link stride levels root width floor base₀ s₀ left₀ best₀ reads₀ base s left best reads =
+    (reads ≤ levels) × (left ≤ WIDTH) × (base < 2 ^ 32)
+    × (walk elements address (rowAt (lists hop link stride)) (levels - reads) base s left best reads
+    ≡ walk elements address (rowAt (lists hop link stride)) levels 0 root width floor 0)
+
+abbrev μ-loop : tie.MeasureT-loop
+μ-loop elements address hop link stride levels root width floor base₀ s₀ left₀ best₀ reads₀ base s left best reads =
+    levels - reads
+
+loop-holds : tie.Need-loop-holds Inv-loop μ-loop
+loop-holds c =
+    let a = c .before .before .before .args in
+    let at = rowAt (lists (a .hop .now) (a .link .now) (a .stride .now)) in (
+      omega arith,
+      omega arith,
+      omega arith,
+      ap (λ (k : ℕ). walk (a .elements) (a .address) at k 0 (a .root) (a .width) (a .floor) 0) (sub-zero (a .levels)),
+    )
+
+returns : tie.Need-returns Inv-loop μ-loop
+returns c = sym (walk-stops _ _ _ _ _ _ _ _ _ (no-stride (c .if1 .taken))) ∙ c .before .before .loop .inv .3
+
+returns-2 : tie.Need-returns-2 Inv-loop μ-loop
+returns-2 c = sym (walk-stops _ _ _ _ _ _ _ _ _ (too-wide (c .if2 .taken))) ∙ c .before .before .before .loop .inv .3
+
+cut-requires : tie.Need-cut-requires Inv-loop μ-loop
+cut-requires c κs = omega arith
+
+add-row : tie.Need-add-row Inv-loop μ-loop
+add-row c =
+    let l = c .before .before .before .before .loop in
+    omega (arith, cut-le (c .before .before .before .before .before .before .before .before .args .address) (2 ^ (l .left - l .s)) (2 ^ l .s))
+
+-- the row that the code computes is the rule's
+row-is : (c : tie.After-cut Inv-loop μ-loop) →
+    let l = c .before .before .before .before .loop in
+    l .base + c .cut .result ≡ rowOf (c .before .before .before .before .before .before .before .before .args .address) (l .base) (l .s) (l .left)
+unfolding rowOf
+row-is c = ap (λ (x : ℕ). c .before .before .before .before .loop .base + x) (c .cut .ensures)
+
+returns-3 : tie.Need-returns-3 Inv-loop μ-loop
+returns-3 c =
+    sym (walk-stops _ _ _ _ _ _ _ _ _ (past-end (rw (row-is (c .before)) at (c .if3 .taken)))) ∙ c .before .before .before .before .before .loop .inv .3
+
+can-read : (c : tie.Else3 Inv-loop μ-loop) →
+    let l = c .before .before .before .before .before .loop in
+    let a = c .before .before .before .before .before .before .before .before .before .args in
+    Readable (a .elements) (a .address) (l .base) (l .s) (l .left)
+can-read c = record { stride = omega arith; fits = c .before .before .if2 .left; below = rw (row-is (c .before)) at (c .if3 .left) }
+
+mul-newer : tie.Need-mul-newer Inv-loop μ-loop
+mul-newer c = search needs
+
+shared-slice-read-newer : tie.Need-shared-slice-read-newer Inv-loop μ-loop
+shared-slice-read-newer c = omega arith
+
+newer-requires : tie.Need-newer-requires Inv-loop μ-loop
+newer-requires c κs = search needs
+
+add-reads : tie.Need-add-reads Inv-loop μ-loop
+add-reads c = omega arith
+
+mul-next : tie.Need-mul-next Inv-loop μ-loop
+mul-next c = search needs
+
+shared-slice-read-next : tie.Need-shared-slice-read-next Inv-loop μ-loop
+shared-slice-read-next c = omega arith
+
+finish-requires : tie.Need-finish-requires Inv-loop μ-loop
+finish-requires c κs = search needs
+
+returns-4 : tie.Need-returns-4 Inv-loop μ-loop
+returns-4 c =
+    let l = c .before .before .before .before .before .before .before .before .before .before .loop in
+    let a = c .before .before .before .before .before .before .before .before .before .before .before .before .before .before .args in
+    c .finish .ensures
+    ∙ sym (walk-ends _ _ (rowAt (lists (a .hop .now) (a .link .now) (a .stride .now))) _ _ _ _ _ _ {j = a .levels - (l .reads + 1)} (omega arith)
+    (can-read (c .before .before .before .before .before)) (row-is (c .before .before .before .before .before .before)) (c .before .before .before .newer .ensures) (c .before .if4 .taken))
+    ∙ l .inv .3
+
+cast-base : tie.Need-cast-base Inv-loop μ-loop
+cast-base c =
+    let l = c .before .before .before .before .before .before .before .before .before .loop in
+    omega (arith, c .before .shared-slice-known5 .given (l .base + c .before .before .before .before .before .cut .result))
+
+shared-slice-read-s : tie.Need-shared-slice-read-s Inv-loop μ-loop
+shared-slice-read-s c = omega arith
+
+cast-s : tie.Need-cast-s Inv-loop μ-loop
+cast-s c =
+    let l = c .before .before .before .before .before .before .before .before .before .before .loop in
+    omega (arith, c .shared-slice-known6 .given (l .base + c .before .before .before .before .before .before .cut .result))
+
+loop-less : tie.Need-loop-less Inv-loop μ-loop
+loop-less c = omega arith
+
+loop-again : tie.Need-loop-again Inv-loop μ-loop
+loop-again c =
+    let l = c .before .before .before .before .before .before .before .before .before .before .loop in
+    let a = c .before .before .before .before .before .before .before .before .before .before .before .before .before .before .args in (
+      omega arith,
+      omega arith,
+      omega (arith, c .before .before .shared-slice-known5 .given (l .base + c .before .before .before .before .before .before .cut .result)),
+      sym (walk-goes _ _ (rowAt (lists (a .hop .now) (a .link .now) (a .stride .now))) _ _ _ _ _ _ (omega arith)
+          (can-read (c .before .before .before .before .before)) (row-is (c .before .before .before .before .before .before)) (c .before .before .before .newer .ensures) (c .before .if4 .left)) ∙ l .inv .3,
+    )
+
+returns-5 : tie.Need-returns-5 Inv-loop μ-loop
+returns-5 c = sym (walk-spends _ _ _ _ _ _ _ _ _ (omega arith)) ∙ c .before .loop .inv .3
+
+pub follow-spec : {M : Type 1} → statement M
+follow-spec =
+    tie.close
+    (tie.spec
+    Inv-loop
+    μ-loop
+    loop-holds
+    returns
+    returns-2
+    cut-requires
+    add-row
+    returns-3
+    mul-newer
+    shared-slice-read-newer
+    newer-requires
+    add-reads
+    mul-next
+    shared-slice-read-next
+    finish-requires
+    returns-4
+    cast-base
+    shared-slice-read-s
+    cast-s
+    loop-less
+    loop-again
+    returns-5)

@@ -1,0 +1,69 @@
+use mathlib.Core.Path.{_≡_, sym, _∙_}
+use borrow.Author.Needs.{needs}
+use Rattle.walk.specs.Limits.{WIDTH}
+use Rattle.walk.specs.Rows.{lists, shortest}
+use Rattle.walk.specs.Lookup.{refusalOf}
+use Rattle.walk.proofs.Tests.{passed}
+use Rattle.walk.proofs.Walks.{lookup-refused, lookup-empty, lookup-walks}
+use Rattle.walk.proofs.Looked.{promised}
+use Rattle.walk.proofs.walk.lookup.Statement.{statement}
+use Rattle.walk.proofs.walk.lookup.Tie as tie
+
+-- the number that the tests gave is that of the shortest list
+number : (c : tie.After-tested) → let a = c .before .before .before .before .before .before .args in
+    c .tested .result ≡ refusalOf WIDTH (a .t1) (shortest (lists (a .hop .now) (a .link .now) (a .stride .now))) (a .address)
+number c = rw (c .before .least2 .ensures, c .before .before .least .ensures) at (c .tested .ensures)
+
+-- no test failed
+zero-number : (c : tie.Else1) → let a = c .before .before .before .before .before .before .before .args in
+    refusalOf WIDTH (a .t1) (shortest (lists (a .hop .now) (a .link .now) (a .stride .now))) (a .address) ≡ 0
+zero-number c = sym (number (c .before)) ∙ c .if1 .left
+
+least-requires : tie.Need-least-requires
+least-requires c κs = search needs
+
+least-requires-2 : tie.Need-least-requires-2
+least-requires-2 c κs = search needs
+
+tested-requires : tie.Need-tested-requires
+tested-requires c κs = search needs
+
+returns : tie.Need-returns
+returns c = promised _ _ _ _ (sym (lookup-refused _ _ _ _ (number (c .before)) (c .if1 .taken)))
+
+element-copy-out-root : tie.Need-element-copy-out-root
+element-copy-out-root c = search needs
+
+cast-root : tie.Need-cast-root
+cast-root c = search needs
+
+finish-requires : tie.Need-finish-requires
+finish-requires c κs = search needs
+
+returns-2 : tie.Need-returns-2
+returns-2 c = promised _ _ _ _ (c .finish .ensures ∙ sym (lookup-empty _ _ _ _ (zero-number (c .before .before .before)) (c .before .if2 .taken)))
+
+cast-follow : tie.Need-cast-follow
+cast-follow c = search needs
+
+follow-requires : tie.Need-follow-requires
+follow-requires c κs = let p = passed _ _ _ _ (zero-number (c .before .before)) in (p .enough, p .width .1)
+
+returns-3 : tie.Need-returns-3
+returns-3 c = promised _ _ _ _ (c .follow .ensures ∙ sym (lookup-walks _ _ _ _ (zero-number (c .before .before .before)) (c .before .if2 .left)))
+
+pub lookup-spec : {M : Type 1} → statement M
+lookup-spec =
+    tie.close
+    (tie.spec
+    least-requires
+    least-requires-2
+    tested-requires
+    returns
+    element-copy-out-root
+    cast-root
+    finish-requires
+    returns-2
+    cast-follow
+    follow-requires
+    returns-3)

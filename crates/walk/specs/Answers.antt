@@ -1,0 +1,42 @@
+-- A lookup's answer: document 01's number and values for each case ("a match with hop and reads, no route with reads, or
+-- a refusal by number"; "a refused lookup returns no hop and 0 reads"), and how hops are taken.
+use Prim.Native.Nat.{ℕ}
+use mathlib.Core.Path.{_≡_}
+use mathlib.Core.Bool.{cond}
+use mathlib.Core.List.{List, [], _∷_}
+use lib.Dec.{eqb}
+use Rattle.walk.specs.declared.walk.Answer.{Answer}
+use Rattle.walk.specs.declared.walk.Answer.the-variants.{Match, NoRoute, Refused}
+use Rattle.walk.specs.Rows.{Row}
+
+-- the refusal's number, 0 for an accepted lookup
+abbrev pub numberOf : Answer → ℕ
+numberOf (Match hop reads) = 0
+numberOf (NoRoute reads) = 0
+numberOf (Refused number) = number
+
+abbrev pub hopOf : Answer → ℕ
+hopOf (Match hop reads) = hop
+hopOf (NoRoute reads) = 0
+hopOf (Refused number) = 0
+
+abbrev pub readsOf : Answer → ℕ
+readsOf (Match hop reads) = reads
+readsOf (NoRoute reads) = reads
+readsOf (Refused number) = 0
+
+abbrev pub Accepted : Answer → Type 0
+Accepted a = numberOf a ≡ 0
+
+-- a nonzero hop is the new best
+unfoldable pub better : (hop best : ℕ) → ℕ
+better hop best = cond (eqb hop 0) best hop
+
+-- the best after some rows, read in order
+unfoldable pub latest : (at : ℕ → Row) (best : ℕ) → List ℕ → ℕ
+latest at best [] = best
+latest at best (r ∷ rs) = latest at (better (at r .hop) best) rs
+
+-- hop 0 is no route
+unfoldable pub answer : (best reads : ℕ) → Answer
+answer best reads = cond (eqb best 0) (NoRoute reads) (Match best reads)

@@ -1,0 +1,26 @@
+-- The run of document 01 (width 3, two levels, 1 to hop 1 and 101 to hop 2), by computation from its record and its rows.
+use mathlib.Core.Path.{_≡_, refl}
+use mathlib.Core.List.{[], _∷_}
+use Rattle.walk.specs.declared.walk.Answer.the-variants.{Match, NoRoute, Refused}
+use Rattle.walk.specs.declared.record.Record.{Record}
+use Rattle.walk.specs.Limits.{WIDTH}
+use Rattle.table.specs.Limits.{outside}
+use Rattle.walk.specs.Rows.{Lists, rowOf}
+use Rattle.walk.specs.Answers.{better, latest, answer}
+use Rattle.walk.specs.Lookup.{readable, trail, tell, pathOf, pathRows, unfit, refusalOf, lookupOf}
+
+abbrev rec : Record
+rec = record { width = 3; levels = 2; elements = 6; floor = 0; strides = 1 ∷ 0 ∷ 0 ∷ 0 ∷ 0 ∷ 0 ∷ 0 ∷ 0 ∷ [] }
+
+abbrev rows : Lists
+rows = record {
+  hop = 0 ∷ 1 ∷ 0 ∷ 2 ∷ 0 ∷ 0 ∷ [];
+  link = 0 ∷ 2 ∷ 0 ∷ 0 ∷ 0 ∷ 0 ∷ [];
+  stride = 0 ∷ 2 ∷ 0 ∷ 0 ∷ 0 ∷ 0 ∷ [];
+}
+
+-- addresses 101, 111 and 011, with the path of the first, and 1000, which is not below 2 ^ 3
+run : (lookupOf WIDTH rec rows 5 ≡ Match 2 2) × (pathRows rec rows 5 ≡ 1 ∷ 3 ∷ []) × (lookupOf WIDTH rec rows 7 ≡ Match 1 2)
+    × (lookupOf WIDTH rec rows 3 ≡ NoRoute 1) × (lookupOf WIDTH rec rows 8 ≡ Refused 8)
+unfolding outside better answer rowOf readable trail latest tell pathOf unfit refusalOf lookupOf
+run = (refl, refl, refl, refl, refl)

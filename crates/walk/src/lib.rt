@@ -1,0 +1,13 @@
+// The lookup: the record that a build hands back, element rows in lent lists, and the walk over them. It reads what any
+// builder wrote and any damage besides, so it stands apart from the builders and sees the table's rules only.
+mod address;
+mod limits;
+mod record;
+mod walk;
+
+pub use address::is_beyond;
+pub use limits::LEVELS;
+pub use record::Record;
+pub use walk::Answer;
+pub use walk::finish;
+pub use walk::lookup;

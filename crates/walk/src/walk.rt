@@ -1,0 +1,154 @@
+// The lookup of document 01, "The element rows": the floor is the first best; at each block one row is
+// read and counted, a nonzero hop is the new best, a nonzero link is followed. The tests that read no
+// row stand in a function of their own, so that nothing but they comes before the loop over the rows.
+ghost use mathlib.Core.Path.{_≡_};
+ghost use Prim.Native.Nat.{min, _≤_};
+ghost use Rattle.walk.specs.Limits.{WIDTH};
+ghost use Rattle.walk.specs.Rows.{lists, shortest, rowAt};
+ghost use Rattle.walk.specs.Answers.{better, answer};
+ghost use Rattle.walk.specs.Lookup.{walk, unfit, refusalOf, lookupOf};
+ghost use Rattle.walk.specs.Meaning.{Looked};
+use crate::address::cut;
+use crate::address::is_beyond;
+use crate::limits::LEVELS;
+use crate::record::Record;
+use table::WIDTH;
+use table::is_outside;
+
+pub enum Answer {
+    Match { hop: u16, reads: u32 },
+    NoRoute { reads: u32 },
+    Refused { number: u32 },
+}
+
+// A nonzero hop is the new best.
+fn newer(hop: u16, best: u16) -> u16
+    ensures { λ r. ⌜ r ≡ better hop best ⌝ }
+{
+    if hop == 0 { best } else { hop }
+}
+
+// What a lookup answers where it ends with the hop `best` after so many reads: hop 0 is no route.
+pub fn finish(best: u16, reads: u32) -> Answer
+    ensures { λ r. ⌜ r ≡ answer best reads ⌝ }
+{
+    if best == 0 {
+        Answer::NoRoute { reads: reads }
+    } else {
+        Answer::Match {
+            hop: best,
+            reads: reads,
+        }
+    }
+}
+
+fn least(a: usize, b: usize) -> usize
+    ensures { λ r. ⌜ r ≡ min a b ⌝ }
+{
+    if a < b { a } else { b }
+}
+
+// The rows from the root's block on: at most `levels` blocks, over rows below `elements`. Row numbers
+// are summed in usize, so that a link and an index do not wrap.
+fn follow(
+    elements: usize,
+    address: u32,
+    hop: &[u16],
+    link: &[u32],
+    stride: &[u8],
+    levels: u32,
+    root: u32,
+    width: u32,
+    floor: u16,
+) -> Answer
+    requires { ⌜ (elements ≤ shortest (lists (now hop) (now link) (now stride))) × (width ≤ WIDTH) ⌝ }
+    ensures { λ r. ⌜ r ≡ walk elements address (rowAt (lists (now (hop .entry)) (now (link .entry)) (now (stride .entry)))) levels 0 root width floor 0 ⌝ }
+{
+    let mut base: usize = 0;
+    let mut s: u32 = root;
+    let mut left: u32 = width;
+    let mut best: u16 = floor;
+    let mut reads: u32 = 0;
+    while reads < levels {
+        if s == 0 {
+            return Answer::Refused { number: 9 };
+        }
+        if left < s {
+            return Answer::Refused { number: 9 };
+        }
+        left -= s;
+        let row = base + cut(address, left, s);
+        if elements <= row {
+            return Answer::Refused { number: 9 };
+        }
+        best = newer(hop[row], best);
+        reads += 1;
+        let next = link[row];
+        if next == 0 {
+            return finish(best, reads);
+        }
+        base = next as usize;
+        s = stride[row] as u32;
+    }
+    Answer::Refused { number: 9 }
+}
+
+// Refusal 9 before a row is read: E exceeds the rows of the lists, or the root's stride is 0 while E is not.
+fn is_unfit(elements: usize, rows: usize, root: u8) -> bool
+    ensures { λ r. ⌜ r ≡ unfit elements rows root ⌝ }
+{
+    if rows < elements {
+        return true;
+    }
+    if elements == 0 {
+        return false;
+    }
+    root == 0
+}
+
+// The number of the first test that fails before a row is read, in the order 1, 2, 8, 9; 0 for none.
+fn tested(rec: Record, rows: usize, address: u32) -> u32
+    ensures { λ r. ⌜ r ≡ refusalOf WIDTH rec rows address ⌝ }
+{
+    if is_outside(rec.width, WIDTH) {
+        return 1;
+    }
+    if is_outside(rec.levels, LEVELS) {
+        return 2;
+    }
+    if is_beyond(address, rec.width) {
+        return 8;
+    }
+    if is_unfit(rec.elements as usize, rows, rec.strides[0]) {
+        return 9;
+    }
+    0
+}
+
+// One lookup, over any record and any lists. It answers a match with its hop and reads, no route with
+// its reads, or a refusal: 1 (width), 2 (levels), 8 (address) or 9 (damaged record or rows). No list changes.
+pub fn lookup(rec: Record, hop: &[u16], link: &[u32], stride: &[u8], address: u32) -> Answer
+    ensures exact { λ r. ⌜ r ≡ lookupOf WIDTH rec (lists (now (hop .entry)) (now (link .entry)) (now (stride .entry))) address ⌝ }
+    ensures meaning { λ r. ⌜ Looked WIDTH rec (lists (now (hop .entry)) (now (link .entry)) (now (stride .entry))) address r ⌝ }
+{
+    let rows = least(hop.len(), least(link.len(), stride.len()));
+    let refusal = tested(rec, rows, address);
+    if refusal != 0 {
+        return Answer::Refused { number: refusal };
+    }
+    let root = rec.strides[0] as u32;
+    if root == 0 {
+        return finish(rec.floor, 0);
+    }
+    follow(
+        rec.elements as usize,
+        address,
+        hop,
+        link,
+        stride,
+        rec.levels,
+        root,
+        rec.width,
+        rec.floor,
+    )
+}
