@@ -31,7 +31,7 @@ use Rattle.strides.proofs.Cheapest.{chosen-good, least-cheapest, strides-named,
 use Rattle.strides.proofs.Capped.{chosen-capped, strides-capped, follows-capped, cap-never-bites}
 use Rattle.walk.specs.declared.record.Record.{Record}
 use Rattle.walk.specs.Limits.{WIDTH, LEVELS}
-use Rattle.tries.specs.Limits.{ELEMENTS, COST_CAP}
+use Rattle.tries.specs.Limits.{ELEMENTS, COST-CAP}
 use Rattle.walk.specs.Rows.{Lists, lists, shortest, root, rowAt}
 use Rattle.layout.specs.Blocks.{Strides, strideOf, rowCount}
 use Rattle.layout.specs.Built.{tableTrie, tableFloor, Laid}
@@ -131,7 +131,7 @@ module _ (kind : Kind) {W k : ℕ} {vs ls hs scratch : List ℕ} (g : PlanIn W k
   pub count-least : rowCount (chosenBy held kind k (tableTrie W vs ls hs)) k (tableTrie W vs ls hs) ≡ leastBy plain kind k (tableTrie W vs ls hs)
   count-least =
       count-cost (chosenBy held kind k (tableTrie W vs ls hs)) (tableTrie W vs ls hs) k
-      ∙ chosen-capped COST_CAP kind k (tableTrie W vs ls hs) (g .levels .0) (below-cap W k vs ls hs scratch g kind)
+      ∙ chosen-capped COST-CAP kind k (tableTrie W vs ls hs) (g .levels .0) (below-cap W k vs ls hs scratch g kind)
 
   pub may-lay : {cost root : ℕ} {strides plan rows : List ℕ} (lent : Lists) → Planned kind W k vs ls hs cost strides plan root rows
       → (ltb (shortest lent) cost || ltb ELEMENTS cost) ≡ false → LayAsks (chosenBy held kind k (tableTrie W vs ls hs)) (tableTrie W vs ls hs) rows (take k plan) root W k lent
@@ -156,7 +156,7 @@ module _ (kind : Kind) {W k : ℕ} {vs ls hs scratch : List ℕ} (g : PlanIn W k
   pub root-named : (strides : List ℕ) → strides ≡ padded LEVELS (stridesBy plain kind k (tableTrie W vs ls hs))
       → getD strides 0 0 ≡ strideOf (chosenBy held kind k (tableTrie W vs ls hs)) k (tableTrie W vs ls hs)
   root-named strides e =
-      ap (λ (ss : List ℕ). getD ss 0 0) (e ∙ ap (padded LEVELS) (sym (strides-capped COST_CAP kind k (tableTrie W vs ls hs) (g .levels .0) (below-cap W k vs ls hs scratch g kind))))
+      ap (λ (ss : List ℕ). getD ss 0 0) (e ∙ ap (padded LEVELS) (sym (strides-capped COST-CAP kind k (tableTrie W vs ls hs) (g .levels .0) (below-cap W k vs ls hs scratch g kind))))
       ∙ first-stride kind k (tableTrie W vs ls hs) (g .levels .0)
 
   -- ---- the answers
@@ -260,7 +260,7 @@ module _ (kind : Kind) (W k : ℕ) (vs ls hs : List ℕ) where
       let d = trie-depth-width W (at vs) (at ls) (at hs) (length vs) (λ i l. t .entry i l .prefix) in
       let short : depth (tableTrie W vs ls hs) ≤ WIDTH = omega (arith, d, t .width) in
       let p : 2 ^ depth (tableTrie W vs ls hs) ≤ 2 ^ WIDTH = pow-mono short in
-      follows-capped COST_CAP kind k (tableTrie W vs ls hs) some (cap-never-bites COST_CAP kind k (tableTrie W vs ls hs) (omega arith))
+      follows-capped COST-CAP kind k (tableTrie W vs ls hs) some (cap-never-bites COST-CAP kind k (tableTrie W vs ls hs) (omega arith))
 
 module _ {kind : Kind} {W k : ℕ} {vs ls hs scratch : List ℕ} {rows : Lists} {out : Outcome} {rec : Record} {scratch′ : List ℕ} {rows′ : Lists}
     (b : BuildIs kind W k vs ls hs scratch rows out rec scratch′ rows′) where

@@ -34,8 +34,8 @@ use Rattle.strides.proofs.Strides.{pick-variable}
 use Rattle.strides.proofs.Cheapest.{least-cheapest, strides-named, cheapest-unique, named-unique}
 use Rattle.strides.proofs.Capped.{least-capped, strides-capped, cap-never-bites}
 use Rattle.walk.specs.Limits.{WIDTH, LEVELS, Within}
-use Rattle.tries.specs.Limits.{ENTRIES, COST_CAP}
-use Rattle.tries.specs.Scratch.{ROW, ask, strideAt, Here, Stands}
+use Rattle.tries.specs.Limits.{ENTRIES, COST-CAP}
+use Rattle.tries.specs.Scratch.{ROW, ask, strideAt, Here, Stands, BEFORE-COSTS, BEFORE-STRIDES, COST, MARKS, STRIDE}
 use Rattle.layout.specs.Built.{tableTrie}
 use Rattle.tries.specs.Trees.{Tree, nil, fork, shape, linkOf, Stand, Has, lt, rt, lmark, rmark, rowAt, next, side, setSide, setMark, insertR, addEntry, treeOf}
 use Rattle.tries.specs.Making.{Prefixes, InRows, MakeIn, MakeOut}
@@ -126,7 +126,7 @@ accepted-tests-table W k vs ls hs words e =
     let r = accepted-parts (listTests W vs ls hs) (scratchTest W vs ls hs words ∷ []) (q .1) in
     accepted-table W vs ls hs (outcome-passes (widthTest W) (listTests W vs ls hs) (p .0) ∙ r .0)
 
-pub accepted-plan : (W k : ℕ) (vs ls hs scratch : List ℕ) → ((i : ℕ) → at hs i < 65536) → outcome (chooseTests W k vs ls hs (length scratch)) ≡ Accepted
+pub accepted-plan : (W k : ℕ) (vs ls hs scratch : List ℕ) → ((i : ℕ) → at hs i < MARKS) → outcome (chooseTests W k vs ls hs (length scratch)) ≡ Accepted
     → PlanIn W k vs ls hs scratch
 unfolding chooseTests checkOf tableTests
 accepted-plan W k vs ls hs scratch small e =
@@ -146,9 +146,9 @@ accepted-plan W k vs ls hs scratch small e =
 -- marks are hops: they fit 16 bits
 abbrev SmallMarks : Tree → Type 0
 SmallMarks nil = Unit {0}
-SmallMarks (fork x p l q r) = (p < 65536) × (q < 65536) × SmallMarks l × SmallMarks r
+SmallMarks (fork x p l q r) = (p < MARKS) × (q < MARKS) × SmallMarks l × SmallMarks r
 
-small-parts : (t : Tree) → SmallMarks t → (lmark t < 65536) × (rmark t < 65536) × SmallMarks (lt t) × SmallMarks (rt t)
+small-parts : (t : Tree) → SmallMarks t → (lmark t < MARKS) × (rmark t < MARKS) × SmallMarks (lt t) × SmallMarks (rt t)
 small-parts nil m = (omega arith, omega arith, tt, tt)
 small-parts (fork x p l q r) m = m
 
@@ -156,7 +156,7 @@ small-side : (s : ℕ) (t : Tree) → SmallMarks t → SmallMarks (side s t)
 small-side zero t m = small-parts t m .2
 small-side (suc s) t m = small-parts t m .3
 
-small-insert : (n u : ℕ) (t : Tree) (v h : ℕ) → h < 65536 → SmallMarks t → SmallMarks (insertR n u t v h)
+small-insert : (n u : ℕ) (t : Tree) (v h : ℕ) → h < MARKS → SmallMarks t → SmallMarks (insertR n u t v h)
 unfolding insertR
 small-insert zero u t v h b m = go (bit 0 v)
   where
@@ -169,7 +169,7 @@ small-insert (suc n) u t v h b m = go (bit (suc n) v) (λ s. small-insert n (nex
     go zero k = let q = small-parts t m in (q .0, q .1, k zero, q .3)
     go (suc s) k = let q = small-parts t m in (q .0, q .1, q .2, k (suc s))
 
-small-tree : (W : ℕ) (val len mark : ℕ → ℕ) (n : ℕ) → ((i : ℕ) → mark i < 65536) → SmallMarks (treeOf W val len mark n)
+small-tree : (W : ℕ) (val len mark : ℕ → ℕ) (n : ℕ) → ((i : ℕ) → mark i < MARKS) → SmallMarks (treeOf W val len mark n)
 unfolding treeOf addEntry
 small-tree W val len mark zero h = tt
 small-tree W val len mark (suc n) h = go (len n) (small-tree W val len mark n h)
@@ -216,7 +216,7 @@ strides-own k rows plan (fork x p l q r) z len a = (
     own : (i : ℕ) → 1 ≤ i → i ≤ length plan → strideAt rows plan (x + 1) i ≡ variableStride held i (node p (shape l) q (shape r))
     own zero h g = absurd (omega arith)
     own (suc j) h g =
-        let e : 15 + suc j ≡ 16 + j = omega arith in
+        let e : BEFORE-STRIDES + suc j ≡ STRIDE + j = omega arith in
         rw (ne-eqb (x + 1) 0 (λ w. omega arith), eq-eqb (getD plan 0 0) 0 z, e) (a .0 .stride j (omega arith))
 
 -- any other plan names the strides of the levels
@@ -232,13 +232,13 @@ strides-fixed σ rows plan (fork x p l q r) z f = (
 
 -- ---- what the root's row says
 
-costed-cost : (k : ℕ) (rows : List ℕ) (root : ℕ) (t : Trie) → Costed k rows root t → (r : ℕ) → r < k → ask rows root (8 + r) ≡ optBy held r t
+costed-cost : (k : ℕ) (rows : List ℕ) (root : ℕ) (t : Trie) → Costed k rows root t → (r : ℕ) → r < k → ask rows root (COST + r) ≡ optBy held r t
 unfolding ask optBy
 costed-cost k rows root none c zero h = rw c
 costed-cost k rows root none c (suc r) h = rw c
 costed-cost k rows root (node p a q b) c r h = c .2 .cost r h
 
-costed-stride : (k : ℕ) (rows : List ℕ) (root : ℕ) (t : Trie) → Costed k rows root t → (r : ℕ) → r < k → ask rows root (16 + r) ≡ pickBy held r t
+costed-stride : (k : ℕ) (rows : List ℕ) (root : ℕ) (t : Trie) → Costed k rows root t → (r : ℕ) → r < k → ask rows root (STRIDE + r) ≡ pickBy held r t
 unfolding ask pickBy
 costed-stride k rows root none c zero h = rw c
 costed-stride k rows root none c (suc r) h = rw c
@@ -312,8 +312,8 @@ module _ (W k : ℕ) (vs ls hs scratch : List ℕ) (g : PlanIn W k vs ls hs scra
   two-to-depth : 2 ^ depth trie ≤ 2 ^ 32
   two-to-depth = pow-mono plan-depth
 
-  pub below-cap : (kind : Kind) → leastBy plain kind k trie < COST_CAP
-  below-cap kind = cap-never-bites COST_CAP kind k trie (omega (arith, two-to-depth))
+  pub below-cap : (kind : Kind) → leastBy plain kind k trie < COST-CAP
+  below-cap kind = cap-never-bites COST-CAP kind k trie (omega (arith, two-to-depth))
 
   pub make-in : MakeIn W vs ls hs (replicate (length scratch) 0)
   make-in = record {
@@ -357,13 +357,13 @@ module _ (W k : ℕ) (vs ls hs scratch : List ℕ) (g : PlanIn W k vs ls hs scra
     plan-fixed cost strides f =
         let o = f (at hs) in
         let b = below-cap fixed in
-        let h = strides-capped COST_CAP fixed k trie (g .levels .0) b in
+        let h = strides-capped COST-CAP fixed k trie (g .levels .0) b in
         let plan = take k strides in
         let long : length plan ≡ k = length-take k strides ∙ omega (arith, ap length (o .1), padded-length LEVELS (stridesBy held fixed k trie), g .levels .1) in
         let read : (x : ℕ) → x < k → getD plan x 0 ≡ getD (fixedStrides held k trie) x 0
         = λ x l. getD-take k strides x 0 l ∙ ap (λ (y : List ℕ). getD y x 0) (o .1) ∙ padded-read LEVELS (fixedStrides held k trie) x (omega (arith, g .levels .1)) in
         record {
-          least = o .0 ∙ least-capped COST_CAP fixed k trie ∙ omega arith;
+          least = o .0 ∙ least-capped COST-CAP fixed k trie ∙ omega arith;
           named = o .1 ∙ ap (padded LEVELS) h;
           places = ap length (o .1) ∙ padded-length LEVELS (stridesBy held fixed k trie);
           stands = for-trie (chosenBy held fixed k trie) rows plan
@@ -372,7 +372,7 @@ module _ (W k : ℕ) (vs ls hs scratch : List ℕ) (g : PlanIn W k vs ls hs scra
               (λ i u p q. ap (λ (y : ℕ). getD plan (y - i) 0) long ∙ read (k - i) (omega (arith, long)))));
         }
 
-    pub plan-variable : (rows' : List ℕ) (cost stride : ℕ) → length rows' ≡ length rows → TreeDone k rows root 0 rows' → cost ≡ ask rows' root (7 + k) → stride ≡ ask rows' root (15 + k)
+    pub plan-variable : (rows' : List ℕ) (cost stride : ℕ) → length rows' ≡ length rows → TreeDone k rows root 0 rows' → cost ≡ ask rows' root (BEFORE-COSTS + k) → stride ≡ ask rows' root (BEFORE-STRIDES + k)
         → Planned variable W k vs ls hs cost (set (replicate LEVELS 0) 0 (stride % 256)) (replicate LEVELS 0) root rows'
     unfolding chosenBy
     plan-variable rows' cost stride len' d e f =
@@ -381,16 +381,16 @@ module _ (W k : ℕ) (vs ls hs scratch : List ℕ) (g : PlanIn W k vs ls hs scra
         let c : Costed k rows' root trie
         = subst (Costed k rows' root) tree-trie (subst (λ (x : ℕ). Costed k rows' x (shape tree)) (sym (m .link)) (tree-costed k rows' tree (o .stand) (o .priced) fits)) in
         let k1 : k - 1 < k = omega (arith, g .levels .0) in
-        let e7 : 7 + k ≡ 8 + (k - 1) = omega (arith, g .levels .0) in
-        let e15 : 15 + k ≡ 16 + (k - 1) = omega (arith, g .levels .0) in
+        let costs-from : BEFORE-COSTS + k ≡ COST + (k - 1) = omega (arith, g .levels .0) in
+        let strides-from : BEFORE-STRIDES + k ≡ STRIDE + (k - 1) = omega (arith, g .levels .0) in
         let b = below-cap variable in
         let plan = take {A = ℕ} k (replicate LEVELS 0) in
         let long : length plan ≡ k = length-take {A = ℕ} k (replicate LEVELS 0) ∙ omega (arith, g .levels .1) in
-        let own : stride ≡ pickBy held (k - 1) trie = f ∙ ap (ask rows' root) e15 ∙ costed-stride k rows' root trie c (k - 1) k1 in
+        let own : stride ≡ pickBy held (k - 1) trie = f ∙ ap (ask rows' root) strides-from ∙ costed-stride k rows' root trie c (k - 1) k1 in
         record {
-          least = e ∙ ap (ask rows' root) e7 ∙ costed-cost k rows' root trie c (k - 1) k1 ∙ least-variable k trie (g .levels .0)
-              ∙ least-capped COST_CAP variable k trie ∙ omega arith;
-          named = root-stride k trie stride (g .levels .0) own plan-depth ∙ ap (padded LEVELS) (strides-capped COST_CAP variable k trie (g .levels .0) b);
+          least = e ∙ ap (ask rows' root) costs-from ∙ costed-cost k rows' root trie c (k - 1) k1 ∙ least-variable k trie (g .levels .0)
+              ∙ least-capped COST-CAP variable k trie ∙ omega arith;
+          named = root-stride k trie stride (g .levels .0) own plan-depth ∙ ap (padded LEVELS) (strides-capped COST-CAP variable k trie (g .levels .0) b);
           places = refl;
           stands = for-trie (chosenBy held variable k trie) rows' plan
               (tree-stands (variableStride held) rows' plan tree (o .stand) (small-tree W (at vs) (at ls) (at hs) (length vs) (g .marks)) fits

@@ -14,7 +14,7 @@ use Rattle.strides.proofs.Paths.{bit-mod, mark-same, sub-same, sub-none, mark-n
 use Rattle.walk.specs.Limits.{WIDTH, LEVELS}
 use Rattle.tries.specs.Limits.{ELEMENTS}
 use Rattle.walk.specs.Rows.{Lists, lists, shortest, rowAt}
-use Rattle.tries.specs.Scratch.{ROW, ask, strideAt}
+use Rattle.tries.specs.Scratch.{ROW, ask, strideAt, MARKS}
 use Rattle.layout.specs.Blocks.{Strides, wide, leftOf, linkTo, rowBelow}
 use Rattle.tries.specs.Filling.{Room, Bare, FillAsks, FillGives}
 use Rattle.layout.proofs.Blocks.{wide-sides, left-same}
@@ -169,8 +169,8 @@ from-leaf z o = rw z o
 -- ---- the two halves
 pub record HalfBounds (rows : List ℕ) (k c base : ℕ) : Type 0 where
   pub fits : k * ROW ≤ length rows
-  pub small0 : ask rows k 2 < 65536
-  pub small1 : ask rows k 3 < 65536
+  pub small0 : ask rows k 2 < MARKS
+  pub small1 : ask rows k 3 < MARKS
   pub short : c ≤ WIDTH
   pub own : base ≤ ELEMENTS
 

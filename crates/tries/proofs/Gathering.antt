@@ -13,8 +13,8 @@ use borrow.Author.Tests.{lt-ltb, le-ltb}
 use Rattle.strides.specs.Trie.{Trie, none, node, depth, sumBelow, sumBy}
 use Rattle.strides.specs.Recurrence.{atCap, optBy}
 use Rattle.walk.specs.Limits.{WIDTH, LEVELS}
-use Rattle.tries.specs.Limits.{COST_CAP}
-use Rattle.tries.specs.Scratch.{ROW, ask}
+use Rattle.tries.specs.Limits.{COST-CAP}
+use Rattle.tries.specs.Scratch.{ROW, ask, COST}
 use Rattle.tries.specs.Costs.{held, Priced, Costed, CELLS, slot, sumAt, RowAdded, GatherIn, Gathered}
 
 pub same? : (a b : ℕ) → (a ≡ b) ⊎ (a ≡ b → ⊥)
@@ -26,14 +26,14 @@ pub row-start : (rows : List ℕ) (k d : ℕ) (sums : List ℕ) → RowAdded 0 r
 row-start rows k d sums = record { here = λ r h. absurd (omega arith); later = λ r h g. refl; other = λ j r h g. refl }
 
 pub row-next : (rows : List ℕ) (k d : ℕ) (sums sums1 sums2 : List ℕ) (m v : ℕ) → length sums1 ≡ CELLS → d < WIDTH → m < LEVELS → RowAdded m rows k d sums sums1
-    → v ≡ ask rows k (8 + m) → sums2 ≡ set sums1 (d * LEVELS + m) (held (slot sums1 d m + v)) → RowAdded (m + 1) rows k d sums sums2
+    → v ≡ ask rows k (COST + m) → sums2 ≡ set sums1 (d * LEVELS + m) (held (slot sums1 d m + v)) → RowAdded (m + 1) rows k d sums sums2
 row-next rows k d sums sums1 sums2 m v len hd hm a e f =
     let new : slot sums2 d m ≡ held (slot sums1 d m + v) = ap (λ (l : List ℕ). slot l d m) f ∙ getD-set-same sums1 (d * LEVELS + m) _ 0 (omega arith) in
     let far : (j r : ℕ) → (j * LEVELS + r ≡ d * LEVELS + m → ⊥) → slot sums2 j r ≡ slot sums1 j r
     = λ j r ne. ap (λ (l : List ℕ). slot l j r) f ∙ getD-set-other sums1 (d * LEVELS + m) (j * LEVELS + r) _ 0 ne in
     record {
       here = λ r h. ⊎-elim
-          (λ (z : r ≡ m). subst (λ (x : ℕ). slot sums2 d x ≡ held (slot sums d x + ask rows k (8 + x))) (sym z) (new ∙ omega (arith, a .later m (le-refl m) hm)))
+          (λ (z : r ≡ m). subst (λ (x : ℕ). slot sums2 d x ≡ held (slot sums d x + ask rows k (COST + x))) (sym z) (new ∙ omega (arith, a .later m (le-refl m) hm)))
           (λ (z : r ≡ m → ⊥). far d r (λ q. omega arith) ∙ a .here r (omega arith)) (same? r m);
       later = λ r h g. far d r (λ q. omega arith) ∙ a .later r (omega arith) g;
       other = λ j r h g. far j r (λ q. omega arith) ∙ a .other j r h g;
@@ -119,12 +119,12 @@ module _ (levels : ℕ) (rows : List ℕ) (k d : ℕ) where
         sum-other d j (optBy held r) p a q b z,
       )) (same? j d)
     where
-      low1 : (j r : ℕ) → j < WIDTH → r < levels → slot sums1 j r ≤ COST_CAP
+      low1 : (j r : ℕ) → j < WIDTH → r < levels → slot sums1 j r ≤ COST-CAP
       low1 j r hj hr =
-          ⊎-elim (λ (z : j ≡ d). subst (λ (x : ℕ). slot sums1 x r ≤ COST_CAP) (sym z) (omega (arith, add .here r hr)))
+          ⊎-elim (λ (z : j ≡ d). subst (λ (x : ℕ). slot sums1 x r ≤ COST-CAP) (sym z) (omega (arith, add .here r hr)))
           (λ (z : j ≡ d → ⊥). omega (arith, add .other j r z (omega arith), small j r hj hr)) (same? j d)
 
-      low2 : (j r : ℕ) → j < WIDTH → r < levels → slot sums2 j r ≤ COST_CAP
+      low2 : (j r : ℕ) → j < WIDTH → r < levels → slot sums2 j r ≤ COST-CAP
       low2 j r hj hr = omega (arith, left a (e .3) low1 j r hj hr)
 
   pub none-out : (sums : List ℕ) → k ≡ 0 → Gathered levels rows k d sums sums

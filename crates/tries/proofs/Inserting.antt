@@ -9,7 +9,7 @@ use native.Mathlib.Numerals.{sub-one}
 use lib.ListN.{length, getD, set}
 use lib.Seq.{getD-set-same, getD-set-other}
 use Rattle.strides.specs.Trie.{bit}
-use Rattle.tries.specs.Scratch.{ROW}
+use Rattle.tries.specs.Scratch.{ROW, DEPTH}
 use Rattle.tries.specs.Trees.{Tree, nil, fork, col, linkOf, Row, Stand, Has, Apart, Under, lt, rt, lmark, rmark, rowAt, next, side, setSide, setMark, insertR, countR}
 use Rattle.tries.specs.Inserting.{Downed, InsertIn, InsertOut, Inserted}
 
@@ -208,7 +208,7 @@ kid-ready rows rows1 x s used y used1 fits l xu blank d g nil e u under =
     let eq : rows1 ≡ set rows (x * ROW + s) (used + 1) = m .1 in
     let off : (i : ℕ) → (i ≡ x * ROW + s → ⊥) → getD rows1 i 0 ≡ getD rows i 0 =
     λ i ne. ap (λ (r : List ℕ). getD r i 0) eq ∙ getD-set-other rows (x * ROW + s) i (used + 1) 0 ne in
-    let zeros : (c : ℕ) → c < 4 → col rows1 used c ≡ 0 =
+    let zeros : (c : ℕ) → c < DEPTH → col rows1 used c ≡ 0 =
     λ c h. off (used * ROW + c) (omega arith) ∙ blank (used * ROW + c) (omega arith) in
     record {
       place = m .0;

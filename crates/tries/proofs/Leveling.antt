@@ -24,7 +24,7 @@ use Rattle.walk.specs.Limits.{WIDTH, LEVELS}
 use Rattle.tries.specs.Limits.{ENTRIES}
 use Rattle.tries.specs.Costs.{held, slot, price, bestCost, bestStride}
 use Rattle.tries.specs.Making.{Prefixes}
-use Rattle.tries.specs.Levels.{within, levelCount, LEVEL_CELLS, Filled, RowFilled, padded, StridesFilled, Reading, FixedOut}
+use Rattle.tries.specs.Levels.{within, levelCount, LEVEL-CELLS, Filled, RowFilled, padded, StridesFilled, Reading, FixedOut}
 use Rattle.tries.proofs.Zeroes.{zeros-read}
 use Rattle.tries.proofs.Gathering.{same?}
 use Rattle.tries.proofs.Pricing.{scan-same}
@@ -201,7 +201,7 @@ unfolding pickFixedBy
 pick-none nodes zero j = refl
 pick-none nodes (suc r) j = refl
 
-pub filled-start : (nodes : ℕ → ℕ) (levels depth : ℕ) (costs strides : List ℕ) → length costs ≡ LEVEL_CELLS → length strides ≡ LEVEL_CELLS
+pub filled-start : (nodes : ℕ → ℕ) (levels depth : ℕ) (costs strides : List ℕ) → length costs ≡ LEVEL-CELLS → length strides ≡ LEVEL-CELLS
     → ((x : ℕ) → getD costs x 0 ≡ 0) → ((x : ℕ) → getD strides x 0 ≡ 0) → Filled nodes levels depth depth costs strides
 filled-start nodes levels depth costs strides lc ls zc zs = record {
   long-costs = lc;

@@ -15,8 +15,8 @@ use Rattle.strides.specs.Trie.{Trie, none, node, depth, sumBelow, sumBy}
 use Rattle.strides.specs.Recurrence.{atCap, keeps, scan, withFirst, optBy, pickBy}
 use Rattle.strides.proofs.Capped.{sum-capped, opt-capped}
 use Rattle.walk.specs.Limits.{WIDTH, LEVELS}
-use Rattle.tries.specs.Limits.{ENTRIES, COST_CAP}
-use Rattle.tries.specs.Scratch.{ROW, ask}
+use Rattle.tries.specs.Limits.{ENTRIES, COST-CAP}
+use Rattle.tries.specs.Scratch.{ROW, ask, COST, STRIDE}
 use Rattle.tries.specs.Trees.{col}
 use Rattle.tries.specs.Costs.{held, slot, price, bestCost, bestStride, Stored}
 use Rattle.tries.proofs.Gathering.{same?}
@@ -44,7 +44,7 @@ scan-same g h (suc n) e = rw (scan-same g h n (λ j l. e j (omega arith)), e (su
 
 -- a machine word holds what the blocks of a level cost together
 pub blocks-fit : (n p x : ℕ) → n ≤ ENTRIES → p ≡ held x → n * p ≤ 35184372088832
-blocks-fit n p x h e = let le : p ≤ COST_CAP = omega arith in omega (arith, mul-le-mul h le)
+blocks-fit n p x h e = let le : p ≤ COST-CAP = omega arith in omega (arith, mul-le-mul h le)
 
 held-sum : (x y : ℕ) → held (x + y) ≡ held (held x + held y)
 held-sum x y = omega arith
@@ -55,10 +55,10 @@ module _ (levels : ℕ) (sums : List ℕ) (a b : Trie)
   unfolding price withFirst
   price-first q j l h =
       let f = optBy held q in
-      let low : (u : Trie) → f u ≡ held (f u) = λ u. omega (arith, opt-capped COST_CAP q u) in
+      let low : (u : Trie) → f u ≡ held (f u) = λ u. omega (arith, opt-capped COST-CAP q u) in
       rw (one-mul (held (2 ^ suc j)))
       (ap (λ (s : ℕ). held (held (2 ^ suc j) + s))
-      (sum j q h l ∙ held-sum (sumBelow j f a) (sumBelow j f b) ∙ ap₂ (λ (x y : ℕ). held (x + y)) (sym (sum-capped COST_CAP f f low j a)) (sym (sum-capped COST_CAP f f low j b))))
+      (sum j q h l ∙ held-sum (sumBelow j f a) (sumBelow j f b) ∙ ap₂ (λ (x y : ℕ). held (x + y)) (sym (sum-capped COST-CAP f f low j a)) (sym (sum-capped COST-CAP f f low j b))))
 
   pub best-cost : (p q r : ℕ) → r < levels → bestCost sums 1 (suc (max (depth a) (depth b))) r ≡ optBy held r (node p a q b)
   unfolding bestCost optBy
@@ -94,25 +94,25 @@ store-start rows x d sums = record {
 
 pub store-next : (rows : List ℕ) (x d : ℕ) (sums rows1 rows2 rows3 : List ℕ) (m c s : ℕ) → m < LEVELS → (x + 1) * ROW ≤ length rows1 → (x + 1) * ROW ≤ length rows2
     → Stored m rows x d sums rows1 → c ≡ bestCost sums 1 d m → s ≡ bestStride sums 1 d m
-    → rows2 ≡ set rows1 (x * ROW + (8 + m)) c → rows3 ≡ set rows2 (x * ROW + (16 + m)) s → Stored (m + 1) rows x d sums rows3
+    → rows2 ≡ set rows1 (x * ROW + (COST + m)) c → rows3 ≡ set rows2 (x * ROW + (STRIDE + m)) s → Stored (m + 1) rows x d sums rows3
 store-next rows x d sums rows1 rows2 rows3 m c s hm f1 f2 st ec es e2 e3 =
-    let one : (i : ℕ) → (i ≡ x * ROW + (8 + m) → ⊥) → getD rows2 i 0 ≡ getD rows1 i 0
-    = λ i ne. ap (λ (l : List ℕ). getD l i 0) e2 ∙ getD-set-other rows1 (x * ROW + (8 + m)) i c 0 ne in
-    let two : (i : ℕ) → (i ≡ x * ROW + (16 + m) → ⊥) → getD rows3 i 0 ≡ getD rows2 i 0
-    = λ i ne. ap (λ (l : List ℕ). getD l i 0) e3 ∙ getD-set-other rows2 (x * ROW + (16 + m)) i s 0 ne in
-    let far : (i : ℕ) → (i ≡ x * ROW + (8 + m) → ⊥) → (i ≡ x * ROW + (16 + m) → ⊥) → getD rows3 i 0 ≡ getD rows1 i 0
+    let one : (i : ℕ) → (i ≡ x * ROW + (COST + m) → ⊥) → getD rows2 i 0 ≡ getD rows1 i 0
+    = λ i ne. ap (λ (l : List ℕ). getD l i 0) e2 ∙ getD-set-other rows1 (x * ROW + (COST + m)) i c 0 ne in
+    let two : (i : ℕ) → (i ≡ x * ROW + (STRIDE + m) → ⊥) → getD rows3 i 0 ≡ getD rows2 i 0
+    = λ i ne. ap (λ (l : List ℕ). getD l i 0) e3 ∙ getD-set-other rows2 (x * ROW + (STRIDE + m)) i s 0 ne in
+    let far : (i : ℕ) → (i ≡ x * ROW + (COST + m) → ⊥) → (i ≡ x * ROW + (STRIDE + m) → ⊥) → getD rows3 i 0 ≡ getD rows1 i 0
     = λ i n1 n2. two i n2 ∙ one i n1 in
-    let cost : col rows3 x (8 + m) ≡ bestCost sums 1 d m
-    = two (x * ROW + (8 + m)) (λ q. omega arith) ∙ ap (λ (l : List ℕ). getD l (x * ROW + (8 + m)) 0) e2 ∙ getD-set-same rows1 (x * ROW + (8 + m)) c 0 (omega arith) ∙ ec in
-    let stride : col rows3 x (16 + m) ≡ bestStride sums 1 d m
-    = ap (λ (l : List ℕ). getD l (x * ROW + (16 + m)) 0) e3 ∙ getD-set-same rows2 (x * ROW + (16 + m)) s 0 (omega arith) ∙ es in
+    let cost : col rows3 x (COST + m) ≡ bestCost sums 1 d m
+    = two (x * ROW + (COST + m)) (λ q. omega arith) ∙ ap (λ (l : List ℕ). getD l (x * ROW + (COST + m)) 0) e2 ∙ getD-set-same rows1 (x * ROW + (COST + m)) c 0 (omega arith) ∙ ec in
+    let stride : col rows3 x (STRIDE + m) ≡ bestStride sums 1 d m
+    = ap (λ (l : List ℕ). getD l (x * ROW + (STRIDE + m)) 0) e3 ∙ getD-set-same rows2 (x * ROW + (STRIDE + m)) s 0 (omega arith) ∙ es in
     record {
-      cost = λ r h. ⊎-elim (λ (z : r ≡ m). subst (λ (y : ℕ). col rows3 x (8 + y) ≡ bestCost sums 1 d y) (sym z) cost)
-          (λ (z : r ≡ m → ⊥). far (x * ROW + (8 + r)) (λ q. omega arith) (λ q. omega arith) ∙ st .cost r (omega arith)) (same? r m);
-      stride = λ r h. ⊎-elim (λ (z : r ≡ m). subst (λ (y : ℕ). col rows3 x (16 + y) ≡ bestStride sums 1 d y) (sym z) stride)
-          (λ (z : r ≡ m → ⊥). far (x * ROW + (16 + r)) (λ q. omega arith) (λ q. omega arith) ∙ st .stride r (omega arith)) (same? r m);
+      cost = λ r h. ⊎-elim (λ (z : r ≡ m). subst (λ (y : ℕ). col rows3 x (COST + y) ≡ bestCost sums 1 d y) (sym z) cost)
+          (λ (z : r ≡ m → ⊥). far (x * ROW + (COST + r)) (λ q. omega arith) (λ q. omega arith) ∙ st .cost r (omega arith)) (same? r m);
+      stride = λ r h. ⊎-elim (λ (z : r ≡ m). subst (λ (y : ℕ). col rows3 x (STRIDE + y) ≡ bestStride sums 1 d y) (sym z) stride)
+          (λ (z : r ≡ m → ⊥). far (x * ROW + (STRIDE + r)) (λ q. omega arith) (λ q. omega arith) ∙ st .stride r (omega arith)) (same? r m);
       before = λ i h. far i (λ q. omega arith) (λ q. omega arith) ∙ st .before i h;
       after = λ i h. far i (λ q. omega arith) (λ q. omega arith) ∙ st .after i h;
-      costs-above = λ r h g. far (x * ROW + (8 + r)) (λ q. omega arith) (λ q. omega arith) ∙ st .costs-above r (omega arith) g;
-      strides-above = λ r h g. far (x * ROW + (16 + r)) (λ q. omega arith) (λ q. omega arith) ∙ st .strides-above r (omega arith) g;
+      costs-above = λ r h g. far (x * ROW + (COST + r)) (λ q. omega arith) (λ q. omega arith) ∙ st .costs-above r (omega arith) g;
+      strides-above = λ r h g. far (x * ROW + (STRIDE + r)) (λ q. omega arith) (λ q. omega arith) ∙ st .strides-above r (omega arith) g;
     }

@@ -15,8 +15,8 @@ use borrow.Author.Tests.{ne-eqb, le-ltb}
 use Rattle.strides.specs.Trie.{Trie, none, node, depth, sumBelow}
 use Rattle.strides.specs.Recurrence.{optBy, pickBy}
 use Rattle.walk.specs.Limits.{WIDTH, LEVELS}
-use Rattle.tries.specs.Limits.{COST_CAP}
-use Rattle.tries.specs.Scratch.{ROW, ask}
+use Rattle.tries.specs.Limits.{COST-CAP}
+use Rattle.tries.specs.Scratch.{ROW, ask, COST, DEPTH, STRIDE}
 use Rattle.tries.specs.Trees.{Tree, nil, fork, shape, linkOf, col, Row, Stand, Has, Apart}
 use Rattle.tries.specs.Costs.{held, Priced, Costed, CELLS, slot, sumAt, GatherIn, Gathered, Summed, DepthOver, bestCost, bestStride, Stored, SettleIn, Settled, AllPriced, AboveZero, TreeIn, TreeOut, TreeAsk, TreeDone}
 use Rattle.tries.proofs.Zeroes.{zeros-read}
@@ -33,7 +33,7 @@ pub link-fits : (levels : ℕ) (rows : List ℕ) (k : ℕ) (t : Trie) → Costed
 link-fits levels rows k none e = omega arith
 link-fits levels rows k (node p a q b) e = e .1
 
-costed-depth : (levels : ℕ) (rows : List ℕ) (k : ℕ) (t : Trie) → Costed levels rows k t → ask rows k 4 ≡ depth t
+costed-depth : (levels : ℕ) (rows : List ℕ) (k : ℕ) (t : Trie) → Costed levels rows k t → ask rows k DEPTH ≡ depth t
 unfolding ask depth
 costed-depth levels rows k none e = rw e
 costed-depth levels rows k (node p a q b) e = e .2 .deep
@@ -68,24 +68,24 @@ module _ (levels : ℕ) (rows : List ℕ) (k : ℕ) (g : SettleIn levels rows k)
   pub depth-fits : (ask rows k 0 * ROW ≤ length rows) × (ask rows k 1 * ROW ≤ length rows)
   depth-fits = (link-fits levels rows _ (g .a) (g .left), link-fits levels rows _ (g .b) (g .right))
 
-  pub depth-bound : (ask rows (ask rows k 0) 4 ≤ WIDTH) × (ask rows (ask rows k 1) 4 ≤ WIDTH)
+  pub depth-bound : (ask rows (ask rows k 0) DEPTH ≤ WIDTH) × (ask rows (ask rows k 1) DEPTH ≤ WIDTH)
   depth-bound =
       (omega (arith, costed-depth levels rows _ (g .a) (g .left), g .deep), omega (arith, costed-depth levels rows _ (g .b) (g .right), g .deep))
 
-pub depth-out : (levels : ℕ) (rows : List ℕ) (k d : ℕ) → d ≡ max (ask rows (ask rows k 0) 4) (ask rows (ask rows k 1) 4) → DepthOver levels rows k (d + 1)
+pub depth-out : (levels : ℕ) (rows : List ℕ) (k d : ℕ) → d ≡ max (ask rows (ask rows k 0) DEPTH) (ask rows (ask rows k 1) DEPTH) → DepthOver levels rows k (d + 1)
 depth-out levels rows k d e a b ca cb = omega (arith, costed-depth levels rows _ a ca, costed-depth levels rows _ b cb)
 
 -- ---- one row
 
 module _ (levels : ℕ) (rows : List ℕ) (k : ℕ) (g : SettleIn levels rows k) (sums rows1 rows' : List ℕ) (d : ℕ)
     (sum : Summed levels rows k (replicate CELLS 0) sums) (deep : DepthOver levels rows k d)
-    (one : rows1 ≡ set rows ((k - 1) * ROW + 4) d) (st : Stored levels rows1 (k - 1) d sums rows') where
+    (one : rows1 ≡ set rows ((k - 1) * ROW + DEPTH) d) (st : Stored levels rows1 (k - 1) d sums rows') where
   -- the row is the one before its link
   here : (l : List ℕ) (c : ℕ) → ask l k c ≡ col l (k - 1) c
   here l c = let e : k ≡ k - 1 + 1 = omega (arith, g .some) in ap (λ (x : ℕ). ask l x c) e ∙ ask-col l (k - 1) c
 
-  off : (i : ℕ) → (i ≡ (k - 1) * ROW + 4 → ⊥) → getD rows1 i 0 ≡ getD rows i 0
-  off i ne = ap (λ (l : List ℕ). getD l i 0) one ∙ getD-set-other rows ((k - 1) * ROW + 4) i d 0 ne
+  off : (i : ℕ) → (i ≡ (k - 1) * ROW + DEPTH → ⊥) → getD rows1 i 0 ≡ getD rows i 0
+  off i ne = ap (λ (l : List ℕ). getD l i 0) one ∙ getD-set-other rows ((k - 1) * ROW + DEPTH) i d 0 ne
 
   sums-are : (a b : Trie) → Costed levels rows (ask rows k 0) a → Costed levels rows (ask rows k 1) b → suc (max (depth a) (depth b)) ≤ WIDTH
       → (j q : ℕ) → j ≤ max (depth a) (depth b) → q < levels → slot sums j q ≡ held (sumBelow j (optBy held q) a + sumBelow j (optBy held q) b)
@@ -99,10 +99,10 @@ module _ (levels : ℕ) (rows : List ℕ) (k : ℕ) (g : SettleIn levels rows k)
       let s = sums-are a b ca cb w in
       let x = k - 1 in
       record {
-        deep = here rows' 4 ∙ st .before (x * ROW + 4) (omega arith) ∙ ap (λ (l : List ℕ). getD l (x * ROW + 4) 0) one
-            ∙ getD-set-same rows (x * ROW + 4) d 0 (omega (arith, g .some, g .fits)) ∙ e;
-        cost = λ r h. here rows' (8 + r) ∙ st .cost r h ∙ ap (λ (y : ℕ). bestCost sums 1 y r) e ∙ best-cost levels sums a b s p q r h;
-        stride = λ r h. here rows' (16 + r) ∙ st .stride r h ∙ ap (λ (y : ℕ). bestStride sums 1 y r) e ∙ best-stride levels sums a b s p q r h;
+        deep = here rows' DEPTH ∙ st .before (x * ROW + DEPTH) (omega arith) ∙ ap (λ (l : List ℕ). getD l (x * ROW + DEPTH) 0) one
+            ∙ getD-set-same rows (x * ROW + DEPTH) d 0 (omega (arith, g .some, g .fits)) ∙ e;
+        cost = λ r h. here rows' (COST + r) ∙ st .cost r h ∙ ap (λ (y : ℕ). bestCost sums 1 y r) e ∙ best-cost levels sums a b s p q r h;
+        stride = λ r h. here rows' (STRIDE + r) ∙ st .stride r h ∙ ap (λ (y : ℕ). bestStride sums 1 y r) e ∙ best-stride levels sums a b s p q r h;
       }
 
   pub settle-out : Settled levels rows k rows'
@@ -113,8 +113,8 @@ module _ (levels : ℕ) (rows : List ℕ) (k : ℕ) (g : SettleIn levels rows k)
         priced = priced-here;
         others = λ y c ne hc. elsewhere y c (λ z. ne (omega arith)) hc (decLe y x);
         links = λ c h. here rows' c ∙ st .before (x * ROW + c) (omega arith) ∙ off (x * ROW + c) (λ z. omega arith) ∙ sym (here rows c);
-        costs-above = λ r h l. here rows' (8 + r) ∙ st .costs-above r h l ∙ off (x * ROW + (8 + r)) (λ z. omega arith) ∙ sym (here rows (8 + r));
-        strides-above = λ r h l. here rows' (16 + r) ∙ st .strides-above r h l ∙ off (x * ROW + (16 + r)) (λ z. omega arith) ∙ sym (here rows (16 + r));
+        costs-above = λ r h l. here rows' (COST + r) ∙ st .costs-above r h l ∙ off (x * ROW + (COST + r)) (λ z. omega arith) ∙ sym (here rows (COST + r));
+        strides-above = λ r h l. here rows' (STRIDE + r) ∙ st .strides-above r h l ∙ off (x * ROW + (STRIDE + r)) (λ z. omega arith) ∙ sym (here rows (STRIDE + r));
       }
     where
       elsewhere : (y c : ℕ) → (y ≡ k - 1 → ⊥) → c < ROW → Dec (y ≤ k - 1) → col rows' y c ≡ col rows y c
@@ -159,9 +159,9 @@ module _ (levels : ℕ) (rows rows' : List ℕ) where
   keep-priced (fork x m l n r) few k p =
       let at : (c : ℕ) → c < ROW → ask rows' (x + 1) c ≡ ask rows (x + 1) c = λ c h. ask-col rows' x c ∙ k x c (inl refl) h ∙ sym (ask-col rows x c) in (
         record {
-          deep = at 4 (omega arith) ∙ p .0 .deep;
-          cost = λ j h. at (8 + j) (omega arith) ∙ p .0 .cost j h;
-          stride = λ j h. at (16 + j) (omega arith) ∙ p .0 .stride j h;
+          deep = at DEPTH (omega arith) ∙ p .0 .deep;
+          cost = λ j h. at (COST + j) (omega arith) ∙ p .0 .cost j h;
+          stride = λ j h. at (STRIDE + j) (omega arith) ∙ p .0 .stride j h;
         },
         keep-priced l few (λ y c h. k y c (inr (inl h))) (p .1),
         keep-priced r few (λ y c h. k y c (inr (inr h))) (p .2),
@@ -245,7 +245,7 @@ module _ (levels : ℕ) (rows : List ℕ) (k d x p : ℕ) (l : Tree) (q : ℕ) (
         right-last : (y c : ℕ) → Has y r → c < ROW → col rows3 y c ≡ col rows2 y c
         right-last y c h hc = last-kept y c (in-right y h) hc
 
-        own-link : (c : ℕ) → c < 4 → col rows3 x c ≡ col rows x c
+        own-link : (c : ℕ) → c < DEPTH → col rows3 x c ≡ col rows x c
         own-link c h = sym (at-node rows3 c) ∙ s .links c h ∙ at-node rows2 c ∙ own-kept c (omega arith)
 
         tree-settled : TreeOut levels rows rows3 (fork x p l q r)
@@ -270,24 +270,24 @@ module _ (levels : ℕ) (rows : List ℕ) (k d x p : ℕ) (l : Tree) (q : ℕ) (
           others = λ y c no hc. last-kept y c (λ e. no (inl e)) hc ∙ o2 .others y c (λ h. no (inr (inr h))) hc ∙ o1 .others y c (λ h. no (inr (inl h))) hc;
         }
           where
-            at-own : AboveZero levels rows (fork x p l q r) → (j : ℕ) → levels ≤ j → j < LEVELS → (col rows3 x (8 + j) ≡ 0) × (col rows3 x (16 + j) ≡ 0)
+            at-own : AboveZero levels rows (fork x p l q r) → (j : ℕ) → levels ≤ j → j < LEVELS → (col rows3 x (COST + j) ≡ 0) × (col rows3 x (STRIDE + j) ≡ 0)
             at-own z j m n =
                 let zero-there = z x j (inl refl) m n in (
-                  sym (at-node rows3 (8 + j)) ∙ s .costs-above j m n ∙ at-node rows2 (8 + j) ∙ own-kept (8 + j) (omega arith) ∙ zero-there .0,
-                  sym (at-node rows3 (16 + j)) ∙ s .strides-above j m n ∙ at-node rows2 (16 + j) ∙ own-kept (16 + j) (omega arith) ∙ zero-there .1,
+                  sym (at-node rows3 (COST + j)) ∙ s .costs-above j m n ∙ at-node rows2 (COST + j) ∙ own-kept (COST + j) (omega arith) ∙ zero-there .0,
+                  sym (at-node rows3 (STRIDE + j)) ∙ s .strides-above j m n ∙ at-node rows2 (STRIDE + j) ∙ own-kept (STRIDE + j) (omega arith) ∙ zero-there .1,
                 )
 
             above-node : AboveZero levels rows (fork x p l q r) → AboveZero levels rows3 (fork x p l q r)
-            above-node z y j (inl e) m n = subst (λ (w : ℕ). (col rows3 w (8 + j) ≡ 0) × (col rows3 w (16 + j) ≡ 0)) (sym e) (at-own z j m n)
+            above-node z y j (inl e) m n = subst (λ (w : ℕ). (col rows3 w (COST + j) ≡ 0) × (col rows3 w (STRIDE + j) ≡ 0)) (sym e) (at-own z j m n)
             above-node z y j (inr (inl h)) m n =
                 let v = o1 .above (λ y i h. z y i (inr (inl h))) y j h m n in
-                (left-last y (8 + j) h (omega arith) ∙ v .0, left-last y (16 + j) h (omega arith) ∙ v .1)
+                (left-last y (COST + j) h (omega arith) ∙ v .0, left-last y (STRIDE + j) h (omega arith) ∙ v .1)
             above-node z y j (inr (inr h)) m n =
                 let old : AboveZero levels rows1 r = λ w i hw a b.
                 let u = z w i (inr (inr hw)) a b in
-                (right-kept w (8 + i) hw (omega arith) ∙ u .0, right-kept w (16 + i) hw (omega arith) ∙ u .1) in
+                (right-kept w (COST + i) hw (omega arith) ∙ u .0, right-kept w (STRIDE + i) hw (omega arith) ∙ u .1) in
                 let v = o2 .above old y j h m n in
-                (right-last y (8 + j) h (omega arith) ∙ v .0, right-last y (16 + j) h (omega arith) ∙ v .1)
+                (right-last y (COST + j) h (omega arith) ∙ v .0, right-last y (STRIDE + j) h (omega arith) ∙ v .1)
 
 -- ---- for whichever tree stands there
 

@@ -8,7 +8,7 @@ use lib.ListN.{length}
 use Rattle.strides.specs.Trie.{Trie, none, node, Some, left, right, leftMark, rightMark}
 use Rattle.strides.specs.Strides.{Good}
 use Rattle.walk.specs.Limits.{WIDTH, LEVELS}
-use Rattle.tries.specs.Scratch.{ROW, ask, strideAt, Stands}
+use Rattle.tries.specs.Scratch.{ROW, ask, strideAt, Stands, MARKS}
 use Rattle.layout.specs.Blocks.{Strides, wide, linkTo, strideOf}
 use Rattle.tries.specs.Filling.{Trunk}
 use Rattle.layout.proofs.Buildable.{good-left, good-right, good-width, good-level, good-stride, good-below}
@@ -46,11 +46,11 @@ module _ (σ : Strides) (rows plan : List ℕ) (k : ℕ) where
   stands-right none s = rw s (ask-none rows 1)
   stands-right (node p a q b) s = s .2
 
-  pub mark-left : (t : Trie) → Stands σ rows plan k t → (ask rows k 2 ≡ leftMark t) × (ask rows k 2 < 65536)
+  pub mark-left : (t : Trie) → Stands σ rows plan k t → (ask rows k 2 ≡ leftMark t) × (ask rows k 2 < MARKS)
   mark-left none s = rw (s, ask-none rows 2) (refl, omega arith)
   mark-left (node p a q b) s = (s .0 .mark0, omega (arith, s .0 .mark0, s .0 .small0))
 
-  pub mark-right : (t : Trie) → Stands σ rows plan k t → (ask rows k 3 ≡ rightMark t) × (ask rows k 3 < 65536)
+  pub mark-right : (t : Trie) → Stands σ rows plan k t → (ask rows k 3 ≡ rightMark t) × (ask rows k 3 < MARKS)
   mark-right none s = rw (s, ask-none rows 3) (refl, omega arith)
   mark-right (node p a q b) s = (s .0 .mark1, omega (arith, s .0 .mark1, s .0 .small1))
 

@@ -15,7 +15,7 @@ use Rattle.strides.specs.Recurrence.{plain, leastBy, stridesBy}
 use Rattle.strides.specs.Strides.{chosenBy}
 use Rattle.walk.specs.Limits.{LEVELS, Within}
 use Rattle.table.specs.Limits.{outside}
-use Rattle.tries.specs.Scratch.{ROW, Stands}
+use Rattle.tries.specs.Scratch.{ROW, MARKS, Stands}
 use Rattle.layout.specs.Built.{tableTrie}
 use Rattle.tries.specs.Costs.{held}
 use Rattle.tries.specs.Levels.{padded}
@@ -63,7 +63,7 @@ pub record PlanIn (W k : ℕ) (vs ls hs scratch : List ℕ) : Type 0 where
   pub table : Table W vs ls hs
   pub levels : Within k LEVELS
   pub room : size (tableTrie W vs ls hs) * ROW ≤ length scratch
-  pub marks : (i : ℕ) → at hs i < 65536
+  pub marks : (i : ℕ) → at hs i < MARKS
 
 -- the least cost, the record's strides, and rows from which the builder can read every block's stride by the plan
 pub record Planned (kind : Kind) (W k : ℕ) (vs ls hs : List ℕ) (cost : ℕ) (strides plan : List ℕ) (root : ℕ) (rows : List ℕ) : Type 0 where

@@ -1,4 +1,4 @@
--- The least costs in the rows (columns 4 and 8 to 23), and how a row's are worked out from the rows below: `sums` holds, for
+-- The least costs in the rows (columns DEPTH, COST and STRIDE), and how a row's are worked out from the rows below: `sums` holds, for
 -- each stride and number of levels left, what the blocks that many levels below cost together. Every sum and power is held
 -- at the cap.
 use mathlib.Core.Path.{_≡_}
@@ -10,20 +10,20 @@ use lib.Dec.{ltb, eqb}
 use Rattle.strides.specs.Trie.{Trie, none, node, depth, sumBelow}
 use Rattle.strides.specs.Recurrence.{atCap, scan, optBy, pickBy}
 use Rattle.walk.specs.Limits.{WIDTH, LEVELS}
-use Rattle.tries.specs.Limits.{COST_CAP}
-use Rattle.tries.specs.Scratch.{ROW, ask}
+use Rattle.tries.specs.Limits.{COST-CAP}
+use Rattle.tries.specs.Scratch.{ROW, ask, COST, DEPTH, STRIDE}
 use Rattle.tries.specs.Trees.{Tree, nil, fork, shape, linkOf, col, Stand, Has, Apart}
 
 abbrev pub held : ℕ → ℕ
-held x = atCap COST_CAP x
+held x = atCap COST-CAP x
 
 -- ---- what the rows hold
 
 -- the row of link k holds the depth of t and, for 1 to `levels` levels left, its least costs and strides
 pub record Priced (levels : ℕ) (rows : List ℕ) (k : ℕ) (t : Trie) : Type 0 where
-  pub deep : ask rows k 4 ≡ depth t
-  pub cost : (r : ℕ) → r < levels → ask rows k (8 + r) ≡ optBy held r t
-  pub stride : (r : ℕ) → r < levels → ask rows k (16 + r) ≡ pickBy held r t
+  pub deep : ask rows k DEPTH ≡ depth t
+  pub cost : (r : ℕ) → r < levels → ask rows k (COST + r) ≡ optBy held r t
+  pub stride : (r : ℕ) → r < levels → ask rows k (STRIDE + r) ≡ pickBy held r t
 
 -- so do all the rows that links lead to
 abbrev pub Costed : ℕ → List ℕ → ℕ → Trie → Type 0
@@ -36,7 +36,7 @@ Costed levels rows k (node p a q b) =
 
 -- the place for stride j + 1 and r + 1 levels left, of WIDTH times LEVELS
 abbrev pub CELLS : ℕ
-CELLS = 256
+CELLS = WIDTH * LEVELS
 
 abbrev pub slot : List ℕ → ℕ → ℕ → ℕ
 slot sums j r = getD sums (j * LEVELS + r) 0
@@ -47,7 +47,7 @@ sumAt d j f t = cond (ltb j d) 0 (sumBelow (j - d) f t)
 
 -- the row of link k, standing at depth d, is added at each of the first m numbers of levels
 pub record RowAdded (m : ℕ) (rows : List ℕ) (k d : ℕ) (sums sums' : List ℕ) : Type 0 where
-  pub here : (r : ℕ) → r < m → slot sums' d r ≡ held (slot sums d r + ask rows k (8 + r))
+  pub here : (r : ℕ) → r < m → slot sums' d r ≡ held (slot sums d r + ask rows k (COST + r))
   pub later : (r : ℕ) → m ≤ r → r < LEVELS → slot sums' d r ≡ slot sums d r
   pub other : (j r : ℕ) → (j ≡ d → ⊥) → r < LEVELS → slot sums' j r ≡ slot sums j r
 
@@ -60,7 +60,7 @@ pub record GatherIn (levels : ℕ) (rows : List ℕ) (k d : ℕ) (sums : List �
 
 abbrev pub Gathered : ℕ → List ℕ → ℕ → ℕ → List ℕ → List ℕ → Type 0
 Gathered levels rows k d sums sums' =
-    (t : Trie) → Costed levels rows k t → ((j r : ℕ) → j < WIDTH → r < levels → slot sums j r ≤ COST_CAP)
+    (t : Trie) → Costed levels rows k t → ((j r : ℕ) → j < WIDTH → r < levels → slot sums j r ≤ COST-CAP)
     → (j r : ℕ) → j < WIDTH → r < levels → slot sums' j r ≡ held (slot sums j r + sumAt d j (optBy held r) t)
 
 -- ---- the cheapest stride of a node of the given depth
@@ -82,12 +82,12 @@ bestStride sums n d (suc q) = suc (scan (price sums n q) (pred d) .0)
 
 -- row x: what is stored of the choices, and what is kept
 pub record Stored (levels : ℕ) (rows : List ℕ) (x d : ℕ) (sums rows' : List ℕ) : Type 0 where
-  pub cost : (r : ℕ) → r < levels → col rows' x (8 + r) ≡ bestCost sums 1 d r
-  pub stride : (r : ℕ) → r < levels → col rows' x (16 + r) ≡ bestStride sums 1 d r
-  pub before : (i : ℕ) → i < x * ROW + 8 → getD rows' i 0 ≡ getD rows i 0
+  pub cost : (r : ℕ) → r < levels → col rows' x (COST + r) ≡ bestCost sums 1 d r
+  pub stride : (r : ℕ) → r < levels → col rows' x (STRIDE + r) ≡ bestStride sums 1 d r
+  pub before : (i : ℕ) → i < x * ROW + COST → getD rows' i 0 ≡ getD rows i 0
   pub after : (i : ℕ) → (x + 1) * ROW ≤ i → getD rows' i 0 ≡ getD rows i 0
-  pub costs-above : (r : ℕ) → levels ≤ r → r < LEVELS → col rows' x (8 + r) ≡ col rows x (8 + r)
-  pub strides-above : (r : ℕ) → levels ≤ r → r < LEVELS → col rows' x (16 + r) ≡ col rows x (16 + r)
+  pub costs-above : (r : ℕ) → levels ≤ r → r < LEVELS → col rows' x (COST + r) ≡ col rows x (COST + r)
+  pub strides-above : (r : ℕ) → levels ≤ r → r < LEVELS → col rows' x (STRIDE + r) ≡ col rows x (STRIDE + r)
 
 pub record SettleIn (levels : ℕ) (rows : List ℕ) (k : ℕ) : Type 0 where
   pub some : 0 < k
@@ -112,9 +112,9 @@ DepthOver levels rows k d = (a b : Trie) → Costed levels rows (ask rows k 0) a
 pub record Settled (levels : ℕ) (rows : List ℕ) (k : ℕ) (rows' : List ℕ) : Type 0 where
   pub priced : (a b : Trie) (p q : ℕ) → Costed levels rows (ask rows k 0) a → Costed levels rows (ask rows k 1) b → Priced levels rows' k (node p a q b)
   pub others : (y c : ℕ) → (y + 1 ≡ k → ⊥) → c < ROW → col rows' y c ≡ col rows y c
-  pub links : (c : ℕ) → c < 4 → ask rows' k c ≡ ask rows k c
-  pub costs-above : (r : ℕ) → levels ≤ r → r < LEVELS → ask rows' k (8 + r) ≡ ask rows k (8 + r)
-  pub strides-above : (r : ℕ) → levels ≤ r → r < LEVELS → ask rows' k (16 + r) ≡ ask rows k (16 + r)
+  pub links : (c : ℕ) → c < DEPTH → ask rows' k c ≡ ask rows k c
+  pub costs-above : (r : ℕ) → levels ≤ r → r < LEVELS → ask rows' k (COST + r) ≡ ask rows k (COST + r)
+  pub strides-above : (r : ℕ) → levels ≤ r → r < LEVELS → ask rows' k (STRIDE + r) ≡ ask rows k (STRIDE + r)
 
 -- ---- a whole tree
 
@@ -126,7 +126,7 @@ AllPriced levels rows (fork x p l q r) =
 
 -- the columns for more levels are 0
 abbrev pub AboveZero : ℕ → List ℕ → Tree → Type 0
-AboveZero levels rows t = (y r : ℕ) → Has y t → levels ≤ r → r < LEVELS → (col rows y (8 + r) ≡ 0) × (col rows y (16 + r) ≡ 0)
+AboveZero levels rows t = (y r : ℕ) → Has y t → levels ≤ r → r < LEVELS → (col rows y (COST + r) ≡ 0) × (col rows y (STRIDE + r) ≡ 0)
 
 -- the tree stands in rows that are there
 pub record TreeIn (levels : ℕ) (rows : List ℕ) (k d : ℕ) (t : Tree) : Type 0 where

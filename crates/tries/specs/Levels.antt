@@ -28,17 +28,14 @@ unfoldable pub levelCount : ℕ → (ℕ → ℕ) → (ℕ → ℕ) → ℕ → 
 levelCount W val len zero j = 0
 levelCount W val len (suc n) j = levelCount W val len n j + within (len n - newNodes W val len n) (len n) j
 
--- rows of the table of fixed strides: one for each level, and one past the last
-abbrev pub LEVEL_ROWS : ℕ
-LEVEL_ROWS = 33
-
-abbrev pub LEVEL_CELLS : ℕ
-LEVEL_CELLS = 264
+-- places of the table of fixed strides: a row for each level, and one past the last
+abbrev pub LEVEL-CELLS : ℕ
+LEVEL-CELLS = (WIDTH + 1) * LEVELS
 
 -- from level i on the table is what the recurrence says of a trie of `depth` levels
 pub record Filled (nodes : ℕ → ℕ) (levels depth i : ℕ) (costs strides : List ℕ) : Type 0 where
-  pub long-costs : length costs ≡ LEVEL_CELLS
-  pub long-strides : length strides ≡ LEVEL_CELLS
+  pub long-costs : length costs ≡ LEVEL-CELLS
+  pub long-strides : length strides ≡ LEVEL-CELLS
   pub cost : (j r : ℕ) → i ≤ j → j ≤ depth → r < levels → slot costs j r ≡ fixBy held nodes r j (depth - j)
   pub stride : (j r : ℕ) → i ≤ j → j ≤ depth → r < levels → slot strides j r ≡ pickFixedBy held nodes r j (depth - j)
 

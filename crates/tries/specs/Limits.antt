@@ -12,5 +12,5 @@ abbrev pub ELEMENTS : ℕ
 ELEMENTS = 16777216
 
 -- costs are held here: above what any choice for an address of the widest width costs, so it never bites
-abbrev pub COST_CAP : ℕ
-COST_CAP = 8589934592
+abbrev pub COST-CAP : ℕ
+COST-CAP = 8589934592

@@ -7,7 +7,7 @@ ghost use lib.ListN.{length, set};
 ghost use Rattle.walk.specs.Limits.{WIDTH};
 ghost use Rattle.walk.specs.Rows.{lists, shortest};
 ghost use Rattle.strides.specs.Trie.{newer};
-ghost use Rattle.tries.specs.Scratch.{ROW, ask};
+ghost use Rattle.tries.specs.Scratch.{ROW, MARKS, ask};
 ghost use Rattle.tries.specs.Filling.{Bare, CanFill, Fills, CanBlock, Blocks, CanLevel, Levels, CanLay, Lays};
 use crate::scratch::asked;
 use crate::scratch::stride_at;
@@ -29,7 +29,7 @@ fn given(k: usize, v: usize) -> usize
 
 // The best hop below the link k on a side, where `best` is the one so far in the block: a nonzero mark is the new best.
 fn best_below(rows: &[u64], k: usize, side: usize, best: u16) -> u16
-    requires { ⌜ (k * ROW ≤ length (now rows)) × (side < 2) × (ask (now rows) k (2 + side) < 65536) ⌝ }
+    requires { ⌜ (k * ROW ≤ length (now rows)) × (side < 2) × (ask (now rows) k (2 + side) < MARKS) ⌝ }
     ensures { λ r. ⌜ r ≡ newer (ask (now (rows .entry)) k (2 + side)) best ⌝ }
 {
     let mark = asked(rows, k, 2 + side);

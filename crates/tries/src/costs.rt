@@ -11,6 +11,7 @@ ghost use Rattle.tries.specs.Costs.{held, CELLS, slot, RowAdded, GatherI
 use crate::limits::COST_CAP;
 use crate::limits::SLOTS;
 use crate::scratch::COST;
+use crate::scratch::DEPTH;
 use crate::scratch::STRIDE;
 use crate::scratch::asked;
 use crate::scratch::put;
@@ -150,8 +151,8 @@ fn depth_over(rows: &[u64], k: usize, levels: usize) -> usize
     requires { ⌜ SettleIn levels (now rows) k ⌝ }
     ensures { λ d. ⌜ DepthOver levels (now (rows .entry)) k d ⌝ }
 {
-    let a = asked(rows, asked(rows, k, 0), 4);
-    let b = asked(rows, asked(rows, k, 1), 4);
+    let a = asked(rows, asked(rows, k, 0), DEPTH);
+    let b = asked(rows, asked(rows, k, 1), DEPTH);
     larger(a, b) + 1
 }
 
@@ -163,7 +164,7 @@ fn settle(rows: &mut [u64], k: usize, levels: usize)
     let mut sums = [0u64; CELLS];
     sum_below(rows, k, levels, &mut sums);
     let depth = depth_over(rows, k, levels);
-    put(rows, k - 1, 4, depth);
+    put(rows, k - 1, DEPTH, depth);
     store(rows, k - 1, depth, levels, &sums);
 }
 

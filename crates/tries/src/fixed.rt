@@ -10,7 +10,7 @@ ghost use Rattle.walk.specs.Limits.{WIDTH, LEVELS};
 ghost use Rattle.tries.specs.Limits.{ENTRIES};
 ghost use Rattle.tries.specs.Costs.{held};
 ghost use Rattle.tries.specs.Making.{Prefixes};
-ghost use Rattle.tries.specs.Levels.{within, levelCount, LEVEL_CELLS, Filled, RowFilled, padded, StridesFilled, SomeNodes, FixedOut};
+ghost use Rattle.tries.specs.Levels.{within, levelCount, LEVEL-CELLS, Filled, RowFilled, padded, StridesFilled, SomeNodes, FixedOut};
 use crate::costs::choice;
 use crate::costs::larger;
 use crate::counting::new_at;
@@ -64,7 +64,7 @@ pub(crate) fn longest_length(lens: &[u8]) -> usize
 
 // The choices for the d levels from level i on, where level i has n nodes and the rows after i are filled.
 fn fill_row(n: usize, i: usize, d: usize, levels: usize, costs: &mut [u64], strides: &mut [u64])
-    requires { ⌜ (length (now costs) ≡ LEVEL_CELLS) × (length (now strides) ≡ LEVEL_CELLS) ⌝ }
+    requires { ⌜ (length (now costs) ≡ LEVEL-CELLS) × (length (now strides) ≡ LEVEL-CELLS) ⌝ }
     requires { ⌜ (n ≤ ENTRIES) × (1 ≤ d) × (i + d ≤ WIDTH) × (levels ≤ LEVELS) ⌝ }
     ensures { λ _. ⌜ RowFilled levels n d i (now (costs .entry)) (now (strides .entry)) (now (costs .exit)) (now (strides .exit)) (drop ((i + 1) * LEVELS) (now (costs .entry))) ⌝ }
 {
@@ -94,7 +94,7 @@ fn fill_table(nodes: &[u64], levels: usize, depth: usize, costs: &mut [u64], str
 
 // The strides that the table names, from the first level on: unused places 0.
 fn read_list(strides: &[u64], levels: usize, depth: usize) -> [u8; SLOTS]
-    requires { ⌜ (1 ≤ levels) × (levels ≤ LEVELS) × (depth ≤ WIDTH) × (length (now strides) ≡ LEVEL_CELLS) × SomeNodes levels depth (now strides) ⌝ }
+    requires { ⌜ (1 ≤ levels) × (levels ≤ LEVELS) × (depth ≤ WIDTH) × (length (now strides) ≡ LEVEL-CELLS) × SomeNodes levels depth (now strides) ⌝ }
     ensures { λ r. ⌜ ((nodes : ℕ → ℕ) → StridesFilled nodes levels depth (now (strides .entry)) → r ≡ padded LEVELS (listBy held nodes (levels - 1) 0 depth)) ⌝ }
 {
     let mut list = [0u8; SLOTS];

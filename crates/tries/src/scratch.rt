@@ -5,19 +5,22 @@ ghost use Prim.Native.Nat.{_+_, _*_, _<_, _≤_};
 ghost use lib.ListN.{length, replicate, set};
 ghost use Rattle.walk.specs.Limits.{LEVELS};
 ghost use Rattle.tries.specs.Scratch.{ROW, ask, strideAt};
+use crate::limits::SLOTS;
 
-// Numbers in a row.
-pub const ROW: usize = 24;
+// The columns of a row: links, marks, then the depth, spare ones, the least costs and their strides, with one level left first.
+pub(crate) const DEPTH: usize = 4;
 
-// The first columns of the least costs and of their strides, those with one level left.
 pub(crate) const COST: usize = 8;
 
-pub(crate) const STRIDE: usize = 16;
+pub(crate) const STRIDE: usize = COST + SLOTS;
 
 // With r levels left the two stand r columns after these.
 pub(crate) const BEFORE_COSTS: usize = COST - 1;
 
 pub(crate) const BEFORE_STRIDES: usize = STRIDE - 1;
+
+// Numbers in a row.
+pub const ROW: usize = STRIDE + SLOTS;
 
 // Column c of the row that the link k names; 0 where it names none.
 pub(crate) fn asked(rows: &[u64], k: usize, c: usize) -> usize

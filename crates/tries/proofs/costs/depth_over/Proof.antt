@@ -1,7 +1,7 @@
 use Prim.Native.Nat.{ℕ}
 use mathlib.Core.Path.{_≡_, ap, _∙_}
 use native.Mathlib.Omega.{arith}
-use Rattle.tries.specs.Scratch.{ask}
+use Rattle.tries.specs.Scratch.{ask, DEPTH}
 use Rattle.tries.proofs.Settling.{depth-fits, depth-bound, depth-out}
 use borrow.Author.Needs.{needs}
 use Rattle.tries.proofs.costs.depth_over.Statement.{statement}
@@ -30,12 +30,12 @@ add-result : tie.Need-add-result
 add-result c =
     let S = c .before .before .before .before .before .before in
     let b = depth-bound (S .args .levels) (S .args .rows .now) (S .args .k) (S .pre) in
-    omega (arith, c .larger .ensures, c .before .before .before .asked2 .ensures, c .before .asked4 .ensures, ap (λ (y : ℕ). ask (S .args .rows .now) y 4) (c .before .before .before .before .asked .ensures), ap (λ (y : ℕ). ask (S .args .rows .now) y 4) (c .before .before .asked3 .ensures))
+    omega (arith, c .larger .ensures, c .before .before .before .asked2 .ensures, c .before .asked4 .ensures, ap (λ (y : ℕ). ask (S .args .rows .now) y DEPTH) (c .before .before .before .before .asked .ensures), ap (λ (y : ℕ). ask (S .args .rows .now) y DEPTH) (c .before .before .asked3 .ensures))
 
 returns : tie.Need-returns
 returns c =
     let S = c .before .before .before .before .before .before in
-    depth-out (S .args .levels) (S .args .rows .now) (S .args .k) _ (rw (c .before .before .before .asked2 .ensures ∙ ap (λ (y : ℕ). ask (S .args .rows .now) y 4) (c .before .before .before .before .asked .ensures), c .before .asked4 .ensures ∙ ap (λ (y : ℕ). ask (S .args .rows .now) y 4) (c .before .before .asked3 .ensures)) at (c .larger .ensures))
+    depth-out (S .args .levels) (S .args .rows .now) (S .args .k) _ (rw (c .before .before .before .asked2 .ensures ∙ ap (λ (y : ℕ). ask (S .args .rows .now) y DEPTH) (c .before .before .before .before .asked .ensures), c .before .asked4 .ensures ∙ ap (λ (y : ℕ). ask (S .args .rows .now) y DEPTH) (c .before .before .asked3 .ensures)) at (c .larger .ensures))
 
 pub depth-over-spec : {M : Type 1} → statement M
 depth-over-spec =

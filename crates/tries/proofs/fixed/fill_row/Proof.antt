@@ -7,7 +7,7 @@ use lib.ListN.{length, drop, length-set, length-drop}
 use lib.Seq.{drop-set-lt}
 use Rattle.walk.specs.Limits.{LEVELS}
 use Rattle.tries.specs.Costs.{bestCost, bestStride}
-use Rattle.tries.specs.Levels.{LEVEL_CELLS, RowFilled}
+use Rattle.tries.specs.Levels.{LEVEL-CELLS, RowFilled}
 use Rattle.tries.proofs.Leveling.{rest-all, row-start, row-next}
 use borrow.Author.Needs.{needs}
 use Rattle.tries.proofs.fixed.fill_row.Statement.{statement}
@@ -15,7 +15,7 @@ use Rattle.tries.proofs.fixed.fill_row.Tie as tie
 
 abbrev Inv-loop : tie.InvT-loop
 Inv-loop n i d levels costs₀ strides₀ r₀ costs strides r =
-    (r ≤ levels) × (length costs ≡ LEVEL_CELLS) × (length strides ≡ LEVEL_CELLS)
+    (r ≤ levels) × (length costs ≡ LEVEL-CELLS) × (length strides ≡ LEVEL-CELLS)
     × RowFilled r n d i costs₀ strides₀ costs strides (drop ((i + 1) * LEVELS) costs₀)
     × (drop ((i + 1) * LEVELS) costs ≡ drop ((i + 1) * LEVELS) costs₀)
 

@@ -4,7 +4,7 @@ use native.Mathlib.Omega.{arith}
 use lib.ListN.{replicate}
 use Rattle.table.specs.Table.{at}
 use Rattle.walk.specs.Limits.{WIDTH}
-use Rattle.tries.specs.Levels.{LEVEL_CELLS}
+use Rattle.tries.specs.Levels.{LEVEL-CELLS}
 use Rattle.tries.proofs.Zeroes.{zeros-read}
 use Rattle.tries.proofs.Leveling.{depth-wide, counts-small, filled-start, fixed-out}
 use borrow.Author.Needs.{needs}
@@ -37,7 +37,7 @@ fill-table-requires c κs =
     let L = c .before .before .before .longest-length in
     let w = depth-wide (S .args .width) (S .args .vals .now) (S .args .lens .now) (S .pre .0) n (omega arith) (N .ensures) in (
       (omega arith, S .pre .3, omega (arith, L .ensures), counts-small (S .args .width) (S .args .vals .now) (S .args .lens .now) (S .pre .0) n (omega arith) (N .ensures) (S .pre .1)),
-      filled-start (at n) (S .args .levels) (L .result) (replicate LEVEL_CELLS 0) (replicate LEVEL_CELLS 0) refl refl (zeros-read LEVEL_CELLS) (zeros-read LEVEL_CELLS),
+      filled-start (at n) (S .args .levels) (L .result) (replicate LEVEL-CELLS 0) (replicate LEVEL-CELLS 0) refl refl (zeros-read LEVEL-CELLS) (zeros-read LEVEL-CELLS),
     )
 
 sub-t18 : tie.Need-sub-t18
