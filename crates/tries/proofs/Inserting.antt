@@ -244,6 +244,7 @@ module _ (rows : List ℕ) (x used v n : ℕ) (g : InsertIn rows x used v n) whe
       let f = in-fits in
       let xu = g .under x (inl refl) in
       rw (e, z) (record {
+        columns = λ y c lo hi. getD-set-other rows (x * ROW + (2 + bit 0 v)) (y * ROW + c) h 0 (omega (arith, bit-two 0 v));
         after = λ i l. getD-set-other rows (x * ROW + (2 + bit 0 v)) i h 0 (omega (arith, bit-two 0 v));
         tree = λ p l q r u a b. record {
           stands = mark-put rows x p l q r h (bit 0 v) (bit-two 0 v) (f .0) a u;
@@ -288,6 +289,7 @@ module _ (rows : List ℕ) (x used v n : ℕ) (g : InsertIn rows x used v n) whe
 
     pub down-out : (h : ℕ) (rows2 : List ℕ) (used2 : ℕ) → Inserted rows1 y used1 v (n - 1) h used2 rows2 → Inserted rows x used v n h used2 rows2
     down-out h rows2 used2 ins = record {
+      columns = λ z c lo hi. ins .columns z c lo hi ∙ r₀ .same (z * ROW + c) (omega (arith, in-fits .2));
       after = λ i l. ins .after i l ∙ r₀ .same i (omega (arith, xu, far, bit-two n v));
       tree = λ p l q r u a b. out p l q r u a b;
     }

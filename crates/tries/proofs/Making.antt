@@ -139,6 +139,7 @@ module _ (rows : List ℕ) (t : Tree) (a : InRows rows t) where
           apart = apart-insert n u t v h (a .apart) (a .under);
           under = rw b at (under-insert n u t v h (a .under));
           rooted = link-row (insertR n u t v h) (link-insert n u t v h ∙ ap (λ (x : ℕ). x + 1) (row-root t u (a .rooted) refl));
+          bare = λ y c lo hi. ins .columns y c lo hi ∙ a .bare y c lo hi;
           blank = λ i l. ins .after i (omega arith) ∙ a .blank i (omega (arith, count-grows n u t v));
         },
         c,
@@ -227,7 +228,7 @@ module _ (W : ℕ) (vs ls hs : List ℕ) (p : Prefixes W vs ls) where
 
 pub make-start : (W : ℕ) (vs ls hs rows : List ℕ) → ((i : ℕ) → getD rows i 0 ≡ 0) → InRows rows (treeOf W (at vs) (at ls) (at hs) 0) × (0 ≡ size (shape (treeOf W (at vs) (at ls) (at hs) 0)))
 unfolding treeOf shape size
-make-start W vs ls hs rows z = (record { stand = tt; apart = tt; under = λ y h. absurd h; rooted = refl; blank = λ i h. z i }, refl)
+make-start W vs ls hs rows z = (record { stand = tt; apart = tt; under = λ y h. absurd h; rooted = refl; bare = λ y c lo hi. z (y * ROW + c); blank = λ i h. z i }, refl)
 
 pub make-done : (W : ℕ) (vs ls hs rows : List ℕ) (i used root : ℕ) → i ≡ length vs → InRows rows (treeOf W (at vs) (at ls) (at hs) i) → used ≡ size (shape (treeOf W (at vs) (at ls) (at hs) i))
     → (0 < used → root ≡ 1) → (used ≡ 0 → root ≡ 0) → MakeOut W vs ls hs root rows

@@ -43,7 +43,7 @@ scan-same g h (suc n) e = rw (scan-same g h n (λ j l. e j (omega arith)), e (su
 -- ---- the choices are the recurrence's
 
 -- a machine word holds what the blocks of a level cost together
-pub blocks-fit : (n p x : ℕ) → n ≤ ENTRIES → p ≡ held x → n * p ≤ 35184372088832
+pub blocks-fit : (n p x : ℕ) → n ≤ ENTRIES → p ≡ held x → n * p ≤ ENTRIES * COST-CAP
 blocks-fit n p x h e = let le : p ≤ COST-CAP = omega arith in omega (arith, mul-le-mul h le)
 
 held-sum : (x y : ℕ) → held (x + y) ≡ held (held x + held y)

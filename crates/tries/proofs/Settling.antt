@@ -113,6 +113,7 @@ module _ (levels : ℕ) (rows : List ℕ) (k : ℕ) (g : SettleIn levels rows k)
         priced = priced-here;
         others = λ y c ne hc. elsewhere y c (λ z. ne (omega arith)) hc (decLe y x);
         links = λ c h. here rows' c ∙ st .before (x * ROW + c) (omega arith) ∙ off (x * ROW + c) (λ z. omega arith) ∙ sym (here rows c);
+        spare = λ c lo hi. here rows' c ∙ st .before (x * ROW + c) (omega arith) ∙ off (x * ROW + c) (λ z. omega arith) ∙ sym (here rows c);
         costs-above = λ r h l. here rows' (COST + r) ∙ st .costs-above r h l ∙ off (x * ROW + (COST + r)) (λ z. omega arith) ∙ sym (here rows (COST + r));
         strides-above = λ r h l. here rows' (STRIDE + r) ∙ st .strides-above r h l ∙ off (x * ROW + (STRIDE + r)) (λ z. omega arith) ∙ sym (here rows (STRIDE + r));
       }

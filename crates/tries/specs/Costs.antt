@@ -113,6 +113,7 @@ pub record Settled (levels : ℕ) (rows : List ℕ) (k : ℕ) (rows' : List ℕ)
   pub priced : (a b : Trie) (p q : ℕ) → Costed levels rows (ask rows k 0) a → Costed levels rows (ask rows k 1) b → Priced levels rows' k (node p a q b)
   pub others : (y c : ℕ) → (y + 1 ≡ k → ⊥) → c < ROW → col rows' y c ≡ col rows y c
   pub links : (c : ℕ) → c < DEPTH → ask rows' k c ≡ ask rows k c
+  pub spare : (c : ℕ) → DEPTH < c → c < COST → ask rows' k c ≡ ask rows k c
   pub costs-above : (r : ℕ) → levels ≤ r → r < LEVELS → ask rows' k (COST + r) ≡ ask rows k (COST + r)
   pub strides-above : (r : ℕ) → levels ≤ r → r < LEVELS → ask rows' k (STRIDE + r) ≡ ask rows k (STRIDE + r)
 

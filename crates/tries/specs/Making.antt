@@ -10,8 +10,8 @@ use Rattle.table.specs.Table.{at}
 use Rattle.strides.specs.Trie.{size}
 use Rattle.strides.specs.Entries.{trieOf}
 use Rattle.walk.specs.Limits.{WIDTH}
-use Rattle.tries.specs.Scratch.{ROW}
-use Rattle.tries.specs.Trees.{Tree, shape, linkOf, rowAt, Stand, Apart, Under, addEntry, treeOf}
+use Rattle.tries.specs.Scratch.{DEPTH, ROW}
+use Rattle.tries.specs.Trees.{Tree, shape, linkOf, rowAt, col, Stand, Apart, Under, addEntry, treeOf}
 
 -- a table's prefixes, as far as its trie goes by them: they may repeat
 pub record Prefixes (W : ℕ) (vs ls : List ℕ) : Type 0 where
@@ -21,12 +21,13 @@ pub record Prefixes (W : ℕ) (vs ls : List ℕ) : Type 0 where
   pub prefix : (i : ℕ) → i < length vs → IsPrefix W (at vs i) (at ls i)
   pub rises : (i : ℕ) → suc i < length vs → Rises (at vs i) (at ls i) (at vs (suc i)) (at ls (suc i))
 
--- t stands in the first rows, the root at row 0, and what comes after is 0
+-- t stands in the first rows, the root at row 0; the columns from the depth on are 0, and so is what comes after
 pub record InRows (rows : List ℕ) (t : Tree) : Type 0 where
   pub stand : Stand rows t
   pub apart : Apart t
   pub under : Under (size (shape t)) t
   pub rooted : rowAt 0 t ≡ 0
+  pub bare : (y c : ℕ) → DEPTH ≤ c → c < ROW → col rows y c ≡ 0
   pub blank : (i : ℕ) → size (shape t) * ROW ≤ i → getD rows i 0 ≡ 0
 
 -- one entry more: the first l bits of v, with the mark h
