@@ -37,12 +37,12 @@ use Rattle.layout.specs.Blocks.{Strides, strideOf, rowCount}
 use Rattle.layout.specs.Built.{tableTrie, tableFloor, Laid}
 use Rattle.tries.specs.Filling.{Trunk, Room, LayAsks, LayGives, Lays, CanLay}
 use Rattle.tries.specs.Costs.{held}
-use Rattle.tries.specs.Levels.{padded}
+use Rattle.tries.specs.FixedChoice.{padded}
 use Rattle.tries.specs.Chooser.{chooseTests, ifAccepted, PlanIn, Planned}
 use Rattle.tries.specs.Build.{roomTest, buildTests, NoRecord, Keeps, RowsAre, RowsBuilt, BuildIs, Builds}
 use Rattle.layout.proofs.Cost.{count-cost}
 use Rattle.tries.proofs.Laying.{lays-built}
-use Rattle.tries.proofs.Leveling.{padded-read}
+use Rattle.tries.proofs.FixedChoice.{padded-read}
 use Rattle.tries.proofs.Choosing.{numbered-choose, accepted-plan, accepted-levels, below-cap, plan-depth-width}
 
 -- ---- the floor: an entry of length 0 can only be the first

@@ -23,12 +23,12 @@ use Rattle.table.proofs.Refusals.{outcome-fails, outcome-passes, outcome-append
 use Rattle.table.proofs.Table.{width-is, accepted-table, entries-rise}
 use Rattle.table.proofs.Numbered.{Numbered, numbered-append, numbered-lists}
 use Rattle.strides.specs.Trie.{Trie, none, node, bit, depth, size, nodesAt}
-use Rattle.strides.specs.Entries.{trieOf}
+use Rattle.strides.specs.Entries.{trieOf, longestLength}
 use Rattle.strides.specs.Insertion.{nodeCount}
 use Rattle.strides.specs.Cheapest.{Kind, fixed, variable, Cheapest, Named}
 use Rattle.strides.specs.Recurrence.{plain, atCap, optBy, pickBy, pickFixedBy, leastBy, stridesBy, fixedStrides}
 use Rattle.strides.specs.Strides.{variableStride, fixedStride, chosenBy}
-use Rattle.strides.proofs.Insertion.{trie-depth-width}
+use Rattle.strides.proofs.Insertion.{trie-depth, trie-depth-width, nodes-entries}
 use Rattle.strides.proofs.Counting.{node-count}
 use Rattle.strides.proofs.Strides.{pick-variable}
 use Rattle.strides.proofs.Cheapest.{least-cheapest, strides-named, cheapest-unique, named-unique}
@@ -40,11 +40,13 @@ use Rattle.layout.specs.Built.{tableTrie}
 use Rattle.tries.specs.Trees.{Tree, nil, fork, shape, linkOf, Stand, Has, lt, rt, lmark, rmark, rowAt, next, side, setSide, setMark, insertR, addEntry, treeOf}
 use Rattle.tries.specs.Making.{Prefixes, InRows, MakeIn, MakeOut}
 use Rattle.tries.specs.Costs.{held, Priced, Costed, AllPriced, TreeIn, TreeOut, TreeAsk, TreeDone}
-use Rattle.tries.specs.Levels.{padded, FixedOut}
+use Rattle.tries.specs.LevelCounts.{Linked}
+use Rattle.tries.specs.FixedChoice.{padded, FixedIn, FixedOut}
 use Rattle.tries.proofs.Zeroes.{zeros-read}
 use Rattle.tries.proofs.Making.{tree-shape}
 use Rattle.tries.proofs.Settling.{ask-col, tree-costed}
-use Rattle.tries.proofs.Leveling.{padded-read, padded-length, list-head}
+use Rattle.tries.proofs.LevelCounts.{tree-linked}
+use Rattle.tries.proofs.FixedChoice.{padded-read, padded-length, list-head}
 use Rattle.tries.specs.Chooser.{levelsTest, scratchTest, chooseTests, ifAccepted, ChosenIs, Chooses, PlanIn, Planned}
 
 -- ---- the tests
@@ -352,10 +354,20 @@ module _ (W k : ℕ) (vs ls hs scratch : List ℕ) (g : PlanIn W k vs ls hs scra
     for-trie σ rows' plan s =
         subst (Stands σ rows' plan root) tree-trie (subst (λ (x : ℕ). Stands σ rows' plan x (shape tree)) (sym (m .link)) s)
 
-    pub plan-fixed : (cost : ℕ) (strides : List ℕ) → FixedOut W vs ls k cost strides → Planned fixed W k vs ls hs cost strides strides root rows
+    pub fixed-in : (deep : ℕ) → deep ≡ longestLength (at ls) (length ls) → FixedIn rows root deep k trie
+    fixed-in deep e = record {
+      linked = subst (Linked rows root) tree-trie (subst (λ (x : ℕ). Linked rows x (shape tree)) (sym (m .link)) (tree-linked rows tree (m .laid .stand) rows-fit));
+      depths = e ∙ ap (longestLength (at ls)) (g .table .lengths) ∙ sym (trie-depth W (at vs) (at ls) (at hs) (length vs) (plan-prefixes .prefix));
+      short = plan-depth;
+      few = λ j. omega (arith, nodes-entries W (at vs) (at ls) (at hs) (length vs) j (plan-prefixes .prefix), g .table .few);
+      within = g .levels;
+    }
+
+    pub plan-fixed : (deep cost : ℕ) (strides : List ℕ) → deep ≡ longestLength (at ls) (length ls) → FixedOut rows root deep k cost strides
+        → Planned fixed W k vs ls hs cost strides strides root rows
     unfolding chosenBy fixedStride stridesBy
-    plan-fixed cost strides f =
-        let o = f (at hs) in
+    plan-fixed deep cost strides d f =
+        let o = f trie (fixed-in deep d) in
         let b = below-cap fixed in
         let h = strides-capped COST-CAP fixed k trie (g .levels .0) b in
         let plan = take k strides in

@@ -36,7 +36,7 @@ use Rattle.walk.specs.Rows.{Lists, shortest, rowAt}
 use Rattle.walk.specs.Answers.{numberOf, hopOf, readsOf, latest}
 use Rattle.walk.specs.Lookup.{pathRows, lookupOf}
 use Rattle.walk.specs.Meaning.{OnPath, Tested, Looked, refused, accepted}
-use Rattle.tries.specs.Levels.{padded}
+use Rattle.tries.specs.FixedChoice.{padded}
 use Rattle.layout.specs.Blocks.{rowsAlong}
 use Rattle.layout.specs.Built.{tableTrie, NoMatch, Longest}
 use Rattle.tries.specs.Chooser.{chooseTests, Chooses}

@@ -1,389 +1,261 @@
--- The nodes of each level from the table's neighbours; and the fixed strides, from the last level up.
-use mathlib.Core.Path.{_≡_, refl, ap, ap₂, sym, subst, _∙_, fun-ext}
-use mathlib.Core.List.{List, [], _∷_}
-use mathlib.Core.Logic.{_⊎_, inl, inr, ⊎-elim}
-use Prim.Native.Nat.{ℕ, zero, suc, pred, max, _+_, _-_, _*_, _^_, _≤_, _<_}
-use native.Mathlib.Nat.{le-refl, add-zero, zero-add, sub-zero}
-use native.Mathlib.Decide.{decLe}
-use native.Mathlib.Numerals.{add-one}
+-- Writing the blocks of a level: nothing where no trie stands; a block here, or the blocks below it; else the two sides, left
+-- first. Then all levels, one after the other.
+use Prim.Native.Nat.{ℕ, suc, pred, _+_, _-_, _*_, _^_, _≤_, _<_}
+use mathlib.Core.Path.{_≡_, refl, sym, ap, _∙_}
+use mathlib.Core.Logic.{⊎-elim}
+use mathlib.Core.List.{List}
 use native.Mathlib.Omega.{arith}
-use lib.ListN.{length, getD, set, take, drop, length-set, length-drop, replicate}
-use lib.Seq.{getD-set-same, getD-set-other, getD-drop, take-all, ext-getD}
-use Rattle.table.specs.Prefix.{start, IsPrefix}
-use Rattle.table.specs.Entry.{Rises}
-use Rattle.table.specs.Table.{at}
-use Rattle.strides.specs.Trie.{Trie, none, node, kid, markOn, bit, depth, size, sumBy, nodesAt}
-use Rattle.strides.specs.Entries.{trieOf, longestLength}
-use Rattle.strides.specs.Insertion.{insertT, place, markFor, met, newNodes}
-use Rattle.strides.specs.Recurrence.{scan, withFirstFixed, fixBy, pickFixedBy, listBy, leastBy, stridesBy, fixedStrides}
-use Rattle.strides.proofs.Scan.{found}
-use Rattle.strides.proofs.Insertion.{trie-insert, trie-empty, insert-size, met-none, met-within, trie-depth, trie-depth-width}
-use Rattle.strides.proofs.Sums.{nodes-deep}
-use Rattle.strides.proofs.Counting.{new-nodes}
+use native.Mathlib.Numerals.{add-one}
+use lib.ListN.{length}
+use Rattle.strides.specs.Trie.{Trie, none, left, right}
 use Rattle.walk.specs.Limits.{WIDTH, LEVELS}
-use Rattle.tries.specs.Limits.{ENTRIES}
-use Rattle.tries.specs.Costs.{held, slot, price, bestCost, bestStride}
-use Rattle.tries.specs.Making.{Prefixes}
-use Rattle.tries.specs.Levels.{within, levelCount, LEVEL-CELLS, Filled, RowFilled, padded, StridesFilled, Reading, FixedOut}
-use Rattle.tries.proofs.Zeroes.{zeros-read}
-use Rattle.tries.proofs.Gathering.{same?}
-use Rattle.tries.proofs.Pricing.{scan-same}
+use Rattle.tries.specs.Limits.{ELEMENTS}
+use Rattle.walk.specs.Rows.{Row, Lists, shortest, rowAt}
+use Rattle.tries.specs.Scratch.{ROW, ask, strideAt}
+use Rattle.layout.specs.Blocks.{Strides, wide, rowBelow, listOf, blockRows, levelRows, firstRow, levelsRows, rowsOf, rowCount, Hold}
+use Rattle.tries.specs.Filling.{FillAsks, FillGives, LevelAsks, LevelGives, LayAsks, LayGives}
+use Rattle.layout.proofs.Blocks.{hold-append, hold-all, hold-kept, level-length, wide-sides, level-sides, wide-own, level-own, wide-below, level-below, first-next, first-le, levels-length}
+use Rattle.tries.proofs.Standing.{zero?, trunk-fits, trunk-none, trunk-some, trunk-width, trunk-left, trunk-right, trunk-child, trunk-level, trunk-stride, trunk-below}
+use Rattle.tries.proofs.Filling.{room-kept}
 
--- ---- a run of levels
+-- ---- no trie
+none-gives : (σ : Strides) (c n r base free : ℕ) (ls : Lists) → LevelGives σ none c n r base free ls base free ls
+unfolding wide levelRows
+none-gives σ c n r base free ls =
+    record { end = omega arith; next = omega arith; wrote = tt; before = λ i h. refl; after = λ i h. refl }
 
-pub within-same : (a i : ℕ) → within a a i ≡ 0
-unfolding within
-within-same zero i = refl
-within-same (suc a) zero = refl
-within-same (suc a) (suc i) = within-same a i
+pub nothing-gives : {σ : Strides} {t : Trie} {rows plan : List ℕ} {k w c n r base free : ℕ} {ls : Lists} → k ≡ 0
+    → LevelAsks σ t rows plan k w c n r base free ls → LevelGives σ t c n r base free ls base free ls
+nothing-gives {σ} {c = c} {n = n} {r = r} {base = base} {free = free} {ls = ls} z g = rw (trunk-none (g .trunk) z) (none-gives σ c n r base free ls)
 
-within-own : (a j : ℕ) → a ≤ j → within a (suc j) j ≡ 1
-unfolding within
-within-own zero zero h = refl
-within-own zero (suc j) h = within-own zero j (omega arith)
-within-own (suc a) zero h = absurd (omega arith)
-within-own (suc a) (suc j) h = within-own a j (omega arith)
+-- ---- a block begins here
+pub at-block : {σ : Strides} {t : Trie} {rows plan : List ℕ} {k w c n r base free : ℕ} {ls : Lists} → c ≡ 0
+    → LevelAsks σ t rows plan k w c n r base free ls → LevelAsks σ t rows plan k w 0 n r base free ls
+at-block e g = rw e at g
 
-within-end : (a j : ℕ) → within a j j ≡ 0
-unfolding within
-within-end a zero = refl
-within-end zero (suc j) = within-end zero j
-within-end (suc a) (suc j) = within-end a j
+pub from-block : {σ : Strides} {t : Trie} {c n r base free base′ free′ : ℕ} {ls ls′ : Lists} → c ≡ 0
+    → LevelGives σ t 0 n r base free ls base′ free′ ls′ → LevelGives σ t c n r base free ls base′ free′ ls′
+from-block e o = rw e o
 
-within-off : (a j i : ℕ) → (i ≡ j → ⊥) → within a (suc j) i ≡ within a j i
-unfolding within
-within-off zero zero zero ne = absurd (ne refl)
-within-off zero zero (suc i) ne = refl
-within-off zero (suc j) zero ne = refl
-within-off zero (suc j) (suc i) ne = within-off zero j i (λ e. ne (ap suc e))
-within-off (suc a) zero zero ne = refl
-within-off (suc a) zero (suc i) ne = refl
-within-off (suc a) (suc j) zero ne = refl
-within-off (suc a) (suc j) (suc i) ne = within-off a j i (λ e. ne (ap suc e))
+-- it is of the level asked for
+pub at-own : {σ : Strides} {t : Trie} {rows plan : List ℕ} {k w n r base free : ℕ} {ls : Lists} → n ≡ 0
+    → LevelAsks σ t rows plan k w 0 n r base free ls → LevelAsks σ t rows plan k w 0 0 r base free ls
+at-own e g = rw e at g
 
-pub within-one : (a b i : ℕ) → within a b i ≤ 1
-unfolding within
-within-one a zero i = omega arith
-within-one zero (suc b) zero = omega arith
-within-one zero (suc b) (suc i) = within-one zero b i
-within-one (suc a) (suc b) zero = omega arith
-within-one (suc a) (suc b) (suc i) = within-one a b i
+pub from-own : {σ : Strides} {t : Trie} {n r base free base′ free′ : ℕ} {ls ls′ : Lists} → n ≡ 0
+    → LevelGives σ t 0 0 r base free ls base′ free′ ls′ → LevelGives σ t 0 n r base free ls base′ free′ ls′
+from-own e o = rw e o
 
--- one level more in the run
-pub run-next : (counts counts1 : List ℕ) (a j : ℕ) → length counts1 ≡ WIDTH → j < WIDTH → a ≤ j
-    → ((i : ℕ) → i < WIDTH → getD counts1 i 0 ≡ getD counts i 0 + within a j i)
-    → (i : ℕ) → i < WIDTH → getD (set counts1 j (getD counts1 j 0 + 1)) i 0 ≡ getD counts i 0 + within a (j + 1) i
-run-next counts counts1 a j len hj ha inv i hi =
-    rw (add-one j)
-    (⊎-elim
-    (λ (z : i ≡ j). rw z (getD-set-same counts1 j (getD counts1 j 0 + 1) 0 (omega arith) ∙ omega (arith, inv j hj, within-own a j ha, within-end a j)))
-    (λ (z : i ≡ j → ⊥). getD-set-other counts1 j i (getD counts1 j 0 + 1) 0 z ∙ omega (arith, inv i hi, within-off a j i z)) (same? i j))
+pub record BlockBounds (rows plan : List ℕ) (k r base : ℕ) : Type 0 where
+  pub fits : k * ROW ≤ length rows
+  pub level : 0 < r
+  pub levels : r ≤ length plan
+  pub planned : length plan ≤ LEVELS
+  pub own : base ≤ ELEMENTS
+  pub stride : strideAt rows plan k r ≤ WIDTH
 
--- ---- an entry's new nodes
-
-insert-levels : (l v mark : ℕ) (t : Trie) (j : ℕ) → nodesAt j (insertT l v mark t) ≡ nodesAt j t + within (met l v t) l j
-unfolding insertT met nodesAt sumBy within
-insert-levels zero v mark t j = omega arith
-insert-levels (suc l) v mark none j = go (bit l v) j (insert-levels l v mark none)
-  where
-    go : (i j : ℕ) → ((j : ℕ) → nodesAt j (insertT l v mark none) ≡ nodesAt j none + within (met l v none) l j)
-        → nodesAt j (place i (markFor l mark (markOn i none)) (insertT l v mark (kid i none)) none) ≡ 0 + within 0 (suc l) j
-    go zero zero h = refl
-    go (suc i) zero h = refl
-    go zero (suc j) h = omega (arith, h j, ap (λ (m : ℕ). within m l j) (met-none l v))
-    go (suc i) (suc j) h = omega (arith, h j, ap (λ (m : ℕ). within m l j) (met-none l v))
-insert-levels (suc l) v mark (node p a q b) j = go (bit l v) j (insert-levels l v mark a) (insert-levels l v mark b)
-  where
-    t : Trie
-    t = node p a q b
-
-    go : (i j : ℕ) → ((j : ℕ) → nodesAt j (insertT l v mark a) ≡ nodesAt j a + within (met l v a) l j)
-        → ((j : ℕ) → nodesAt j (insertT l v mark b) ≡ nodesAt j b + within (met l v b) l j)
-        → nodesAt j (place i (markFor l mark (markOn i t)) (insertT l v mark (kid i t)) t) ≡ nodesAt j t + within (suc (met l v (kid i t))) (suc l) j
-    go zero zero h g = refl
-    go (suc i) zero h g = refl
-    go zero (suc j) h g = omega (arith, h j)
-    go (suc i) (suc j) h g = omega (arith, g j)
-
-module _ (W : ℕ) (val len : ℕ → ℕ) (n : ℕ)
-    (prefix : (i : ℕ) → i < n → IsPrefix W (val i) (len i))
-    (rises : (i : ℕ) → suc i < n → Rises (val i) (len i) (val (suc i)) (len (suc i))) (mark : ℕ → ℕ) where
-  met-new : (i : ℕ) → i < n → met (len i) (start W (len i) (val i)) (trieOf W val len mark i) ≡ len i - newNodes W val len i
-  met-new i h =
-      let t = trieOf W val len mark i in
-      let v = start W (len i) (val i) in
-      let e = ap size (trie-insert W val len mark i (λ k l. prefix k (omega arith))) in
-      omega (arith, e, insert-size (len i) v (mark i) t, new-nodes W val len n prefix rises mark i h, met-within (len i) v t)
-
-  -- the count by levels is that of the trie
-  pub levels-counted : (i j : ℕ) → i ≤ n → nodesAt j (trieOf W val len mark i) ≡ levelCount W val len i j
-  unfolding levelCount nodesAt sumBy
-  levels-counted zero j h = ap (λ (t : Trie). nodesAt j t) (trie-empty W val len mark)
-  levels-counted (suc i) j h =
-      let t = trieOf W val len mark i in
-      let v = start W (len i) (val i) in
-      let e = ap (λ (u : Trie). nodesAt j u) (trie-insert W val len mark i (λ k l. prefix k (omega arith))) in
-      omega (arith, e, insert-levels (len i) v (mark i) t j, ap (λ (m : ℕ). within m (len i) j) (met-new i h), levels-counted i j (omega arith))
-
-pub level-next : (W : ℕ) (val len : ℕ → ℕ) (i j : ℕ) → levelCount W val len (i + 1) j ≡ levelCount W val len i j + within (len i - newNodes W val len i) (len i) j
-unfolding levelCount
-level-next W val len i j = rw (add-one i)
-
-pub level-small : (W : ℕ) (val len : ℕ → ℕ) (i j : ℕ) → levelCount W val len i j ≤ i
-unfolding levelCount
-level-small W val len zero j = omega arith
-level-small W val len (suc i) j = omega (arith, level-small W val len i j, within-one (len i - newNodes W val len i) (len i) j)
-
-pub longest-next : (len : ℕ → ℕ) (i : ℕ) → longestLength len (i + 1) ≡ max (len i) (longestLength len i)
-unfolding longestLength
-longest-next len i = rw (add-one i)
-
--- ---- one level of the table of fixed strides
-
-module _ (n d i : ℕ) (costs strides sums : List ℕ) where
-  pub row-start : RowFilled 0 n d i costs strides costs strides sums
-  row-start = record {
-    long-costs = refl;
-    long-strides = refl;
-    cost = λ r h. absurd (omega arith);
-    stride = λ r h. absurd (omega arith);
-    costs-below = λ x h. refl;
-    strides-below = λ x h. refl;
+module _ {σ : Strides} {t : Trie} {rows plan : List ℕ} {k w n r base free : ℕ} {ls : Lists}
+    (g : LevelAsks σ t rows plan k w 0 n r base free ls) (some : 0 < k) where
+  pub block-bounds : BlockBounds rows plan k r base
+  block-bounds = record {
+    fits = trunk-fits (g .trunk);
+    level = trunk-level (g .trunk) some;
+    levels = g .trunk .levels;
+    planned = g .trunk .planned;
+    own = omega (arith, g .own, g .room .few);
+    stride = trunk-child (g .trunk) .small;
   }
 
-  pub row-next : (costs1 strides1 : List ℕ) (m c s : ℕ) → m < LEVELS → (i + 1) * LEVELS ≤ length costs → (i + 1) * LEVELS ≤ length strides → RowFilled m n d i costs strides costs1 strides1 sums
-      → c ≡ bestCost sums n d m → s ≡ bestStride sums n d m → RowFilled (m + 1) n d i costs strides (set costs1 (i * LEVELS + m) c) (set strides1 (i * LEVELS + m) s) sums
-  row-next costs1 strides1 m c s hm fc fs a ec es =
-      let at = i * LEVELS + m in
-      let cost-off : (x : ℕ) → (x ≡ at → ⊥) → getD (set costs1 at c) x 0 ≡ getD costs1 x 0 = λ x ne. getD-set-other costs1 at x c 0 ne in
-      let stride-off : (x : ℕ) → (x ≡ at → ⊥) → getD (set strides1 at s) x 0 ≡ getD strides1 x 0 = λ x ne. getD-set-other strides1 at x s 0 ne in
-      record {
-        long-costs = length-set costs1 at c ∙ a .long-costs;
-        long-strides = length-set strides1 at s ∙ a .long-strides;
-        cost = λ r h. ⊎-elim
-            (λ (z : r ≡ m). subst (λ (y : ℕ). slot (set costs1 at c) i y ≡ bestCost sums n d y) (sym z) (getD-set-same costs1 at c 0 (omega (arith, a .long-costs)) ∙ ec))
-            (λ (z : r ≡ m → ⊥). cost-off (i * LEVELS + r) (λ q. omega arith) ∙ a .cost r (omega arith)) (same? r m);
-        stride = λ r h. ⊎-elim
-            (λ (z : r ≡ m). subst (λ (y : ℕ). slot (set strides1 at s) i y ≡ bestStride sums n d y) (sym z) (getD-set-same strides1 at s 0 (omega (arith, a .long-strides)) ∙ es))
-            (λ (z : r ≡ m → ⊥). stride-off (i * LEVELS + r) (λ q. omega arith) ∙ a .stride r (omega arith)) (same? r m);
-        costs-below = λ x h. cost-off x (λ q. omega arith) ∙ a .costs-below x h;
-        strides-below = λ x h. stride-off x (λ q. omega arith) ∙ a .strides-below x h;
-      }
+  -- s is its stride, and d levels are left below it
+  module _ {s d : ℕ} (q : s ≡ strideAt rows plan k r) (e : r ≡ suc d) where
+    is : σ (suc d) t ≡ s
+    is = trunk-stride (g .trunk) some q e .0
 
--- the part of a list from a on
-pub rest-all : (l : List ℕ) (a : ℕ) → take (length l - a) (drop a l) ≡ drop a l
-rest-all l a = take-all (length l - a) (drop a l) (omega (arith, length-drop a l))
+    pub stride-positive : 0 < s
+    stride-positive = trunk-stride (g .trunk) some q e .1
 
--- what is chosen there is what the recurrence says
-module _ (nodes : ℕ → ℕ) (levels i n : ℕ) (sums : List ℕ)
-    (sum : (j q : ℕ) → j ≤ n → q < levels → slot sums j q ≡ fixBy held nodes q (i + suc j) (n - j)) where
-  price-fixed : (q : ℕ) → q < levels → (j : ℕ) → j ≤ n → price sums (nodes i) q j ≡ withFirstFixed held (fixBy held nodes q) nodes i n j
-  unfolding price withFirstFixed
-  price-fixed q l j h = ap (λ (x : ℕ). held (nodes i * held (2 ^ suc j) + x)) (sum j q h l)
+    positive : s ≡ suc (pred s)
+    positive = omega (arith, stride-positive)
 
-  fixed-cost : (r : ℕ) → r < levels → bestCost sums (nodes i) (suc n) r ≡ fixBy held nodes r i (suc n)
-  unfolding bestCost fixBy
-  fixed-cost zero l = refl
-  fixed-cost (suc m) l = ap (λ (x : ℕ × ℕ). x .1) (scan-same (price sums (nodes i) m) (withFirstFixed held (fixBy held nodes m) nodes i n) n (price-fixed m (omega arith)))
+    wide-down : (m : ℕ) → wide σ t 0 (suc m) r ≡ wide σ t s m d
+    wide-down m =
+        ap (λ (v : ℕ). wide σ t 0 (suc m) v) e ∙ wide-below σ t m d (pred s) (is ∙ positive) ∙ ap (λ (v : ℕ). wide σ t v m d) (sym positive)
 
-  fixed-stride : (r : ℕ) → r < levels → bestStride sums (nodes i) (suc n) r ≡ pickFixedBy held nodes r i (suc n)
-  unfolding bestStride pickFixedBy
-  fixed-stride zero l = refl
-  fixed-stride (suc m) l = ap (λ (x : ℕ × ℕ). suc (x .0)) (scan-same (price sums (nodes i) m) (withFirstFixed held (fixBy held nodes m) nodes i n) n (price-fixed m (omega arith)))
+    rows-down : (m f : ℕ) → levelRows σ t 0 (suc m) r f ≡ levelRows σ t s m d f
+    rows-down m f =
+        ap (λ (v : ℕ). levelRows σ t 0 (suc m) v f) e ∙ level-below σ t m d f (pred s) (is ∙ positive)
+        ∙ ap (λ (v : ℕ). levelRows σ t v m d f) (sym positive)
 
-fix-none : (nodes : ℕ → ℕ) (r j : ℕ) → fixBy held nodes r j 0 ≡ 0
-unfolding fixBy
-fix-none nodes zero j = refl
-fix-none nodes (suc r) j = refl
+    wide-here : wide σ t 0 0 r ≡ 2 ^ s
+    wide-here = ap (λ (v : ℕ). wide σ t 0 0 v) e ∙ wide-own σ t d (trunk-some (g .trunk) some) ∙ ap (λ (v : ℕ). 2 ^ v) is
 
-pick-none : (nodes : ℕ → ℕ) (r j : ℕ) → pickFixedBy held nodes r j 0 ≡ 0
-unfolding pickFixedBy
-pick-none nodes zero j = refl
-pick-none nodes (suc r) j = refl
+    rows-here : (f : ℕ) → levelRows σ t 0 0 r f ≡ listOf (2 ^ s) (rowBelow σ s d t 0 f)
+    unfolding blockRows
+    rows-here f =
+        ap (λ (v : ℕ). levelRows σ t 0 0 v f) e ∙ level-own σ t d f (trunk-some (g .trunk) some)
+        ∙ ap (λ (v : ℕ). listOf (2 ^ v) (rowBelow σ v d t 0 f)) is
 
-pub filled-start : (nodes : ℕ → ℕ) (levels depth : ℕ) (costs strides : List ℕ) → length costs ≡ LEVEL-CELLS → length strides ≡ LEVEL-CELLS
-    → ((x : ℕ) → getD costs x 0 ≡ 0) → ((x : ℕ) → getD strides x 0 ≡ 0) → Filled nodes levels depth depth costs strides
-filled-start nodes levels depth costs strides lc ls zc zs = record {
-  long-costs = lc;
-  long-strides = ls;
-  cost = λ j r h g l. let e : depth - j ≡ 0 = omega arith in rw e (zc (j * LEVELS + r) ∙ sym (fix-none nodes r j));
-  stride = λ j r h g l. let e : depth - j ≡ 0 = omega arith in rw e (zs (j * LEVELS + r) ∙ sym (pick-none nodes r j));
-}
-
-pub filled-next : (nodes : ℕ → ℕ) (levels depth i : ℕ) (costs strides costs' strides' : List ℕ) → levels ≤ LEVELS → i < depth
-    → Filled nodes levels depth (i + 1) costs strides → RowFilled levels (nodes i) (depth - i) i costs strides costs' strides' (drop ((i + 1) * LEVELS) costs)
-    → Filled nodes levels depth i costs' strides'
-filled-next nodes levels depth i costs strides costs' strides' few h f a = record {
-  long-costs = a .long-costs ∙ f .long-costs;
-  long-strides = a .long-strides ∙ f .long-strides;
-  cost = λ j r p q l. ⊎-elim
-      (λ (z : j ≡ i). subst (λ (y : ℕ). slot costs' y r ≡ fixBy held nodes r y (depth - y)) (sym z) (own-cost r l))
-      (λ (z : j ≡ i → ⊥). a .costs-below (j * LEVELS + r) (omega arith) ∙ f .cost j r (omega arith) q l) (same? j i);
-  stride = λ j r p q l. ⊎-elim
-      (λ (z : j ≡ i). subst (λ (y : ℕ). slot strides' y r ≡ pickFixedBy held nodes r y (depth - y)) (sym z) (own-stride r l))
-      (λ (z : j ≡ i → ⊥). a .strides-below (j * LEVELS + r) (omega arith) ∙ f .stride j r (omega arith) q l) (same? j i);
-}
-  where
-    n : ℕ
-    n = depth - i - 1
-
-    sums : (j q : ℕ) → j ≤ depth - i - 1 → q < levels → slot (drop ((i + 1) * LEVELS) costs) j q ≡ fixBy held nodes q (i + suc j) (depth - i - 1 - j)
-    sums j q p l =
-        let e : (i + 1) * LEVELS + (j * LEVELS + q) ≡ (i + suc j) * LEVELS + q = omega arith in
-        let g : depth - (i + suc j) ≡ depth - i - 1 - j = omega arith in
-        getD-drop ((i + 1) * LEVELS) costs (j * LEVELS + q) 0 ∙ ap (λ (x : ℕ). getD costs x 0) e
-        ∙ f .cost (i + suc j) q (omega arith) (omega arith) l ∙ ap (λ (x : ℕ). fixBy held nodes q (i + suc j) x) g
-
-    own-cost : (r : ℕ) → r < levels → slot costs' i r ≡ fixBy held nodes r i (depth - i)
-    own-cost r l =
-        let e : depth - i ≡ suc (depth - i - 1) = omega arith in
-        rw e (rw e at (a .cost r l) ∙ fixed-cost nodes levels i (depth - i - 1) (drop ((i + 1) * LEVELS) costs) sums r l)
-
-    own-stride : (r : ℕ) → r < levels → slot strides' i r ≡ pickFixedBy held nodes r i (depth - i)
-    own-stride r l =
-        let e : depth - i ≡ suc (depth - i - 1) = omega arith in
-        rw e (rw e at (a .stride r l) ∙ fixed-stride nodes levels i (depth - i - 1) (drop ((i + 1) * LEVELS) costs) sums r l)
-
--- ---- the list of strides
-
-pub pick-within : (nodes : ℕ → ℕ) (m i n : ℕ) → pickFixedBy held nodes m i n ≤ n
-unfolding pickFixedBy
-pick-within nodes zero i n = le-refl n
-pick-within nodes (suc m) i zero = le-refl 0
-pick-within nodes (suc m) i (suc n) = omega (arith, found (withFirstFixed held (fixBy held nodes m) nodes i n) n .within)
-
-pub list-head : (nodes : ℕ → ℕ) (m i n : ℕ) → getD (listBy held nodes m i n) 0 0 ≡ pickFixedBy held nodes m i n
-unfolding listBy pickFixedBy
-list-head nodes zero i zero = refl
-list-head nodes zero i (suc n) = refl
-list-head nodes (suc m) i zero = refl
-list-head nodes (suc m) i (suc n) = refl
-
-list-tail : (nodes : ℕ → ℕ) (m i n x : ℕ)
-    → getD (listBy held nodes (suc m) i n) (suc x) 0 ≡ getD (listBy held nodes m (i + pickFixedBy held nodes (suc m) i n) (n - pickFixedBy held nodes (suc m) i n)) x 0
-unfolding listBy
-list-tail nodes m i zero x =
-    let e = pick-none nodes (suc m) i in
-    let none-left : getD (listBy held nodes m i 0) x 0 ≡ 0 = empty m in
-    rw (e, add-zero, sub-zero) (sym none-left)
-  where
-    empty : (m : ℕ) → getD (listBy held nodes m i 0) x 0 ≡ 0
-    empty zero = refl
-    empty (suc m) = refl
-list-tail nodes m i (suc n) x = refl
-
-list-end : (nodes : ℕ → ℕ) (i n x : ℕ) → getD (listBy held nodes 0 i n) (suc x) 0 ≡ 0
-unfolding listBy
-list-end nodes i zero x = refl
-list-end nodes i (suc n) x = refl
-
-pub reading-start : (nodes : ℕ → ℕ) (levels depth : ℕ) → 1 ≤ levels → Reading nodes levels depth 0 0 (replicate LEVELS 0)
-reading-start nodes levels depth h = record {
-  done = λ x l. absurd (omega arith);
-  blank = λ x l. zeros-read LEVELS x;
-  rest = λ l x. let e : levels - 1 - 0 ≡ levels - 1 = omega arith in rw (zero-add, e, sub-zero);
-  end = λ e x. absurd (omega arith);
-}
-
-pub reading-next : (nodes : ℕ → ℕ) (levels depth i p s : ℕ) (list : List ℕ) → p < levels → levels ≤ length list → Reading nodes levels depth i p list
-    → s ≡ pickFixedBy held nodes (levels - 1 - p) i (depth - i) → Reading nodes levels depth (i + s) (p + 1) (set list p s)
-reading-next nodes levels depth i p s list h len g e =
-    let L = listBy held nodes (levels - 1) 0 depth in
-    let here : getD L p 0 ≡ s = ap (λ (y : ℕ). getD L y 0) (sym (add-zero p)) ∙ g .rest h 0 ∙ list-head nodes (levels - 1 - p) i (depth - i) ∙ sym e in
-    let after : (x : ℕ) → p + 1 + x ≡ p + suc x = λ x. omega arith in
-    record {
-      done = λ x l. ⊎-elim
-          (λ (z : x ≡ p). subst (λ (y : ℕ). getD (set list p s) y 0 ≡ getD L y 0) (sym z) (getD-set-same list p s 0 (omega arith) ∙ sym here))
-          (λ (z : x ≡ p → ⊥). getD-set-other list p x s 0 z ∙ g .done x (omega arith)) (same? x p);
-      blank = λ x l. getD-set-other list p x s 0 (λ z. omega arith) ∙ g .blank x (omega arith);
-      rest = λ l x.
-          let m : levels - 1 - p ≡ suc (levels - 1 - (p + 1)) = omega arith in
-          let d : depth - (i + s) ≡ depth - i - s = omega arith in
-          ap (λ (y : ℕ). getD L y 0) (after x) ∙ g .rest h (suc x)
-          ∙ rw (d, e, m) (list-tail nodes (levels - 1 - (p + 1)) i (depth - i) x);
-      end = λ q x.
-          let m : levels - 1 - p ≡ 0 = omega arith in
-          ap (λ (y : ℕ). getD L y 0) (after x) ∙ g .rest h (suc x) ∙ rw m (list-end nodes i (depth - i) x);
+    -- its own rows
+    pub own-asks : n ≡ 0 → FillAsks σ t rows plan k s d base free ls
+    own-asks z = record {
+      w = w;
+      trunk = trunk-below (g .trunk) some q e;
+      short = trunk-stride (g .trunk) some q e .3;
+      e = g .e;
+      own = omega (arith, rw z at (g .own), wide-here);
+      children = omega (arith, rw z at (g .children), wide-down 0);
+      room = g .room;
     }
 
-pub padded-read : (n : ℕ) (ss : List ℕ) (x : ℕ) → x < n → getD (padded n ss) x 0 ≡ getD ss x 0
-unfolding padded
-padded-read zero ss x h = absurd (omega arith)
-padded-read (suc n) [] zero h = refl
-padded-read (suc n) [] (suc x) h = padded-read n [] x (omega arith)
-padded-read (suc n) (s ∷ ss) zero h = refl
-padded-read (suc n) (s ∷ ss) (suc x) h = padded-read n ss x (omega arith)
+    pub own-gives : {p f : ℕ} {ls′ : Lists} → n ≡ 0 → p ≡ 2 ^ s → FillGives σ t s d base 0 free ls f ls′
+        → LevelGives σ t 0 n r base free ls (base + p) f ls′
+    own-gives {ls′ = ls′} z ep o = rw z (record {
+      end = omega (arith, wide-here);
+      next = o .next ∙ ap (λ (v : ℕ). free + v) (sym (wide-down 0));
+      wrote = rw (rows-here free) (hold-all ls′ (2 ^ s) base (rowBelow σ s d t 0 free) (o .wrote));
+      before = o .before;
+      after = λ i h. o .after i (omega arith);
+    })
 
-pub padded-length : (n : ℕ) (ss : List ℕ) → length (padded n ss) ≡ n
-unfolding padded
-padded-length zero ss = refl
-padded-length (suc n) [] = ap suc (padded-length n [])
-padded-length (suc n) (s ∷ ss) = ap suc (padded-length n ss)
+    -- the blocks below it
+    pub below-asks : {m : ℕ} → n ≡ suc m → LevelAsks σ t rows plan k w s m d base free ls
+    below-asks {m} en = record {
+      trunk = trunk-below (g .trunk) some q e;
+      e = g .e;
+      own = omega (arith, rw en at (g .own), wide-down m);
+      children = omega (arith, rw en at (g .children), wide-down (suc m));
+      room = g .room;
+    }
 
--- a list of n places that reads as ss does is ss, padded
-pub padded-is : (n : ℕ) (list ss : List ℕ) → length list ≡ n → ((x : ℕ) → x < n → getD list x 0 ≡ getD ss x 0) → list ≡ padded n ss
-padded-is n list ss len e =
-    ext-getD 0 list (padded n ss) (len ∙ sym (padded-length n ss)) (λ x h. e x (omega arith) ∙ sym (padded-read n ss x (omega arith)))
+    pub below-gives : {m base′ f : ℕ} {ls′ : Lists} → n ≡ suc m → LevelGives σ t s m d base free ls base′ f ls′
+        → LevelGives σ t 0 n r base free ls base′ f ls′
+    below-gives {m} en o = rw en (record {
+      end = o .end ∙ ap (λ (v : ℕ). base + v) (sym (wide-down m));
+      next = o .next ∙ ap (λ (v : ℕ). free + v) (sym (wide-down (suc m)));
+      wrote = rw (rows-down m free) (o .wrote);
+      before = o .before;
+      after = o .after;
+    })
 
-pub reading-done : (nodes : ℕ → ℕ) (levels depth i : ℕ) (list : List ℕ) → levels ≤ LEVELS → length list ≡ LEVELS → Reading nodes levels depth i levels list
-    → list ≡ padded LEVELS (listBy held nodes (levels - 1) 0 depth)
-reading-done nodes levels depth i list few len g = padded-is LEVELS list (listBy held nodes (levels - 1) 0 depth) len (λ x h. at x (decLe levels x))
-  where
-    at : (x : ℕ) → Dec (levels ≤ x) → getD list x 0 ≡ getD (listBy held nodes (levels - 1) 0 depth) x 0
-    at x (no q) = g .done x (omega arith)
-    at x (yes q) =
-        let e : levels + (x - levels) ≡ x = omega arith in
-        g .blank x q ∙ sym (g .end refl (x - levels)) ∙ ap (λ (y : ℕ). getD (listBy held nodes (levels - 1) 0 depth) y 0) e
+-- ---- a node between blocks: its two sides
+module _ {σ : Strides} {t : Trie} {rows plan : List ℕ} {k w c n r base free : ℕ} {ls : Lists}
+    (g : LevelAsks σ t rows plan k w c n r base free ls) where
+  pub side-bounds : 0 < k → (k * ROW ≤ length rows) × (0 < w)
+  side-bounds some = (trunk-fits (g .trunk), trunk-width (g .trunk) some)
 
--- ---- the whole fixed choice
+module _ {σ : Strides} {t : Trie} {rows plan : List ℕ} {k w c n r base free : ℕ} {ls : Lists}
+    (g : LevelAsks σ t rows plan k w c n r base free ls) {d : ℕ} (dc : c ≡ suc d) where
+  parts : (m : ℕ) → wide σ t c m r ≡ wide σ (left t) d m r + wide σ (right t) d m r
+  parts m = rw dc (wide-sides σ t d m r)
 
-past-end : (l : List ℕ) (j : ℕ) → length l ≤ j → getD l j 0 ≡ 0
-past-end [] j h = refl
-past-end (x ∷ xs) zero h = absurd (omega arith)
-past-end (x ∷ xs) (suc j) h = past-end xs j (omega arith)
+  pub first-asks : {k0 : ℕ} → k0 ≡ ask rows k 0 → LevelAsks σ (left t) rows plan k0 (w - 1) d n r base free ls
+  first-asks q = record {
+    trunk = trunk-left (g .trunk) dc q;
+    e = g .e;
+    own = omega (arith, g .own, parts n);
+    children = omega (arith, g .children, parts (suc n));
+    room = g .room;
+  }
 
-module _ (W : ℕ) (vs ls : List ℕ) (p : Prefixes W vs ls) (counts : List ℕ) (long : length counts ≡ WIDTH)
-    (count : (j : ℕ) → j < WIDTH → getD counts j 0 ≡ levelCount W (at vs) (at ls) (length vs) j) where
-  pub counts-small : length vs ≤ ENTRIES → (j : ℕ) → getD counts j 0 ≤ ENTRIES
-  counts-small h j = go (decLe WIDTH j)
-    where
-      go : Dec (WIDTH ≤ j) → getD counts j 0 ≤ ENTRIES
-      go (yes q) = omega (arith, past-end counts j (omega arith))
-      go (no q) = omega (arith, count j (omega arith), level-small W (at vs) (at ls) (length vs) j)
+  module _ {base1 f1 : ℕ} {ls1 : Lists} (s : shortest ls1 ≡ shortest ls) (o : LevelGives σ (left t) d n r base free ls base1 f1 ls1) where
+    pub second-asks : {k1 : ℕ} → k1 ≡ ask rows k 1 → LevelAsks σ (right t) rows plan k1 (w - 1) d n r base1 f1 ls1
+    second-asks q = record {
+      trunk = trunk-right (g .trunk) dc q;
+      e = g .e;
+      own = omega (arith, g .own, parts n, o .end);
+      children = omega (arith, g .children, parts (suc n), o .next);
+      room = room-kept s (g .room);
+    }
 
-  module _ (mark : ℕ → ℕ) where
-    abbrev trie : Trie
-    trie = trieOf W (at vs) (at ls) mark (length vs)
-
-    depth-is : depth trie ≡ longestLength (at ls) (length vs)
-    depth-is = trie-depth W (at vs) (at ls) mark (length vs) (p .prefix)
-
-    pub depth-short : depth trie ≤ WIDTH
-    depth-short = omega (arith, trie-depth-width W (at vs) (at ls) mark (length vs) (p .prefix), p .width)
-
-    counts-are : at counts ≡ (λ (j : ℕ). nodesAt j trie)
-    counts-are = fun-ext (λ j. go j (decLe WIDTH j))
+    pub sides-give : {base2 f2 : ℕ} {ls2 : Lists} → LevelGives σ (right t) d n r base1 f1 ls1 base2 f2 ls2
+        → LevelGives σ t c n r base free ls base2 f2 ls2
+    sides-give {ls2 = ls2} u = record {
+      end = omega (arith, parts n, o .end, u .end);
+      next = omega (arith, parts (suc n), o .next, u .next);
+      wrote = rw (dc, level-sides σ t d n r free) (hold-append ls2 base lefts rights kept new);
+      before = λ i h. u .before i (omega (arith, o .end)) ∙ o .before i h;
+      after = λ i h. u .after i h ∙ o .after i (omega (arith, u .end));
+    }
       where
-        go : (j : ℕ) → Dec (WIDTH ≤ j) → getD counts j 0 ≡ nodesAt j trie
-        go j (yes q) = past-end counts j (omega arith) ∙ sym (nodes-deep trie j (omega (arith, depth-short)))
-        go j (no q) = count j (omega arith) ∙ sym (levels-counted W (at vs) (at ls) (length vs) (p .prefix) (p .rises) mark (length vs) j (le-refl (length vs)))
+        lefts : List Row
+        lefts = levelRows σ (left t) d n r free
 
-  pub depth-wide : longestLength (at ls) (length ls) ≤ WIDTH
-  depth-wide = omega (arith, depth-short (λ i. 0), depth-is (λ i. 0), ap (longestLength (at ls)) (p .lengths))
+        rights : List Row
+        rights = levelRows σ (right t) d n r (free + wide σ (left t) d (suc n) r)
 
-  pub fixed-out : (levels d cost : ℕ) (costs strides list : List ℕ) → 1 ≤ levels → d ≡ longestLength (at ls) (length ls) → Filled (at counts) levels d 0 costs strides
-      → cost ≡ getD costs (levels - 1) 0
-      → ((nodes : ℕ → ℕ) → StridesFilled nodes levels d strides → list ≡ padded LEVELS (listBy held nodes (levels - 1) 0 d))
-      → FixedOut W vs ls levels cost list
-  unfolding leastBy stridesBy fixedStrides
-  fixed-out zero d cost costs strides list h e f c l mark = absurd (omega arith)
-  fixed-out (suc m) d cost costs strides list h e f c l mark =
-      let t = trie mark in
-      let dt : d ≡ depth t = e ∙ ap (longestLength (at ls)) (p .lengths) ∙ sym (depth-is mark) in
-      let m1 : suc m - 1 ≡ m = omega arith in
-      let zero-row : slot costs 0 m ≡ getD costs (suc m - 1) 0 = ap (λ (x : ℕ). getD costs x 0) (omega arith) in (
-        c ∙ sym zero-row ∙ f .cost 0 m (omega arith) (omega arith) (omega arith)
-            ∙ ap₂ (λ (ν : ℕ → ℕ) (x : ℕ). fixBy held ν m 0 x) (counts-are mark) (sub-zero d ∙ dt),
-        l (at counts) (λ j r p q. f .stride j r (omega arith) p q)
-            ∙ rw m1 (ap₂ (λ (ν : ℕ → ℕ) (x : ℕ). padded LEVELS (listBy held ν m 0 x)) (counts-are mark) dt),
-      )
+        size : length lefts ≡ wide σ (left t) d n r
+        size = level-length σ (left t) d n r free
+
+        kept : Hold ls2 base lefts
+        kept = hold-kept ls1 ls2 base lefts (λ i p q. u .before i (omega (arith, o .end, size))) (o .wrote)
+
+        new : Hold ls2 (base + length lefts) rights
+        new = let a : base + length lefts ≡ base1 = omega (arith, size, o .end) in rw (a, ← o .next) (u .wrote)
+
+-- ---- all levels
+-- the levels before level n are there, and no row after them was touched
+pub record Done (σ : Strides) (t : Trie) (L : ℕ) (ls : Lists) (base free n : ℕ) (ls′ : Lists) : Type 0 where
+  pub at : base ≡ firstRow σ t L n
+  pub next : free ≡ firstRow σ t L (suc n)
+  pub wrote : Hold ls′ 0 (levelsRows σ t L n)
+  pub after : (i : ℕ) → base ≤ i → rowAt ls′ i ≡ rowAt ls i
+
+levels-hold : (σ : Strides) (t : Trie) (L n : ℕ) (ls : Lists) → Hold ls 0 (levelsRows σ t L n)
+    → Hold ls (firstRow σ t L n) (levelRows σ t 0 n L (firstRow σ t L (suc n))) → Hold ls 0 (levelsRows σ t L (suc n))
+unfolding levelsRows
+levels-hold σ t L n ls a b =
+    let e : 0 + length (levelsRows σ t L n) ≡ firstRow σ t L n = omega (arith, levels-length σ t L n) in
+    hold-append ls 0 (levelsRows σ t L n) (levelRows σ t 0 n L (firstRow σ t L (suc n))) a (rw e b)
+
+pub record LayBounds (rows plan : List ℕ) (k L : ℕ) : Type 0 where
+  pub fits : k * ROW ≤ length rows
+  pub level : 0 < k → 0 < L
+  pub levels : L ≤ length plan
+  pub planned : length plan ≤ LEVELS
+  pub stride : strideAt rows plan k L ≤ WIDTH
+
+module _ {σ : Strides} {t : Trie} {rows plan : List ℕ} {k w L : ℕ} {ls : Lists} (g : LayAsks σ t rows plan k w L ls) where
+  pub lay-bounds : LayBounds rows plan k L
+  lay-bounds = record {
+    fits = trunk-fits (g .trunk);
+    level = trunk-level (g .trunk);
+    levels = g .trunk .levels;
+    planned = g .trunk .planned;
+    stride = trunk-child (g .trunk) .small;
+  }
+
+  -- no level yet; the root's block is the first
+  pub done-none : {s p v : ℕ} → s ≡ strideAt rows plan k L → p ≡ 2 ^ s → (0 < k → v ≡ p) × (k ≡ 0 → v ≡ 0) → Done σ t L ls 0 v 0 ls
+  unfolding firstRow levelsRows
+  done-none {s} {p} {v} es ep ev =
+      let b = trunk-child (g .trunk) in
+      let vw : v ≡ wide σ t 0 0 L =
+      ⊎-elim (λ z. ev .1 z ∙ sym (b .none z .0)) (λ z. ev .0 z ∙ ep ∙ ap (λ (j : ℕ). 2 ^ j) es ∙ sym (b .some z .0)) (zero? k) in
+      record { at = refl; next = omega arith; wrote = tt; after = λ i h. refl }
+
+  module _ {base free n : ℕ} {ls1 : Lists} (s : shortest ls1 ≡ shortest ls) (p : Done σ t L ls base free n ls1) where
+    pub next-asks : LevelAsks σ t rows plan k w 0 n L base free ls1
+    unfolding rowCount
+    next-asks = record {
+      trunk = g .trunk;
+      e = rowCount σ L t;
+      own = omega (arith, p .at, first-next σ t L n, first-le σ t L (suc n));
+      children = omega (arith, p .next, first-next σ t L (suc n), first-le σ t L (suc (suc n)));
+      room = room-kept s (g .room);
+    }
+
+    pub done-more : {base2 free2 : ℕ} {ls2 : Lists} → LevelGives σ t 0 n L base free ls1 base2 free2 ls2
+        → Done σ t L ls base2 free2 (n + 1) ls2
+    done-more {ls2 = ls2} o = rw (add-one n) (record {
+      at = omega (arith, p .at, o .end, first-next σ t L n);
+      next = omega (arith, p .next, o .next, first-next σ t L (suc n));
+      wrote = levels-hold σ t L n ls2 kept (rw (← p .at, ← p .next) (o .wrote));
+      after = λ i h. o .after i h ∙ p .after i (omega (arith, o .end));
+    })
+      where
+        kept : Hold ls2 0 (levelsRows σ t L n)
+        kept = hold-kept ls1 ls2 0 (levelsRows σ t L n) (λ i a b. o .before i (omega (arith, p .at, levels-length σ t L n))) (p .wrote)
+
+    pub done-all : n ≡ L → LayGives σ t L ls base ls1
+    unfolding rowCount rowsOf
+    done-all e = record { count = p .at ∙ ap (firstRow σ t L) e; wrote = rw e at (p .wrote); after = p .after }

@@ -1,6 +1,6 @@
 pub mod Standing
 pub mod Filling
-pub mod Levels
+pub mod Leveling
 pub mod Laying
 pub mod Inserting
 pub mod Zeroes
@@ -9,7 +9,8 @@ pub mod Counts
 pub mod Gathering
 pub mod Pricing
 pub mod Settling
-pub mod Leveling
+pub mod LevelCounts
+pub mod FixedChoice
 pub mod Choosing
 pub mod Builds
 pub mod OneBuild

@@ -18,7 +18,7 @@ use Rattle.walk.specs.Rows.{Lists, shortest, rowAt}
 use Rattle.layout.specs.Blocks.{Strides}
 use Rattle.layout.specs.Built.{tableTrie, Laid}
 use Rattle.tries.specs.Costs.{held}
-use Rattle.tries.specs.Levels.{padded}
+use Rattle.tries.specs.FixedChoice.{padded}
 use Rattle.tries.specs.Chooser.{chooseTests, ifAccepted}
 
 -- ---- the tests, in order

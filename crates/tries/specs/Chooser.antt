@@ -18,7 +18,7 @@ use Rattle.table.specs.Limits.{outside}
 use Rattle.tries.specs.Scratch.{ROW, MARKS, Stands}
 use Rattle.layout.specs.Built.{tableTrie}
 use Rattle.tries.specs.Costs.{held}
-use Rattle.tries.specs.Levels.{padded}
+use Rattle.tries.specs.FixedChoice.{padded}
 
 -- ---- the tests, in order
 

@@ -10,5 +10,6 @@ pub mod Trees
 pub mod Inserting
 pub mod Making
 pub mod Costs
-pub mod Levels
+pub mod LevelCounts
+pub mod FixedChoice
 pub mod Filling

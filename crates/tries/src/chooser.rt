@@ -9,6 +9,7 @@ ghost use Rattle.tries.specs.Chooser.{chooseTests, ChosenIs, Chooses, Pl
 use crate::costs::settle_tree;
 use crate::counting::node_count;
 use crate::fixed::fixed_choice;
+use crate::fixed::longest_length;
 use crate::rows::make_rows;
 use crate::scratch::BEFORE_COSTS;
 use crate::scratch::BEFORE_STRIDES;
@@ -118,7 +119,8 @@ fn plan_fixed(
 {
     zero(scratch);
     let root = make_rows(scratch, width, vals, lens, hops);
-    let f = fixed_choice(width, vals, lens, levels as usize);
+    let depth = longest_length(lens);
+    let f = fixed_choice(scratch, root, depth, levels as usize);
     let strides = f.strides;
     Plan {
         cost: f.cost,

@@ -37,7 +37,7 @@ fn new_nodes(width: u32, a: u32, k: u8, b: u32, l: u8) -> usize
 }
 
 // The nodes that entry i adds to those before it.
-pub(crate) fn new_at(width: u32, vals: &[u32], lens: &[u8], i: usize) -> usize
+fn new_at(width: u32, vals: &[u32], lens: &[u8], i: usize) -> usize
     requires { ⌜ Prefixes width (now vals) (now lens) × (i < length (now vals)) ⌝ }
     ensures { λ r. ⌜ r ≡ newNodes width (at (now (vals .entry))) (at (now (lens .entry))) i ⌝ }
 {

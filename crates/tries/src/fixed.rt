@@ -1,5 +1,5 @@
 // The fixed choice: one stride for all blocks of a level (source document 000). The nodes of each level are counted in the
-// table; then, from the last level up, the cheapest strides for the levels from there on.
+// rows; then, from the last level up, the cheapest strides for the levels from there on.
 ghost use mathlib.Core.Path.{_≡_};
 ghost use Prim.Native.Nat.{ℕ, _+_, _-_, _*_, _^_, _<_, _≤_};
 ghost use lib.ListN.{length, getD, drop};
@@ -9,43 +9,26 @@ ghost use Rattle.strides.specs.Recurrence.{listBy};
 ghost use Rattle.walk.specs.Limits.{WIDTH, LEVELS};
 ghost use Rattle.tries.specs.Limits.{ENTRIES};
 ghost use Rattle.tries.specs.Costs.{held};
-ghost use Rattle.tries.specs.Making.{Prefixes};
-ghost use Rattle.tries.specs.Levels.{within, levelCount, LEVEL-CELLS, Filled, RowFilled, padded, StridesFilled, SomeNodes, FixedOut};
+ghost use Rattle.tries.specs.LevelCounts.{CanCount, Counted};
+ghost use Rattle.tries.specs.FixedChoice.{LEVEL-CELLS, Filled, RowFilled, padded, StridesFilled, SomeNodes, CanChoose, FixedOut};
 use crate::costs::choice;
 use crate::costs::larger;
-use crate::counting::new_at;
 use crate::limits::SLOTS;
+use crate::scratch::asked;
 use table::WIDTH;
 
 // Places of the table of fixed strides: every level and one past the last, and every number of levels left.
 const LEVEL_CELLS: usize = (WIDTH as usize + 1) * SLOTS;
 
-// Adds 1 to the levels from `from` up to but not `to`.
-fn add_levels(counts: &mut [u64], from: usize, to: usize)
-    requires { ⌜ (from ≤ to) × (to ≤ WIDTH) × (length (now counts) ≡ WIDTH) ⌝ }
-    requires { ⌜ ((j : ℕ) → j < WIDTH → getD (now counts) j 0 < 2 ^ 60) ⌝ }
-    ensures { λ _. ⌜ ((j : ℕ) → j < WIDTH → getD (now (counts .exit)) j 0 ≡ getD (now (counts .entry)) j 0 + within from to j) ⌝ }
+// Counts the nodes of the subtrie at link k, which stands at depth d, each at its level.
+fn count_rows(rows: &[u64], k: usize, d: usize, counts: &mut [u64])
+    requires { ⌜ CanCount (now rows) k d (now counts) ⌝ }
+    ensures { λ _. ⌜ Counted (now (rows .entry)) k d (now (counts .entry)) (now (counts .exit)) ⌝ }
 {
-    let mut j = from;
-    while j < to {
-        counts[j] += 1;
-        j += 1;
-    }
-}
-
-// Counts the nodes of each level, in counts that are all 0.
-pub(crate) fn count_levels(width: u32, vals: &[u32], lens: &[u8], counts: &mut [u64])
-    requires { ⌜ Prefixes width (now vals) (now lens) × (length (now vals) ≤ ENTRIES) ⌝ }
-    requires { ⌜ (length (now counts) ≡ WIDTH) × ((j : ℕ) → j < WIDTH → getD (now counts) j 0 ≡ 0) ⌝ }
-    ensures { λ _. ⌜ ((j : ℕ) → j < WIDTH → getD (now (counts .exit)) j 0 ≡ levelCount width (at (now (vals .entry))) (at (now (lens .entry))) (length (now (vals .entry))) j) ⌝ }
-{
-    let n = vals.len();
-    let mut i = 0;
-    while i < n {
-        let l = lens[i] as usize;
-        let new = new_at(width, vals, lens, i);
-        add_levels(counts, l - new, l);
-        i += 1;
+    if k != 0 {
+        counts[d] += 1;
+        count_rows(rows, asked(rows, k, 0), d + 1, counts);
+        count_rows(rows, asked(rows, k, 1), d + 1, counts);
     }
 }
 
@@ -115,14 +98,13 @@ pub(crate) struct Fixed {
     pub(crate) strides: [u8; SLOTS],
 }
 
-// The cheapest fixed choice for a table.
-pub(crate) fn fixed_choice(width: u32, vals: &[u32], lens: &[u8], levels: usize) -> Fixed
-    requires { ⌜ Prefixes width (now vals) (now lens) × (length (now vals) ≤ ENTRIES) × (1 ≤ levels) × (levels ≤ LEVELS) ⌝ }
-    ensures { λ r. ⌜ FixedOut width (now (vals .entry)) (now (lens .entry)) levels (r .cost) (r .strides) ⌝ }
+// The cheapest fixed choice for the trie at link `root`, which has `depth` levels.
+pub(crate) fn fixed_choice(rows: &[u64], root: usize, depth: usize, levels: usize) -> Fixed
+    requires { ⌜ CanChoose (now rows) root depth levels ⌝ }
+    ensures { λ r. ⌜ FixedOut (now (rows .entry)) root depth levels (r .cost) (r .strides) ⌝ }
 {
     let mut nodes = [0u64; WIDTH as usize];
-    count_levels(width, vals, lens, &mut nodes);
-    let depth = longest_length(lens);
+    count_rows(rows, root, 0, &mut nodes);
     let mut costs = [0u64; LEVEL_CELLS];
     let mut strides = [0u64; LEVEL_CELLS];
     fill_table(&nodes, levels, depth, &mut costs, &mut strides);

@@ -2,7 +2,7 @@ use Prim.Native.Nat.{suc, _-_}
 use mathlib.Core.Path.{_≡_, refl}
 use native.Mathlib.Omega.{arith}
 use Rattle.tries.proofs.Filling.{power-most}
-use Rattle.tries.proofs.Levels.{block-bounds, own-asks, own-gives}
+use Rattle.tries.proofs.Leveling.{block-bounds, own-asks, own-gives}
 use borrow.Author.Needs.{needs}
 use Rattle.tries.proofs.builder.block.Statement.{statement}
 use Rattle.tries.proofs.builder.block.Tie as tie

@@ -7,7 +7,7 @@ use Rattle.strides.specs.Trie.{Trie}
 use Rattle.walk.specs.Rows.{lists}
 use Rattle.layout.specs.Blocks.{Strides}
 use Rattle.tries.specs.Filling.{LayAsks}
-use Rattle.tries.proofs.Levels.{Done, lay-bounds, done-none, next-asks, done-more, done-all}
+use Rattle.tries.proofs.Leveling.{Done, lay-bounds, done-none, next-asks, done-more, done-all}
 use Rattle.tries.proofs.builder.lay.Statement.{statement}
 use Rattle.tries.proofs.builder.lay.Tie as tie
 

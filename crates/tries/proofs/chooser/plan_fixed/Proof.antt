@@ -1,5 +1,5 @@
 use native.Mathlib.Omega.{arith}
-use Rattle.tries.proofs.Choosing.{plan-prefixes, make-in, plan-fixed}
+use Rattle.tries.proofs.Choosing.{make-in, fixed-in, plan-fixed}
 use borrow.Author.Needs.{needs}
 use Rattle.tries.proofs.chooser.plan_fixed.Statement.{statement}
 use Rattle.tries.proofs.chooser.plan_fixed.Tie as tie
@@ -12,17 +12,35 @@ make-rows-requires c κs =
     let S = c .before .before .before .before .before .before .before .before .before in
     rw (c .before .before .before .zero .ensures) (make-in (S .args .width) (S .args .levels) (S .args .vals .now) (S .args .lens .now) (S .args .hops .now) (S .args .scratch .now) (S .pre))
 
+longest-length-requires : tie.Need-longest-length-requires
+longest-length-requires c κs = search needs
+
 fixed-choice-requires : tie.Need-fixed-choice-requires
-fixed-choice-requires c κs = let S = c .before .before .before .before .before .before .before .before .before .before .before .before in (plan-prefixes (S .args .width) (S .args .levels) (S .args .vals .now) (S .args .lens .now) (S .args .hops .now) (S .args .scratch .now) (S .pre), S .pre .table .few, S .pre .levels .0, S .pre .levels .1)
+fixed-choice-requires c κs =
+    let S = c .before .before .before .before .before .before .before .before .before .before .before .before .before .before in
+    let M = c .before .before .before .before .make-rows in (
+      _,
+      fixed-in (S .args .width) (S .args .levels) (S .args .vals .now) (S .args .lens .now) (S .args .hops .now) (S .args .scratch .now) (S .pre) (M .result) (M .last .0) (M .ensures)
+          (omega arith) (c .before .longest-length .result) (c .before .longest-length .ensures),
+    )
 
 same-length : tie.Need-same-length
 same-length c = search needs
 
 returns : tie.Need-returns
 returns c =
-    let S = c .before .before .before .before .before .before .before .before .before .before .before .before .before .before in
-    plan-fixed (S .args .width) (S .args .levels) (S .args .vals .now) (S .args .lens .now) (S .args .hops .now) (S .args .scratch .now) (S .pre) _ _ (c .before .before .before .before .make-rows .ensures) (omega arith) _ _ (c .before .fixed-choice .ensures)
+    let S = c .before .before .before .before .before .before .before .before .before .before .before .before .before .before .before .before in
+    let M = c .before .before .before .before .before .before .make-rows in
+    plan-fixed (S .args .width) (S .args .levels) (S .args .vals .now) (S .args .lens .now) (S .args .hops .now) (S .args .scratch .now) (S .pre) (M .result) (M .last .0) (M .ensures)
+    (omega arith) (c .before .before .before .longest-length .result) _ _ (c .before .before .before .longest-length .ensures) (c .before .fixed-choice .ensures)
 
 pub plan-fixed-spec : {M : Type 1} → statement M
 plan-fixed-spec =
-    tie.close (tie.spec zero-requires make-rows-requires fixed-choice-requires same-length returns)
+    tie.close
+    (tie.spec
+    zero-requires
+    make-rows-requires
+    longest-length-requires
+    fixed-choice-requires
+    same-length
+    returns)

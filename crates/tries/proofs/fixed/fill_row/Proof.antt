@@ -7,8 +7,8 @@ use lib.ListN.{length, drop, length-set, length-drop}
 use lib.Seq.{drop-set-lt}
 use Rattle.walk.specs.Limits.{LEVELS}
 use Rattle.tries.specs.Costs.{bestCost, bestStride}
-use Rattle.tries.specs.Levels.{LEVEL-CELLS, RowFilled}
-use Rattle.tries.proofs.Leveling.{rest-all, row-start, row-next}
+use Rattle.tries.specs.FixedChoice.{LEVEL-CELLS, RowFilled}
+use Rattle.tries.proofs.FixedChoice.{rest-all, row-start, row-next}
 use borrow.Author.Needs.{needs}
 use Rattle.tries.proofs.fixed.fill_row.Statement.{statement}
 use Rattle.tries.proofs.fixed.fill_row.Tie as tie

@@ -3,8 +3,8 @@ use Prim.Native.Nat.{ℕ, _+_, _-_, _≤_}
 use mathlib.Core.Path.{_≡_, subst}
 use native.Mathlib.Omega.{arith}
 use Rattle.table.specs.Table.{at}
-use Rattle.tries.specs.Levels.{Filled}
-use Rattle.tries.proofs.Leveling.{filled-next}
+use Rattle.tries.specs.FixedChoice.{Filled}
+use Rattle.tries.proofs.FixedChoice.{filled-next}
 use borrow.Author.Needs.{needs}
 use Rattle.tries.proofs.fixed.fill_table.Statement.{statement}
 use Rattle.tries.proofs.fixed.fill_table.Tie as tie

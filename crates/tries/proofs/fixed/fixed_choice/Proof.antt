@@ -1,24 +1,23 @@
-use Prim.Native.Nat.{ℕ}
 use mathlib.Core.Path.{_≡_, refl}
 use native.Mathlib.Omega.{arith}
 use lib.ListN.{replicate}
 use Rattle.table.specs.Table.{at}
-use Rattle.walk.specs.Limits.{WIDTH}
-use Rattle.tries.specs.Levels.{LEVEL-CELLS}
+use Rattle.tries.specs.FixedChoice.{LEVEL-CELLS}
 use Rattle.tries.proofs.Zeroes.{zeros-read}
-use Rattle.tries.proofs.Leveling.{depth-wide, counts-small, filled-start, fixed-out}
+use Rattle.tries.proofs.LevelCounts.{count-start}
+use Rattle.tries.proofs.FixedChoice.{filled-start, counts-small, fixed-out}
 use borrow.Author.Needs.{needs}
 use Rattle.tries.proofs.fixed.fixed_choice.Statement.{statement}
 use Rattle.tries.proofs.fixed.fixed_choice.Tie as tie
 
-slice-aggregate-count-levels : tie.Need-slice-aggregate-count-levels
-slice-aggregate-count-levels c = search needs
+slice-aggregate-count-rows : tie.Need-slice-aggregate-count-rows
+slice-aggregate-count-rows c = search needs
 
-count-levels-requires : tie.Need-count-levels-requires
-count-levels-requires c κs = let S = c .before .before .before in ((S .pre .0, S .pre .1), (refl, λ j h. zeros-read WIDTH j))
-
-longest-length-requires : tie.Need-longest-length-requires
-longest-length-requires c κs = search needs
+count-rows-requires : tie.Need-count-rows-requires
+count-rows-requires c κs =
+    let S = c .before .before in
+    let g = S .pre .1 in
+    (S .pre .0, count-start (S .args .rows .now) (S .args .root) (S .pre .0) (g .linked) (g .short) (g .few))
 
 slice-aggregate-fill-table : tie.Need-slice-aggregate-fill-table
 slice-aggregate-fill-table c = search needs
@@ -31,60 +30,53 @@ slice-aggregate-fill-table-3 c = search needs
 
 fill-table-requires : tie.Need-fill-table-requires
 fill-table-requires c κs =
-    let S = c .before .before .before .before .before .before .before .before .before in
-    let N = c .before .before .before .before .before .count-levels in
-    let n = N .last .1 .1 .1 .0 in
-    let L = c .before .before .before .longest-length in
-    let w = depth-wide (S .args .width) (S .args .vals .now) (S .args .lens .now) (S .pre .0) n (omega arith) (N .ensures) in (
-      (omega arith, S .pre .3, omega (arith, L .ensures), counts-small (S .args .width) (S .args .vals .now) (S .args .lens .now) (S .pre .0) n (omega arith) (N .ensures) (S .pre .1)),
-      filled-start (at n) (S .args .levels) (L .result) (replicate LEVEL-CELLS 0) (replicate LEVEL-CELLS 0) refl refl (zeros-read LEVEL-CELLS) (zeros-read LEVEL-CELLS),
+    let S = c .before .before .before .before .before .before .before in
+    let g = S .pre .1 in
+    let N = c .before .before .before .before .count-rows in
+    let n = N .last .1 .1 .1 .0 in (
+      (omega arith, g .within .1, omega (arith, g .depths, g .short), counts-small (S .args .rows .now) (S .args .root) (S .args .depth) (S .args .levels) n (omega arith) (N .ensures) (S .pre .0) g),
+      filled-start (at n) (S .args .levels) (S .args .depth) (replicate LEVEL-CELLS 0) (replicate LEVEL-CELLS 0) refl refl (zeros-read LEVEL-CELLS) (zeros-read LEVEL-CELLS),
     )
 
-sub-t18 : tie.Need-sub-t18
-sub-t18 c = search needs
+sub-t17 : tie.Need-sub-t17
+sub-t17 c = search needs
 
-mul-t19 : tie.Need-mul-t19
-mul-t19 c = search needs
+mul-t18 : tie.Need-mul-t18
+mul-t18 c = search needs
 
-array-read-t22 : tie.Need-array-read-t22
-array-read-t22 c = search needs
+array-read-t21 : tie.Need-array-read-t21
+array-read-t21 c = search needs
 
 slice-aggregate-read-list : tie.Need-slice-aggregate-read-list
 slice-aggregate-read-list c = search needs
 
 read-list-requires : tie.Need-read-list-requires
 read-list-requires c κs =
-    let S = c .before .before .before .before .before .before .before .before .before .before .before .before .before in
-    let N = c .before .before .before .before .before .before .before .before .before .count-levels in
-    let n = N .last .1 .1 .1 .0 in
-    let L = c .before .before .before .before .before .before .before .longest-length in
+    let S = c .before .before .before .before .before .before .before .before .before .before .before in
+    let g = S .pre .1 in
     let F = c .before .before .before .fill-table .ensures in
-    let w = depth-wide (S .args .width) (S .args .vals .now) (S .args .lens .now) (S .pre .0) n (omega arith) (N .ensures) in
-    (S .pre .2, S .pre .3, omega (arith, L .ensures), F .long-strides, (at n, λ j r p q. F .stride j r (omega arith) p q))
+    (g .within .0, g .within .1, omega (arith, g .depths, g .short), F .long-strides, (at (c .before .before .before .before .before .before .before .before .count-rows .last .1 .1 .1 .0), λ j r p q. F .stride j r (omega arith) p q))
 
 returns : tie.Need-returns
-returns c =
-    let S = c .before .before .before .before .before .before .before .before .before .before .before .before .before .before in
-    let N = c .before .before .before .before .before .before .before .before .before .before .count-levels in
-    let n = N .last .1 .1 .1 .0 in
-    let L = c .before .before .before .before .before .before .before .before .longest-length in
+returns c t g =
+    let S = c .before .before .before .before .before .before .before .before .before .before .before .before in
+    let N = c .before .before .before .before .before .before .before .before .before .count-rows in
     let F = c .before .before .before .before .fill-table .ensures in
-    fixed-out (S .args .width) (S .args .vals .now) (S .args .lens .now) (S .pre .0) n (omega arith) (N .ensures) (S .args .levels) (L .result) _ _ _ _ (S .pre .2) (L .ensures) F refl (c .read-list .ensures)
+    fixed-out (S .args .rows .now) (S .args .root) (S .args .depth) (S .args .levels) (N .last .1 .1 .1 .0) (omega arith) (N .ensures) t g _ _ _ _ F refl (c .read-list .ensures)
 
 pub fixed-choice-spec : {M : Type 1} → statement M
 fixed-choice-spec =
     tie.close
     (tie.spec
-    slice-aggregate-count-levels
-    count-levels-requires
-    longest-length-requires
+    slice-aggregate-count-rows
+    count-rows-requires
     slice-aggregate-fill-table
     slice-aggregate-fill-table-2
     slice-aggregate-fill-table-3
     fill-table-requires
-    sub-t18
-    mul-t19
-    array-read-t22
+    sub-t17
+    mul-t18
+    array-read-t21
     slice-aggregate-read-list
     read-list-requires
     returns)

@@ -5,7 +5,7 @@ use native.Mathlib.Omega.{arith}
 use lib.ListN.{length}
 use Rattle.table.specs.Table.{at}
 use Rattle.strides.specs.Entries.{longestLength}
-use Rattle.tries.proofs.Leveling.{longest-next}
+use Rattle.tries.proofs.FixedChoice.{longest-next}
 use borrow.Author.Needs.{needs}
 use Rattle.tries.proofs.fixed.longest_length.Statement.{statement}
 use Rattle.tries.proofs.fixed.longest_length.Tie as tie

@@ -5,8 +5,8 @@ use native.Mathlib.Nat.{mod-eq-of-lt}
 use native.Mathlib.Omega.{arith}
 use lib.ListN.{length, getD, length-set}
 use Rattle.walk.specs.Limits.{LEVELS}
-use Rattle.tries.specs.Levels.{StridesFilled, Reading}
-use Rattle.tries.proofs.Leveling.{pick-within, reading-start, reading-next, reading-done}
+use Rattle.tries.specs.FixedChoice.{StridesFilled, Reading}
+use Rattle.tries.proofs.FixedChoice.{pick-within, reading-start, reading-next, reading-done}
 use borrow.Author.Needs.{needs}
 use Rattle.tries.proofs.fixed.read_list.Statement.{statement}
 use Rattle.tries.proofs.fixed.read_list.Tie as tie

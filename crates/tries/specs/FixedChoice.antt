@@ -1,32 +1,16 @@
--- The nodes of each level (01: nodes(i) counts level i), counted from neighbours in the sorted table: an entry's new nodes
--- are its longest proper starts. And the table of fixed strides, from the last level up: place i * LEVELS + r is for the
--- levels from i on, with r + 1 levels left.
+-- The table of fixed strides, from the last level up: place i * LEVELS + r is for the levels from i on, with r + 1 levels
+-- left. And what the fixed choice asks of the rows and gives.
 use mathlib.Core.Path.{_≡_}
 use mathlib.Core.List.{List, [], _∷_}
 use Prim.Native.Nat.{ℕ, zero, suc, _+_, _-_, _*_, _≤_, _<_}
 use lib.ListN.{length, getD}
-use Rattle.table.specs.Table.{at}
-use Rattle.strides.specs.Insertion.{newNodes}
-use Rattle.strides.specs.Entries.{trieOf}
+use Rattle.strides.specs.Trie.{Trie, depth, nodesAt}
 use Rattle.strides.specs.Cheapest.{fixed}
 use Rattle.strides.specs.Recurrence.{fixBy, pickFixedBy, listBy, leastBy, stridesBy}
-use Rattle.walk.specs.Limits.{WIDTH, LEVELS}
+use Rattle.walk.specs.Limits.{WIDTH, LEVELS, Within}
 use Rattle.tries.specs.Limits.{ENTRIES}
 use Rattle.tries.specs.Costs.{held, slot, bestCost, bestStride}
-use Rattle.tries.specs.Making.{Prefixes}
-
--- 1 where from ≤ j < to
-unfoldable pub within : ℕ → ℕ → ℕ → ℕ
-within from zero j = 0
-within zero (suc to) zero = 1
-within zero (suc to) (suc j) = within zero to j
-within (suc from) (suc to) zero = 0
-within (suc from) (suc to) (suc j) = within from to j
-
--- the nodes at level j of the first n entries
-unfoldable pub levelCount : ℕ → (ℕ → ℕ) → (ℕ → ℕ) → ℕ → ℕ → ℕ
-levelCount W val len zero j = 0
-levelCount W val len (suc n) j = levelCount W val len n j + within (len n - newNodes W val len n) (len n) j
+use Rattle.tries.specs.LevelCounts.{Linked}
 
 -- places of the table of fixed strides: a row for each level, and one past the last
 abbrev pub LEVEL-CELLS : ℕ
@@ -62,11 +46,21 @@ StridesFilled nodes levels depth strides =
 abbrev pub SomeNodes : ℕ → ℕ → List ℕ → Type 0
 SomeNodes levels depth strides = (nodes : ℕ → ℕ) × StridesFilled nodes levels depth strides
 
--- the cheapest fixed choice for the table's trie, whatever its marks
-abbrev pub FixedOut : ℕ → List ℕ → List ℕ → ℕ → ℕ → List ℕ → Type 0
-FixedOut W vs ls levels cost strides =
-    (mark : ℕ → ℕ) → let t = trieOf W (at vs) (at ls) mark (length vs) in
-    (cost ≡ leastBy held fixed levels t) × (strides ≡ padded LEVELS (stridesBy held fixed levels t))
+-- the link `root` stands for t, whose depth is `deep`
+pub record FixedIn (rows : List ℕ) (root deep levels : ℕ) (t : Trie) : Type 0 where
+  pub linked : Linked rows root t
+  pub depths : deep ≡ depth t
+  pub short : depth t ≤ WIDTH
+  pub few : (j : ℕ) → nodesAt j t ≤ ENTRIES
+  pub within : Within levels LEVELS
+
+abbrev pub CanChoose : (rows : List ℕ) (root deep levels : ℕ) → Type 0
+CanChoose rows root deep levels = (t : Trie) × FixedIn rows root deep levels t
+
+-- the cheapest fixed choice for the trie that stands there
+abbrev pub FixedOut : (rows : List ℕ) (root deep levels cost : ℕ) (strides : List ℕ) → Type 0
+FixedOut rows root deep levels cost strides =
+    (t : Trie) → FixedIn rows root deep levels t → (cost ≡ leastBy held fixed levels t) × (strides ≡ padded LEVELS (stridesBy held fixed levels t))
 
 -- p places of the list are read, and the levels from i on are left
 pub record Reading (nodes : ℕ → ℕ) (levels depth i p : ℕ) (list : List ℕ) : Type 0 where
