@@ -11,7 +11,6 @@ use borrow.Author.Tests.{ne-eqb}
 use Rattle.table.specs.Prefix.{start}
 use Rattle.table.specs.Table.{at}
 use Rattle.table.specs.Longest.{matches, winner, winnerIn, longest, ofWinner, Wins, none, some}
-use Rattle.table.proofs.Table.{hop-positive}
 use Rattle.table.proofs.Longest.{best-wins}
 use Rattle.strides.specs.Strides.{costBy}
 use Rattle.strides.proofs.Longest.{mark-block, last-mark-is-longest}
@@ -29,7 +28,7 @@ use Rattle.layout.proofs.Answering.{path-exactly, lookup-built, hops-bu
 
 module _ {most W : ℕ} {vs ls hs : List ℕ} {σ : Strides} {k : ℕ} {rec : Record} {rows : Lists} (g : Laid most W vs ls hs σ k rec rows) where
   hop-some : (i : ℕ) → i < length vs → 0 < at hs i
-  hop-some i h = hop-positive (at hs i) (g .table .entry i h .good-hop)
+  hop-some i h = g .table .entry i h .some-hop
 
   -- the number of blocks on the address's path: of the nodes that begin it and at which the strides begin a block
   abbrev pub blocks : (a : ℕ) → ℕ

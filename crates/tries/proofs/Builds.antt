@@ -11,7 +11,6 @@ use lib.Pow.{pow-mono}
 use lib.ListN.{length, getD, replicate, take, length-take}
 use borrow.Author.Tests.{eq-eqb, ne-eqb, lt-ltb, le-ltb, ltb-false, ltb-true}
 use Rattle.table.specs.Prefix.{start}
-use Rattle.table.specs.Entry.{hopBad}
 use Rattle.table.specs.Refusals.{Test, test, outcome, Gives, andThen}
 use Rattle.table.specs.Table.{at, Table}
 use Rattle.table.specs.declared.entry.Outcome.{Outcome}
@@ -63,7 +62,7 @@ later-none W {vs} {ls} {hs} t (suc m) h =
     not-first e =
         let v = val-zero e in
         ⊎-elim (λ (l : at vs m < at vs (suc m)). omega arith) (λ (l : (at vs m ≡ at vs (suc m)) × (at ls m < at ls (suc m))). omega (arith, l .1))
-        (sorted W hopBad (at vs) (at ls) (at hs) (length vs) (t .entry) m (suc m) (omega arith) h)
+        (sorted W (at vs) (at ls) (at hs) (length vs) (t .entry) m (suc m) (omega arith) h)
 
 first-mark : (W : ℕ) (val len mark : ℕ → ℕ) → val 0 < 2 ^ W → markAt W val len mark 1 0 0 ≡ cond (eqb (len 0) 0) (mark 0) 0
 unfolding markAt exactly

@@ -58,7 +58,7 @@ table-prefixes W vs ls hs t = record {
   width = t .width;
   lengths = t .lengths;
   prefix = λ i h. t .entry i h .prefix;
-  rises = entries-rise W hopBad (at vs) (at ls) (at hs) (length vs) (t .entry);
+  rises = entries-rise W (at vs) (at ls) (at hs) (length vs) (t .entry);
 }
 
 pub within-levels : (k most : ℕ) → outside k most ≡ false → Within k most
@@ -68,24 +68,24 @@ within-levels k most e = width-is most k e
 module _ (W k : ℕ) (vs ls hs : List ℕ) (words : ℕ) where
   pub tests-width : outside W WIDTH ≡ true → outcome (chooseTests W k vs ls hs words) ≡ Refused 1 0
   unfolding chooseTests outside
-  tests-width e = outcome-fails (widthTest W) (levelsTest k ∷ (listTests W vs ls hs ++ (scratchTest W vs ls hs words ∷ []))) e
+  tests-width e = outcome-fails (widthTest W) (levelsTest k ∷ (listTests hopBad W vs ls hs ++ (scratchTest W vs ls hs words ∷ []))) e
 
   module _ (w : outside W WIDTH ≡ false) where
     pub tests-levels : outside k LEVELS ≡ true → outcome (chooseTests W k vs ls hs words) ≡ Refused 2 0
     unfolding chooseTests outside
     tests-levels e =
-        outcome-passes (widthTest W) (levelsTest k ∷ (listTests W vs ls hs ++ (scratchTest W vs ls hs words ∷ []))) w
-        ∙ outcome-fails (levelsTest k) (listTests W vs ls hs ++ (scratchTest W vs ls hs words ∷ [])) e
+        outcome-passes (widthTest W) (levelsTest k ∷ (listTests hopBad W vs ls hs ++ (scratchTest W vs ls hs words ∷ []))) w
+        ∙ outcome-fails (levelsTest k) (listTests hopBad W vs ls hs ++ (scratchTest W vs ls hs words ∷ [])) e
 
     -- past both, the table's tests and then scratch's decide
     module _ (l : outside k LEVELS ≡ false) where
       tests-rest : outcome (chooseTests W k vs ls hs words) ≡ andThen (checkOf W vs ls hs) (outcome (scratchTest W vs ls hs words ∷ []))
       unfolding chooseTests outside checkOf tableTests
       tests-rest =
-          outcome-passes (widthTest W) (levelsTest k ∷ (listTests W vs ls hs ++ (scratchTest W vs ls hs words ∷ []))) w
-          ∙ outcome-passes (levelsTest k) (listTests W vs ls hs ++ (scratchTest W vs ls hs words ∷ [])) l
-          ∙ outcome-append (listTests W vs ls hs) (scratchTest W vs ls hs words ∷ [])
-          ∙ ap (λ (o : Outcome). andThen o (outcome (scratchTest W vs ls hs words ∷ []))) (sym (outcome-passes (widthTest W) (listTests W vs ls hs) w))
+          outcome-passes (widthTest W) (levelsTest k ∷ (listTests hopBad W vs ls hs ++ (scratchTest W vs ls hs words ∷ []))) w
+          ∙ outcome-passes (levelsTest k) (listTests hopBad W vs ls hs ++ (scratchTest W vs ls hs words ∷ [])) l
+          ∙ outcome-append (listTests hopBad W vs ls hs) (scratchTest W vs ls hs words ∷ [])
+          ∙ ap (λ (o : Outcome). andThen o (outcome (scratchTest W vs ls hs words ∷ []))) (sym (outcome-passes (widthTest W) (listTests hopBad W vs ls hs) w))
 
       pub tests-table : {n d : ℕ} → checkOf W vs ls hs ≡ Refused n d → outcome (chooseTests W k vs ls hs words) ≡ Refused n d
       unfolding andThen
@@ -110,31 +110,31 @@ module _ (W k : ℕ) (vs ls hs : List ℕ) (words : ℕ) where
 pub numbered-choose : (most : ℕ) → 6 ≤ most → (W k : ℕ) (vs ls hs : List ℕ) (words : ℕ) → Numbered most (chooseTests W k vs ls hs words)
 unfolding chooseTests
 numbered-choose most h W k vs ls hs words =
-    let lists = numbered-append most (listTests W vs ls hs) (scratchTest W vs ls hs words ∷ []) (numbered-lists most (omega arith) W vs ls hs) ((omega arith, omega arith), tt) in
+    let lists = numbered-append most (listTests hopBad W vs ls hs) (scratchTest W vs ls hs words ∷ []) (numbered-lists most (omega arith) hopBad W vs ls hs) ((omega arith, omega arith), tt) in
     ((omega arith, omega arith), ((omega arith, omega arith), lists))
 
 -- what acceptance says
 pub accepted-levels : (W k : ℕ) (vs ls hs : List ℕ) (words : ℕ) → outcome (chooseTests W k vs ls hs words) ≡ Accepted → Within k LEVELS
 unfolding chooseTests
 accepted-levels W k vs ls hs words e =
-    let p = accepted-passes (widthTest W) (levelsTest k ∷ (listTests W vs ls hs ++ (scratchTest W vs ls hs words ∷ []))) e in
-    within-levels k LEVELS (accepted-passes (levelsTest k) (listTests W vs ls hs ++ (scratchTest W vs ls hs words ∷ [])) (p .1) .0)
+    let p = accepted-passes (widthTest W) (levelsTest k ∷ (listTests hopBad W vs ls hs ++ (scratchTest W vs ls hs words ∷ []))) e in
+    within-levels k LEVELS (accepted-passes (levelsTest k) (listTests hopBad W vs ls hs ++ (scratchTest W vs ls hs words ∷ [])) (p .1) .0)
 
 pub accepted-tests-table : (W k : ℕ) (vs ls hs : List ℕ) (words : ℕ) → outcome (chooseTests W k vs ls hs words) ≡ Accepted → Table W vs ls hs
 unfolding chooseTests checkOf tableTests
 accepted-tests-table W k vs ls hs words e =
-    let p = accepted-passes (widthTest W) (levelsTest k ∷ (listTests W vs ls hs ++ (scratchTest W vs ls hs words ∷ []))) e in
-    let q = accepted-passes (levelsTest k) (listTests W vs ls hs ++ (scratchTest W vs ls hs words ∷ [])) (p .1) in
-    let r = accepted-parts (listTests W vs ls hs) (scratchTest W vs ls hs words ∷ []) (q .1) in
-    accepted-table W vs ls hs (outcome-passes (widthTest W) (listTests W vs ls hs) (p .0) ∙ r .0)
+    let p = accepted-passes (widthTest W) (levelsTest k ∷ (listTests hopBad W vs ls hs ++ (scratchTest W vs ls hs words ∷ []))) e in
+    let q = accepted-passes (levelsTest k) (listTests hopBad W vs ls hs ++ (scratchTest W vs ls hs words ∷ [])) (p .1) in
+    let r = accepted-parts (listTests hopBad W vs ls hs) (scratchTest W vs ls hs words ∷ []) (q .1) in
+    accepted-table W vs ls hs (outcome-passes (widthTest W) (listTests hopBad W vs ls hs) (p .0) ∙ r .0)
 
 pub accepted-plan : (W k : ℕ) (vs ls hs scratch : List ℕ) → ((i : ℕ) → at hs i < MARKS) → outcome (chooseTests W k vs ls hs (length scratch)) ≡ Accepted
     → PlanIn W k vs ls hs scratch
 unfolding chooseTests checkOf tableTests
 accepted-plan W k vs ls hs scratch small e =
-    let p = accepted-passes (widthTest W) (levelsTest k ∷ (listTests W vs ls hs ++ (scratchTest W vs ls hs (length scratch) ∷ []))) e in
-    let q = accepted-passes (levelsTest k) (listTests W vs ls hs ++ (scratchTest W vs ls hs (length scratch) ∷ [])) (p .1) in
-    let r = accepted-parts (listTests W vs ls hs) (scratchTest W vs ls hs (length scratch) ∷ []) (q .1) in
+    let p = accepted-passes (widthTest W) (levelsTest k ∷ (listTests hopBad W vs ls hs ++ (scratchTest W vs ls hs (length scratch) ∷ []))) e in
+    let q = accepted-passes (levelsTest k) (listTests hopBad W vs ls hs ++ (scratchTest W vs ls hs (length scratch) ∷ [])) (p .1) in
+    let r = accepted-parts (listTests hopBad W vs ls hs) (scratchTest W vs ls hs (length scratch) ∷ []) (q .1) in
     let s = accepted-passes (scratchTest W vs ls hs (length scratch)) [] (r .1) in
     record {
       table = accepted-tests-table W k vs ls hs (length scratch) e;

@@ -5,6 +5,7 @@ use mathlib.Core.List.{List, [], _∷_, _++_}
 use Prim.Native.Nat.{ℕ, _*_, _/_, _≤_, _<_}
 use lib.Dec.{ltb}
 use lib.ListN.{length, replicate, take}
+use Rattle.table.specs.Entry.{hopBad}
 use Rattle.table.specs.Refusals.{Test, test, outcome, Gives}
 use Rattle.table.specs.Table.{at, widthTest, listTests, Table}
 use Rattle.table.specs.declared.entry.Outcome.{Outcome}
@@ -32,7 +33,7 @@ scratchTest W vs ls hs words = test 6 (size (tableTrie W vs ls hs)) (ltb (words 
 
 -- 1, 2, 3, 4, 5, 6
 unfoldable pub chooseTests : ℕ → ℕ → List ℕ → List ℕ → List ℕ → ℕ → List Test
-chooseTests W k vs ls hs words = widthTest W ∷ levelsTest k ∷ (listTests W vs ls hs ++ (scratchTest W vs ls hs words ∷ []))
+chooseTests W k vs ls hs words = widthTest W ∷ levelsTest k ∷ (listTests hopBad W vs ls hs ++ (scratchTest W vs ls hs words ∷ []))
 
 -- ---- the answer
 
