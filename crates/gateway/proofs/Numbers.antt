@@ -25,7 +25,8 @@ use Rattle.tries.proofs.Choosing.{numbered-choose}
 use Rattle.tries.proofs.Builds.{numbered-build}
 use Rattle.tries.proofs.Demands.{looked-tested}
 use Rattle.walk.specs.declared.record.Record.{Record}
-use Rattle.gateway.specs.Numbers.{Told, outcomeNumber, outcomeDetail, outcomeNumbers, sharedNumbers, spanNumbers, choiceNumbers, buildNumbers, answerNumbers}
+use Rattle.table.specs.Refusals.{outcomeNumber, outcomeDetail}
+use Rattle.gateway.specs.Numbers.{Told, outcomeNumbers, sharedNumbers, spanNumbers, choiceNumbers, buildNumbers, answerNumbers}
 use Rattle.gateway.specs.Allowed.{AllowedChoice, AllowedBuild}
 use Rattle.gateway.specs.declared.entries.Checked.{Checked}
 use Rattle.gateway.specs.declared.entries.SharedBits.{SharedBits}

@@ -2,9 +2,9 @@
 -- the values, which are 0 where it is refused.
 use mathlib.Core.Path.{_≡_}
 use Prim.Native.Nat.{ℕ}
+use Rattle.table.specs.Refusals.{outcomeNumber, outcomeDetail}
 use Rattle.table.specs.Answers.{sharedOutcome, sharedBits, spanOutcome, spanIndex, spanCount}
 use Rattle.table.specs.declared.entry.Outcome.{Outcome}
-use Rattle.table.specs.declared.entry.Outcome.the-variants.{Accepted, Refused}
 use Rattle.table.specs.declared.sharing.Shared.{Shared}
 use Rattle.table.specs.declared.zoning.Span.{Span}
 use Rattle.walk.specs.Answers.{numberOf, hopOf, readsOf}
@@ -21,14 +21,6 @@ use Rattle.gateway.specs.declared.looking.Found.{Found}
 -- r is the numbers of an answer that the promise allows
 abbrev pub Told : {A B : Type 0} → (Allows : A → Type 0) (numbers : A → B) → B → Type 0
 Told {A} Allows numbers r = (a : A) × Allows a × (r ≡ numbers a)
-
-abbrev pub outcomeNumber : Outcome → ℕ
-outcomeNumber Accepted = 0
-outcomeNumber (Refused number detail) = number
-
-abbrev pub outcomeDetail : Outcome → ℕ
-outcomeDetail Accepted = 0
-outcomeDetail (Refused number detail) = detail
 
 abbrev pub outcomeNumbers : Outcome → Checked
 outcomeNumbers o = record { number = outcomeNumber o; detail = outcomeDetail o }

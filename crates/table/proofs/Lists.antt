@@ -1,0 +1,34 @@
+-- Laws of `listed`: one place more, its length, and what stands at an index.
+use mathlib.Core.Path.{_≡_, refl, sym, ap, _∙_}
+use mathlib.Core.List.{List, [], _∷_}
+use Prim.Native.Nat.{ℕ, zero, suc, _+_, _<_}
+use Prim.Dec.{yes, no}
+use native.Mathlib.Omega.{arith}
+use native.Mathlib.Decide.{decLt}
+use native.Mathlib.Numerals.{add-one}
+use lib.ListN.{length, getD, take, set, length-append, List·getD-append}
+use lib.Seq.{take-suc-set, getD-append-seam}
+use Rattle.table.specs.Lists.{listed}
+
+-- the next place is set
+pub listed-more : (f : ℕ → ℕ) (xs : List ℕ) (i v : ℕ) → i < length xs → take i xs ≡ listed f i → v ≡ f i
+    → take (i + 1) (set xs i v) ≡ listed f (i + 1)
+unfolding listed
+listed-more f xs i v h e w = rw (add-one, take-suc-set xs i v h, e, w)
+
+pub listed-length : (f : ℕ → ℕ) (n : ℕ) → length (listed f n) ≡ n
+unfolding listed
+listed-length f zero = refl
+listed-length f (suc n) = length-append (listed f n) (f n ∷ []) ∙ omega (arith, listed-length f n)
+
+pub listed-at : (f : ℕ → ℕ) (n i : ℕ) → i < n → getD (listed f n) i 0 ≡ f i
+unfolding listed
+listed-at f zero i h = absurd (omega arith)
+listed-at f (suc n) i h =
+    elim (decLt i n) [
+      | yes p ↦ List·getD-append (listed f n) (f n ∷ []) 0 i (omega (arith, listed-length f n)) ∙ listed-at f n i p
+      | no p ↦
+          let e : i ≡ length (listed f n) = omega (arith, listed-length f n) in
+          let g : i ≡ n = omega arith in
+          rw e (getD-append-seam (listed f n) (f n) [] 0 ∙ ap f (sym g ∙ e))
+    ]
