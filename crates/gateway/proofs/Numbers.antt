@@ -17,7 +17,7 @@ use Rattle.table.proofs.Numbered.{Numbered, refused-number, numbered-table, num
 use Rattle.strides.specs.Cheapest.{Kind, Cheapest}
 use Rattle.walk.specs.Limits.{WIDTH}
 use Rattle.walk.specs.Rows.{Lists, shortest}
-use Rattle.layout.specs.Built.{tableTrie}
+use Rattle.layout.specs.Laid.{tableTrie}
 use Rattle.tries.specs.Chooser.{chooseTests}
 use Rattle.tries.specs.Build.{buildTests}
 use Rattle.walk.specs.Meaning.{Tested, Looked}

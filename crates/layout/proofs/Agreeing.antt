@@ -5,9 +5,9 @@ use mathlib.Core.Bool.{true, false}
 use mathlib.Core.List.{List, [], _∷_, _++_}
 use native.Mathlib.Omega.{arith}
 use Rattle.strides.specs.Trie.{Trie, none, node, left, kid, bit, markAlong, subAlong}
-use Rattle.strides.specs.Choice.{below}
+use Rattle.strides.specs.Choice.{onSide}
 use Rattle.strides.specs.Strides.{Good, choiceBy}
-use Rattle.strides.proofs.Tied.{SameBlocks}
+use Rattle.strides.specs.Choice.{SameBlocks}
 use Rattle.walk.specs.Rows.{Row}
 use Rattle.layout.specs.Blocks.{Strides, wide, passed, leftOf, linkTo, strideOf, rowBelow, listOf, blockRows, levelRows, firstRow, levelsRows, rowsOf, rowCount, Begun, blocksAlong}
 

@@ -19,11 +19,11 @@ use Rattle.walk.specs.Answers.{better, latest, answer}
 use Rattle.walk.specs.Lookup.{pathRows, lookupOf}
 use Rattle.walk.specs.Meaning.{Readable, Path, last, on, OnPath, empty, walked}
 use Rattle.layout.specs.Blocks.{Strides, wide, passed, leftOf, linkTo, strideOf, rowBelow, blockRows, levelRows, firstRow, levelsRows, rowsOf, rowCount, Hold, Begun, blocksAlong, blockRow, rowIn, rowsAlong}
-use Rattle.layout.specs.Built.{Built}
+use Rattle.layout.specs.Laid.{LaidTrie}
 use Rattle.walk.proofs.Tests.{Passed}
 use Rattle.walk.proofs.Looked.{path-answer}
 use Rattle.walk.proofs.Reading.{path-rows}
-use Rattle.layout.proofs.Buildable.{good-level, good-root, good-block}
+use Rattle.layout.proofs.GoodStrides.{good-level, good-root, good-block}
 use Rattle.layout.proofs.Blocks.{hold-first, hold-rest, hold-at, level-length, wide-own, level-own, wide-below, level-below, wide-past, left-same, left-own, left-below, left-split, first-next, first-mono, first-past, levels-length, count-none}
 
 -- ---- the blocks along an address
@@ -167,7 +167,7 @@ module _ (σ : Strides) (ls : Lists) (e : ℕ) where
 
     readable : Readable e x (at 0) (suc s) w
     unfolding rowOf
-    readable = record { stride = omega arith; fits = le; below = omega (arith, rw (wide-own σ t r some, h) at (l .fits 0), index-lt) }
+    readable = record { stride = omega arith; fits = le; within = omega (arith, rw (wide-own σ t r some, h) at (l .fits 0), index-lt) }
 
     lies-next : Lies sub 0 r next
     lies-next = lies-along (suc s) t r (λ n. at (suc n)) cut (lies-below t r s at h l)
@@ -343,7 +343,7 @@ module _ (σ : Strides) (t : Trie) (k : ℕ) (ls : Lists) where
   }
 
 -- ---- a lookup over what a build left
-module _ {most : ℕ} {σ : Strides} {t : Trie} {rec : Record} {ls : Lists} (g : Built most σ t rec ls) where
+module _ {most : ℕ} {σ : Strides} {t : Trie} {rec : Record} {ls : Lists} (g : LaidTrie most σ t rec ls) where
   abbrev W : ℕ
   W = rec .width
 

@@ -1,28 +1,26 @@
 -- What a lookup reads of a record and lists that are `Laid` for a table, with any strides that can be built and any k. Nothing here
 -- knows how the strides were chosen: a further kind of build needs only be `Laid`.
 use Prim.Native.Nat.{ℕ, zero, suc, _+_, _-_, _^_, _≤_, _<_}
-use mathlib.Core.Path.{_≡_, refl, sym, _∙_}
-use mathlib.Core.Bool.{true≢false}
+use mathlib.Core.Path.{_≡_, refl, sym, ap, _∙_}
 use mathlib.Core.Logic.{_↔_}
 use mathlib.Core.List.{List, map, List·Memᴰ}
 use native.Mathlib.Omega.{arith}
 use lib.ListN.{length}
-use borrow.Author.Tests.{ne-eqb}
 use Rattle.table.specs.Prefix.{start}
 use Rattle.table.specs.Table.{at}
-use Rattle.table.specs.Longest.{matches, winner, winnerIn, longest, ofWinner, Wins, none, some}
-use Rattle.table.proofs.Longest.{best-wins}
+use Rattle.table.specs.Longest.{winnerIn, longest, ofWinner}
+use Rattle.table.proofs.Longest.{longest-is, longest-zero}
 use Rattle.strides.specs.Strides.{costBy}
 use Rattle.strides.proofs.Longest.{mark-block, last-mark-is-longest}
 use Rattle.walk.specs.declared.record.Record.{Record}
-use Rattle.walk.specs.declared.walk.Answer.{Answer}
 use Rattle.walk.specs.declared.walk.Answer.the-variants.{NoRoute}
 use Rattle.walk.specs.Rows.{Lists, shortest, rowAt}
 use Rattle.walk.specs.Answers.{hopOf, readsOf, Accepted, answer}
 use Rattle.walk.specs.Lookup.{pathRows, lookupOf}
 use Rattle.layout.specs.Blocks.{Strides, blocksAlong, rowsAlong}
-use Rattle.layout.specs.Built.{tableTrie, Laid, NoMatch, Longest, found, nothing}
-use Rattle.walk.proofs.Reading.{answer-has, reads-most, lookup-local}
+use Rattle.layout.specs.Laid.{tableTrie, Laid, NoPrefix, LongestHop}
+use Rattle.walk.proofs.Answers.{answer-has, answer-number}
+use Rattle.walk.proofs.Reading.{reads-most, lookup-local}
 use Rattle.layout.proofs.Cost.{count-cost}
 use Rattle.layout.proofs.Answering.{path-exactly, lookup-built, hops-built}
 
@@ -45,37 +43,24 @@ module _ {most W : ℕ} {vs ls hs : List ℕ} {σ : Strides} {k : ℕ} {rec : Re
         let along = last-mark-is-longest W (at vs) (at ls) (at hs) (length vs) (λ i h. g .table .entry i h .prefix) hop-some a small in
         lookup-built (g .built) a (rw (g .width) small) ∙ rw (g .width, g .levels, g .floor, along)
 
-    -- the lookup is accepted; it is a match with the hop of the longest prefix, or no route where no prefix begins the address
-    pub laid-longest : Longest W vs ls hs a (blocks a) (lookupOf most rec rows a)
-    unfolding longest winner ofWinner answer
-    laid-longest = rw lookup-longest (go _ (best-wins (matches W (at vs) (at ls) a) (at ls) (length vs)))
-      where
-        go : (b : ℕ) → Wins (matches W (at vs) (at ls) a) (at ls) (length vs) b
-            → Longest W vs ls hs a (blocks a) (answer (ofWinner (at hs) b) (blocks a))
-        go zero (none nil) = nothing nil
-        go (suc j) (some r) = rw (ne-eqb (at hs j) 0 (λ e. omega (arith, hop-some j (r .inside)))) (found r)
-
     pub accepted : Accepted (lookupOf most rec rows a)
-    accepted = go laid-longest
-      where
-        go : {r : Answer} → Longest W vs ls hs a (blocks a) r → Accepted r
-        go (found b) = refl
-        go (nothing nil) = refl
+    accepted = rw lookup-longest (answer-number _ (blocks a))
 
     pub hop-longest : hopOf (lookupOf most rec rows a) ≡ longest W (at vs) (at ls) (at hs) (length vs) a
     hop-longest = rw lookup-longest (answer-has _ (blocks a) .0)
 
-    -- no route exactly when no prefix begins the address
-    pub no-route : (lookupOf most rec rows a ≡ NoRoute (blocks a)) ↔ NoMatch W vs ls a
-    no-route = (λ e. to laid-longest e, λ nil. from laid-longest nil)
-      where
-        to : {r : Answer} → Longest W vs ls hs a (blocks a) r → r ≡ NoRoute (blocks a) → NoMatch W vs ls a
-        to (nothing nil) e = nil
-        to (found b) e = absurd (let z : _≡_ {A = ℕ} 0 1 = cc in omega arith)
+    -- which is 0 or the hop of a prefix that begins the address and than which none that does is longer
+    pub laid-longest : LongestHop W vs ls hs a (hopOf (lookupOf most rec rows a))
+    laid-longest = rw hop-longest (longest-is W (at vs) (at ls) (at hs) (length vs) a)
 
-        from : {r : Answer} → Longest W vs ls hs a (blocks a) r → NoMatch W vs ls a → r ≡ NoRoute (blocks a)
-        from (nothing nil) n = refl
-        from (found {j = j} b) n = absurd (true≢false (sym (b .marked) ∙ n j (b .inside)))
+    -- no route exactly when no prefix begins the address
+    pub no-route : (lookupOf most rec rows a ≡ NoRoute (blocks a)) ↔ NoPrefix W vs ls a
+    unfolding answer
+    no-route =
+        let z = longest-zero W (at vs) (at ls) (at hs) (length vs) a hop-some in (
+          λ e. z .0 (sym hop-longest ∙ ap hopOf e),
+          λ nil. lookup-longest ∙ rw (z .1 nil) refl,
+        )
 
     -- ---- the rows read are those of the blocks on the path, and no other row matters
     pub rows-exactly : pathRows rec rows a ≡ rowsAlong σ W k (tableTrie W vs ls hs) a

@@ -1,6 +1,6 @@
 pub mod Blocks
 pub mod Cost
-pub mod Buildable
+pub mod GoodStrides
 pub mod Order
 pub mod Answering
 pub mod Hops

@@ -2,5 +2,5 @@
 -- blocks; the record and lists that one accepted build leaves; 01's run as an example.
 pub mod Blocks
 pub mod Order
-pub mod Built
+pub mod Laid
 pub mod ExampleRows

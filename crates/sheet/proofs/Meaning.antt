@@ -18,7 +18,7 @@ use Rattle.strides.proofs.Cheapest.{least-cheapest}
 use Rattle.strides.proofs.Follows.{follows-good, follows-unique}
 use Rattle.layout.specs.Blocks.{Strides, blocksAlong, rowCount, strideOf}
 use Rattle.tries.specs.Build.{roomTest, buildTests}
-use Rattle.layout.specs.Built.{tableTrie}
+use Rattle.layout.specs.Laid.{tableTrie}
 use Rattle.tries.specs.Chooser.{chooseTests}
 use Rattle.tries.specs.Scratch.{ROW}
 use Rattle.layout.proofs.Agreeing.{Agree, same-agree, blocks-same, count-same, stride-same}

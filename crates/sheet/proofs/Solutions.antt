@@ -11,7 +11,7 @@ use Rattle.walk.specs.Limits.{WIDTH}
 use Rattle.walk.specs.Rows.{Lists, shortest}
 use Rattle.layout.specs.Blocks.{rowCount, strideOf}
 use Rattle.tries.specs.Build.{BuildIs}
-use Rattle.layout.specs.Built.{tableTrie, Laid}
+use Rattle.layout.specs.Laid.{tableTrie, Laid}
 use Rattle.tries.specs.Scratch.{ROW}
 use Rattle.walk.specs.declared.record.Record.{Record}
 use Rattle.layout.proofs.Laid.{hop-longest, reads-blocks}

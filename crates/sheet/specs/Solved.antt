@@ -14,7 +14,7 @@ use Rattle.strides.specs.Recurrence.{plain, leastBy}
 use Rattle.strides.specs.Strides.{chosenBy}
 use Rattle.layout.specs.Blocks.{Strides, blocksAlong, rowCount, strideOf}
 use Rattle.tries.specs.Build.{buildTests}
-use Rattle.layout.specs.Built.{tableTrie}
+use Rattle.layout.specs.Laid.{tableTrie}
 use Rattle.tries.specs.Costs.{held}
 use Rattle.tries.specs.Scratch.{ROW}
 use Rattle.sheet.specs.Limits.{LENT-ROWS, LENT-ELEMENTS}

@@ -21,7 +21,7 @@ use Rattle.table.proofs.Numbered.{Numbered, numbered-append}
 use Rattle.table.proofs.Starts.{start-none}
 use Rattle.table.proofs.Table.{sorted}
 use Rattle.strides.specs.Trie.{Trie, none, node, depth, nodesAt}
-use Rattle.strides.specs.Entries.{exactly, markAt, floorOf}
+use Rattle.strides.specs.Entries.{wholeEntry, markAt, floorOf}
 use Rattle.strides.specs.Cheapest.{Kind, fixed, variable, Cheapest}
 use Rattle.strides.specs.Recurrence.{plain, leastBy, stridesBy, fixedStrides, listBy, pickBy}
 use Rattle.strides.specs.Strides.{Follows, chosenBy, costBy, variableStride, fixedStride}
@@ -33,7 +33,7 @@ use Rattle.walk.specs.Limits.{WIDTH, LEVELS}
 use Rattle.tries.specs.Limits.{ELEMENTS, COST-CAP}
 use Rattle.walk.specs.Rows.{Lists, lists, shortest, root, rowAt}
 use Rattle.layout.specs.Blocks.{Strides, strideOf, rowCount}
-use Rattle.layout.specs.Built.{tableTrie, tableFloor, Laid}
+use Rattle.layout.specs.Laid.{tableTrie, tableFloor, Laid}
 use Rattle.tries.specs.Filling.{Trunk, Room, LayAsks, LayGives, Lays, CanLay}
 use Rattle.tries.specs.Costs.{held}
 use Rattle.tries.specs.FixedChoice.{padded}
@@ -47,7 +47,7 @@ use Rattle.tries.proofs.Choosing.{numbered-choose, accepted-plan, accep
 -- ---- the floor: an entry of length 0 can only be the first
 
 later-none : (W : ℕ) {vs ls hs : List ℕ} (t : Table W vs ls hs) (m : ℕ) → suc m ≤ length vs → markAt W (at vs) (at ls) (at hs) (suc m) 0 0 ≡ markAt W (at vs) (at ls) (at hs) 1 0 0
-unfolding markAt exactly
+unfolding markAt wholeEntry
 later-none W t zero h = refl
 later-none W {vs} {ls} {hs} t (suc m) h =
     rw (ne-eqb (at ls (suc m)) 0 (λ e. not-first e)) (later-none W t m (omega arith))
@@ -65,7 +65,7 @@ later-none W {vs} {ls} {hs} t (suc m) h =
         (sorted W (at vs) (at ls) (at hs) (length vs) (t .entry) m (suc m) (omega arith) h)
 
 first-mark : (W : ℕ) (val len mark : ℕ → ℕ) → val 0 < 2 ^ W → markAt W val len mark 1 0 0 ≡ cond (eqb (len 0) 0) (mark 0) 0
-unfolding markAt exactly
+unfolding markAt wholeEntry
 first-mark W val len mark h = rw (start-none W (val 0) h) (go (eqb (len 0) 0))
   where
     go : (b : Bool) → cond (b && true) (mark 0) 0 ≡ cond b (mark 0) 0

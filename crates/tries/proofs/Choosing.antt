@@ -36,8 +36,8 @@ use Rattle.strides.proofs.Capped.{least-capped, strides-capped, cap-never-bites
 use Rattle.walk.specs.Limits.{WIDTH, LEVELS, Within}
 use Rattle.tries.specs.Limits.{ENTRIES, COST-CAP}
 use Rattle.tries.specs.Scratch.{ROW, ask, strideAt, Here, Stands, BEFORE-COSTS, BEFORE-STRIDES, COST, MARKS, STRIDE}
-use Rattle.layout.specs.Built.{tableTrie}
-use Rattle.tries.specs.Trees.{Tree, nil, fork, shape, linkOf, Stand, Has, lt, rt, lmark, rmark, rowAt, next, side, setSide, setMark, insertR, addEntry, treeOf}
+use Rattle.layout.specs.Laid.{tableTrie}
+use Rattle.tries.specs.Trees.{Tree, nil, fork, shape, linkOf, Stand, Has, lt, rt, lmark, rmark, rowFor, next, side, setSide, setMark, insertR, addEntry, treeOf}
 use Rattle.tries.specs.Making.{Prefixes, InRows, MakeIn, MakeOut}
 use Rattle.tries.specs.Costs.{held, Priced, Costed, AllPriced, TreeIn, TreeOut, TreeAsk, TreeDone}
 use Rattle.tries.specs.LevelCounts.{Linked}
@@ -162,12 +162,12 @@ small-insert : (n u : ℕ) (t : Tree) (v h : ℕ) → h < MARKS → SmallMarks t
 unfolding insertR
 small-insert zero u t v h b m = go (bit 0 v)
   where
-    go : (s : ℕ) → SmallMarks (setMark s (rowAt u t) t h)
+    go : (s : ℕ) → SmallMarks (setMark s (rowFor u t) t h)
     go zero = let q = small-parts t m in (b, q .1, q .2, q .3)
     go (suc s) = let q = small-parts t m in (q .0, b, q .2, q .3)
 small-insert (suc n) u t v h b m = go (bit (suc n) v) (λ s. small-insert n (next u t) (side s t) v h b (small-side s t m))
   where
-    go : (s : ℕ) → ((s : ℕ) → SmallMarks (insertR n (next u t) (side s t) v h)) → SmallMarks (setSide s (rowAt u t) t (insertR n (next u t) (side s t) v h))
+    go : (s : ℕ) → ((s : ℕ) → SmallMarks (insertR n (next u t) (side s t) v h)) → SmallMarks (setSide s (rowFor u t) t (insertR n (next u t) (side s t) v h))
     go zero k = let q = small-parts t m in (q .0, q .1, k zero, q .3)
     go (suc s) k = let q = small-parts t m in (q .0, q .1, q .2, k (suc s))
 

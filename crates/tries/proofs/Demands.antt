@@ -33,37 +33,38 @@ use Rattle.walk.specs.declared.walk.Answer.the-variants.{NoRoute}
 use Rattle.walk.specs.Limits.{WIDTH, LEVELS}
 use Rattle.tries.specs.Limits.{ELEMENTS}
 use Rattle.walk.specs.Rows.{Lists, shortest, rowAt}
-use Rattle.walk.specs.Answers.{numberOf, hopOf, readsOf, latest}
+use Rattle.walk.specs.Answers.{numberOf, hopOf, readsOf}
 use Rattle.walk.specs.Lookup.{pathRows, lookupOf}
-use Rattle.walk.specs.Meaning.{OnPath, Tested, Looked, refused, accepted}
+use Rattle.walk.specs.Meaning.{OnPath, Tested, Looked}
 use Rattle.tries.specs.FixedChoice.{padded}
 use Rattle.layout.specs.Blocks.{rowsAlong}
-use Rattle.layout.specs.Built.{tableTrie, NoMatch, Longest}
+use Rattle.layout.specs.Laid.{tableTrie, NoPrefix, LongestHop}
 use Rattle.tries.specs.Chooser.{chooseTests, Chooses}
 use Rattle.tries.specs.Build.{roomTest, buildTests, NoRecord, Builds}
 use Rattle.walk.proofs.Unique.{tested-unique, looked-unique}
 use Rattle.walk.proofs.Looked.{looked}
-use Rattle.walk.proofs.Reading.{answer-number, path-rows, reads-path, reads-most, lookup-local}
-use Rattle.layout.proofs.Laid.{blocks, laid-longest, no-route, rows-exactly, reads-blocks, reads-few, rows-alone, elements-cost, one-answer}
+use Rattle.walk.proofs.Answers.{refused-none}
+use Rattle.walk.proofs.Reading.{path-rows, reads-path, reads-most, lookup-local}
+use Rattle.layout.proofs.Laid.{blocks, accepted, laid-longest, no-route, rows-exactly, reads-blocks, reads-few, rows-alone, elements-cost, one-answer}
 use Rattle.tries.proofs.Choosing.{numbered-choose}
 use Rattle.tries.proofs.Builds.{early, late}
 
 -- ==== demand 1: bad input is refused by number, in a fixed order; the numbers say what is returned and what each list then holds
 
 -- an outcome is given exactly when the tests give it: the refusal of the first that fails, or acceptance where none does
-exactly : (ts : List Test) {out : Outcome} → Gives ts out → (o : Outcome) → (out ≡ o) ↔ Gives ts o
-exactly ts {out} g o = (λ (e : out ≡ o). subst (Gives ts) e g, λ (h : Gives ts o). gives-unique ts out o g h)
+given-exactly : (ts : List Test) {out : Outcome} → Gives ts out → (o : Outcome) → (out ≡ o) ↔ Gives ts o
+given-exactly ts {out} g o = (λ (e : out ≡ o). subst (Gives ts) e g, λ (h : Gives ts o). gives-unique ts out o g h)
 
 pub check-first : (W : ℕ) (vs ls hs : List ℕ) {out : Outcome} → Gives (tableTests W vs ls hs) out → (o : Outcome)
     → (out ≡ o) ↔ Gives (tableTests W vs ls hs) o
-check-first W vs ls hs = exactly (tableTests W vs ls hs)
+check-first W vs ls hs = given-exactly (tableTests W vs ls hs)
 
 pub shared-first : (W a l b m : ℕ) {r : Shared} → Shares W a l b m r → (o : Outcome) → (sharedOutcome r ≡ o) ↔ Gives (sharedTests W a l b m) o
-shared-first W a l b m s = exactly (sharedTests W a l b m) (s .tested)
+shared-first W a l b m s = given-exactly (sharedTests W a l b m) (s .tested)
 
 pub span-first : (W : ℕ) (vs ls hs : List ℕ) (p b : ℕ) {r : Span} → Spans W vs ls hs p b r → (o : Outcome)
     → (spanOutcome r ≡ o) ↔ Gives (zoneTests W vs ls hs p b) o
-span-first W vs ls hs p b s = exactly (zoneTests W vs ls hs p b) (s .tested)
+span-first W vs ls hs p b s = given-exactly (zoneTests W vs ls hs p b) (s .tested)
 
 -- refused, the part handed back is the empty part at 0
 pub zone-refused : (W : ℕ) (v : RefT (List ℕ)) (ls hs : List ℕ) (p b n d : ℕ) {r : RefT (List ℕ)} → HandsBack W v ls hs p b r
@@ -78,7 +79,7 @@ zone-refused W v ls hs p b n d {r} h g = go (h .0) (gives-unique (zoneTests W (n
 module _ {kind : Kind} {W k : ℕ} {vs ls hs scratch : List ℕ} {out : Outcome} {cost : ℕ} {strides s : List ℕ}
     (c : Chooses kind W k vs ls hs scratch out cost strides s) where
   pub choose-first : (o : Outcome) → (out ≡ o) ↔ Gives (chooseTests W k vs ls hs (length scratch)) o
-  choose-first = exactly (chooseTests W k vs ls hs (length scratch)) (c .tested)
+  choose-first = given-exactly (chooseTests W k vs ls hs (length scratch)) (c .tested)
 
   -- refused, it answers cost 0 and zero strides and changes nothing; accepted, it zeroes all scratch
   pub choose-refused : {n d : ℕ} → out ≡ Refused n d → (cost ≡ 0) × (strides ≡ padded LEVELS []) × (s ≡ scratch)
@@ -95,7 +96,7 @@ module _ {kind : Kind} {W k : ℕ} {vs ls hs scratch : List ℕ} {rows : Lists} 
   -- where 1 to 6 pass, the least cost is that of all choices of the kind with at most k levels
   pub build-first : (least : ℕ) → (1 ≤ k → Cheapest kind k (tableTrie W vs ls hs) least) → (o : Outcome)
       → (out ≡ o) ↔ Gives (buildTests W k vs ls hs (length scratch) (shortest rows) least) o
-  build-first least c = exactly (buildTests W k vs ls hs (length scratch) (shortest rows) least) (b .tested least c)
+  build-first least c = given-exactly (buildTests W k vs ls hs (length scratch) (shortest rows) least) (b .tested least c)
 
   passes : Gives tests Accepted → (least : ℕ) → Cheapest kind k (tableTrie W vs ls hs) least → out ≡ outcome (roomTest least (shortest rows) ∷ [])
   passes g least c =
@@ -112,11 +113,9 @@ module _ {kind : Kind} {W k : ℕ} {vs ls hs scratch : List ℕ} {rows : Lists} 
       let kept = b .keeps .refused (λ a. refused-not-accepted (sym e ∙ a)) in
       (e, kept .0, b .untouched (λ a. refused-not-accepted (gives-unique tests (Refused n d) Accepted g a)), kept .1)
 
-  -- refusal 7 zeroes all scratch and changes no element
-  pub refused-room : {d : ℕ} → out ≡ Refused 7 d → NoRecord rec × (s ≡ replicate (length scratch) 0) × (rows′ ≡ rows)
-  refused-room {d} e =
-      let kept = b .keeps .refused (λ a. refused-not-accepted (sym e ∙ a)) in
-      (kept .0, b .zeroed (go (outcome tests) refl), kept .1)
+  -- refusal 7 is given past tests 1 to 6
+  room-tested : {d : ℕ} → out ≡ Refused 7 d → Gives tests Accepted
+  room-tested {d} e = go (outcome tests) refl
     where
       seven : {n x : ℕ} → Refused n x ≡ Refused 7 d → n ≡ 7
       seven q = cc
@@ -126,6 +125,12 @@ module _ {kind : Kind} {W k : ℕ} {vs ls hs scratch : List ℕ} {rows : Lists} 
       go (Refused n x) p =
           let g = subst (Gives tests) p (outcome-gives tests) in
           absurd (omega (arith, refused-number 6 tests n x (numbered-choose 6 (omega arith) W k vs ls hs (length scratch)) g, seven (sym (refused-early g .0) ∙ e)))
+
+  -- refusal 7 zeroes all scratch and changes no element
+  pub refused-room : {d : ℕ} → out ≡ Refused 7 d → NoRecord rec × (s ≡ replicate (length scratch) 0) × (rows′ ≡ rows)
+  refused-room e =
+      let kept = b .keeps .refused (λ a. refused-not-accepted (sym e ∙ a)) in
+      (kept .0, b .zeroed (room-tested e), kept .1)
 
   -- an accepted build zeroes all scratch, writes rows 0 to E - 1 and keeps later rows
   pub build-accepted : out ≡ Accepted → (s ≡ replicate (length scratch) 0) × ((i : ℕ) → rec .elements ≤ i → rowAt rows′ i ≡ rowAt rows i)
@@ -137,16 +142,11 @@ module _ {kind : Kind} {W k : ℕ} {vs ls hs scratch : List ℕ} {rows : Lists} 
 
 -- a lookup gives number n exactly when test n is the first that fails, 0 when none does; refused, it has no hop and 0 reads
 module _ {most : ℕ} {rec : Record} {ls : Lists} {a : ℕ} where
-  pub looked-tested : {r : Answer} → Looked most rec ls a r → Tested most rec ls a (numberOf r)
-  looked-tested (refused t h) = t
-  looked-tested (accepted {rs = rs} t o e) = rw (e, answer-number (latest (rowAt ls) (rec .floor) rs) (length rs)) t
-
   pub lookup-first : {r : Answer} → Looked most rec ls a r → (n : ℕ) → (numberOf r ≡ n) ↔ Tested most rec ls a n
-  lookup-first {r} l n = (λ (e : numberOf r ≡ n). subst (Tested most rec ls a) e (looked-tested l), λ t. tested-unique (looked-tested l) t)
+  lookup-first {r} l n = (λ (e : numberOf r ≡ n). subst (Tested most rec ls a) e (l .tested), λ t. tested-unique (l .tested) t)
 
   pub lookup-refused : {r : Answer} → Looked most rec ls a r → 0 < numberOf r → (hopOf r ≡ 0) × (readsOf r ≡ 0)
-  lookup-refused (refused t h) g = (refl, refl)
-  lookup-refused (accepted {rs = rs} t o e) g = absurd (omega (arith, ap numberOf e, answer-number (latest (rowAt ls) (rec .floor) rs) (length rs)))
+  lookup-refused {r} l h = refused-none r h
 
 -- ==== demands 2 and 3 over one accepted build, and a lookup over what it left
 
@@ -185,18 +185,31 @@ module _ {kind : Kind} {W k : ℕ} {vs ls hs scratch : List ℕ} {rows : Lists} 
         ]
       ]
 
+  -- and the detail of 7 is that least number
+  pub room-detail : {least d : ℕ} → Cheapest kind k (tableTrie W vs ls hs) least → out ≡ Refused 7 d → d ≡ least
+  unfolding outcome
+  room-detail {least} {d} c e = same (ltb (shortest rows) least || ltb ELEMENTS least) refl
+    where
+      is : Refused 7 d ≡ outcome (roomTest least (shortest rows) ∷ [])
+      is = sym e ∙ passes b (room-tested b e) least c
+
+      detail : Refused 7 d ≡ Refused 7 least → d ≡ least
+      detail q = cc
+
+      same : (t : Bool) → (ltb (shortest rows) least || ltb ELEMENTS least) ≡ t → d ≡ least
+      same true f = detail (is ∙ outcome-fails (roomTest least (shortest rows)) [] f)
+      same false f = absurd (refused-not-accepted (is ∙ outcome-passes (roomTest least (shortest rows)) [] f))
+
   module _ (e : out ≡ Accepted) (a : ℕ) (h : a < 2 ^ W) {r : Answer} (l : Looked WIDTH rec rows′ a r) where
     is-looked : r ≡ lookupOf WIDTH rec rows′ a
     is-looked = looked-unique l (looked WIDTH rec rows′ a)
 
     -- ---- demand 2: the hop of the longest table prefix that begins the address, for either kind
-    pub build-longest : Longest W vs ls hs a (readsOf r) r
-    build-longest =
-        let g = b .laid e .2 in
-        rw is-looked (subst (λ (x : ℕ). Longest W vs ls hs a x (lookupOf WIDTH rec rows′ a)) (sym (reads-blocks g a h)) (laid-longest g a h))
+    pub build-longest : (numberOf r ≡ 0) × LongestHop W vs ls hs a (hopOf r)
+    build-longest = let g = b .laid e .2 in rw is-looked (accepted g a h, laid-longest g a h)
 
     -- they say that there is none exactly when no prefix does
-    pub build-none : (r ≡ NoRoute (readsOf r)) ↔ NoMatch W vs ls a
+    pub build-none : (r ≡ NoRoute (readsOf r)) ↔ NoPrefix W vs ls a
     build-none = let g = b .laid e .2 in rw (is-looked, reads-blocks g a h) (no-route g a h)
 
     -- ---- demand 3: the rows on the path are exactly those of the blocks of the 1-bit nodes that begin the address and at which the
@@ -229,6 +242,10 @@ one-table b c e e′ a h l l′ =
 module _ {most : ℕ} {rec : Record} {ls : Lists} {a : ℕ} {r : Answer} (l : Looked most rec ls a r) where
   any-looked : r ≡ lookupOf most rec ls a
   any-looked = looked-unique l (looked most rec ls a)
+
+  -- an accepted lookup went along a path to its end
+  pub any-path : numberOf r ≡ 0 → (rs : List ℕ) × OnPath rec ls a rs
+  any-path z = let t = l .told z in (t .0, t .1)
 
   pub any-reads : numberOf r ≡ 0 → {rs : List ℕ} → OnPath rec ls a rs → readsOf r ≡ length rs
   any-reads z o = rw any-looked (reads-path most rec ls a (rw any-looked at z)) ∙ ap length (path-rows rec ls a o)

@@ -10,7 +10,7 @@ use lib.ListN.{length, getD, set}
 use lib.Seq.{getD-set-same, getD-set-other}
 use Rattle.strides.specs.Trie.{bit}
 use Rattle.tries.specs.Scratch.{ROW, DEPTH}
-use Rattle.tries.specs.Trees.{Tree, nil, fork, col, linkOf, Row, Stand, Has, Apart, Under, lt, rt, lmark, rmark, rowAt, next, side, setSide, setMark, insertR, countR}
+use Rattle.tries.specs.Trees.{Tree, nil, fork, col, linkOf, NodeRow, Stand, Has, Apart, Under, lt, rt, lmark, rmark, rowFor, next, side, setSide, setMark, insertR, countR}
 use Rattle.tries.specs.Inserting.{Downed, InsertIn, InsertOut, Inserted}
 
 pub bit-two : (n x : ℕ) → bit n x < 2
@@ -19,7 +19,7 @@ bit-two n x = mod-lt _ (omega arith)
 
 -- the frame: a tree stands where each of its rows is kept
 module _ (rows rows' : List ℕ) where
-  keep-row : (x : ℕ) {a b p q : ℕ} → ((c : ℕ) → c < ROW → col rows' x c ≡ col rows x c) → Row rows x a b p q → Row rows' x a b p q
+  keep-row : (x : ℕ) {a b p q : ℕ} → ((c : ℕ) → c < ROW → col rows' x c ≡ col rows x c) → NodeRow rows x a b p q → NodeRow rows' x a b p q
   keep-row x same r = record {
     link0 = same 0 (omega arith) ∙ r .link0;
     link1 = same 1 (omega arith) ∙ r .link1;
@@ -32,7 +32,7 @@ module _ (rows rows' : List ℕ) where
   keep (fork x p l q r) same u =
       (keep-row x (same x (inl refl)) (u .0), keep l (λ y h. same y (inr (inl h))) (u .1), keep r (λ y h. same y (inr (inr h))) (u .2))
 
-step : (n u : ℕ) (t : Tree) (v h : ℕ) → (n ≡ 0 → ⊥) → insertR n u t v h ≡ setSide (bit n v) (rowAt u t) t (insertR (n - 1) (next u t) (side (bit n v) t) v h)
+step : (n u : ℕ) (t : Tree) (v h : ℕ) → (n ≡ 0 → ⊥) → insertR n u t v h ≡ setSide (bit n v) (rowFor u t) t (insertR (n - 1) (next u t) (side (bit n v) t) v h)
 unfolding insertR
 step zero u t v h ne = absurd (ne refl)
 step (suc n) u t v h ne = rw (sub-one (suc n)) refl
@@ -53,9 +53,9 @@ count-grows (suc n) u t v = omega (arith, count-grows n (next u t) (side (bit (s
 
 -- a tree that is nil, and its node just made, are one to insertR
 abbrev pub made : ℕ → Tree → Tree
-made u t = fork (rowAt u t) (lmark t) (lt t) (rmark t) (rt t)
+made u t = fork (rowFor u t) (lmark t) (lt t) (rmark t) (rt t)
 
-made-mark : (s u : ℕ) (t : Tree) (h : ℕ) → setMark s (rowAt u t) (made u t) h ≡ setMark s (rowAt u t) t h
+made-mark : (s u : ℕ) (t : Tree) (h : ℕ) → setMark s (rowFor u t) (made u t) h ≡ setMark s (rowFor u t) t h
 made-mark zero u t h = refl
 made-mark (suc s) u t h = refl
 
@@ -63,7 +63,7 @@ made-kid : (s u : ℕ) (t : Tree) → side s (made u t) ≡ side s t
 made-kid zero u t = refl
 made-kid (suc s) u t = refl
 
-made-set : (s u : ℕ) (t k : Tree) → setSide s (rowAt u t) (made u t) k ≡ setSide s (rowAt u t) t k
+made-set : (s u : ℕ) (t k : Tree) → setSide s (rowFor u t) (made u t) k ≡ setSide s (rowFor u t) t k
 made-set zero u t k = refl
 made-set (suc s) u t k = refl
 
@@ -93,16 +93,16 @@ made-under u nil h y (inr (inl e)) = absurd e
 made-under u nil h y (inr (inr e)) = absurd e
 made-under u (fork x p l q r) h y e = h y e
 
-pub link-insert : (n u : ℕ) (t : Tree) (v h : ℕ) → linkOf (insertR n u t v h) ≡ rowAt u t + 1
+pub link-insert : (n u : ℕ) (t : Tree) (v h : ℕ) → linkOf (insertR n u t v h) ≡ rowFor u t + 1
 unfolding insertR
 link-insert zero u t v h = go (bit 0 v)
   where
-    go : (s : ℕ) → linkOf (setMark s (rowAt u t) t h) ≡ rowAt u t + 1
+    go : (s : ℕ) → linkOf (setMark s (rowFor u t) t h) ≡ rowFor u t + 1
     go zero = refl
     go (suc s) = refl
 link-insert (suc n) u t v h = go (bit (suc n) v) (insertR n (next u t) (side (bit (suc n) v) t) v h)
   where
-    go : (s : ℕ) (k : Tree) → linkOf (setSide s (rowAt u t) t k) ≡ rowAt u t + 1
+    go : (s : ℕ) (k : Tree) → linkOf (setSide s (rowFor u t) t k) ≡ rowFor u t + 1
     go zero k = refl
     go (suc s) k = refl
 
@@ -193,7 +193,7 @@ module _ (rows : List ℕ) (x p : ℕ) (l : Tree) (q : ℕ) (r : Tree) where
       go (suc (suc s)) l2 = absurd (omega arith)
 
 pub record Ready (rows rows1 : List ℕ) (x s used y used1 : ℕ) (k : Tree) : Type 0 where
-  pub place : y ≡ rowAt used k
+  pub place : y ≡ rowFor used k
   pub count : used1 ≡ next used k
   pub stand : Stand rows1 (made used k)
   pub link : col rows1 x s ≡ y + 1
@@ -302,7 +302,7 @@ module _ (rows : List ℕ) (x used v n : ℕ) (g : InsertIn rows x used v n) whe
 
         -- what the call gives of the child k, whose row is y
         child : (k : Tree) → Ready rows rows1 x (bit n v) used y used1 k → Apart k → Under used k
-            → InsertOut rows1 (rowAt used k) (next used k) v (n - 1) h used2 rows2 (made used k)
+            → InsertOut rows1 (rowFor used k) (next used k) v (n - 1) h used2 rows2 (made used k)
         child k r a b =
             let ins' = rw (r .place, r .count) at ins in
             ins' .tree (lmark k) (lt k) (rmark k) (rt k) (r .stand) (made-apart used k a) (made-under used k b)
@@ -371,7 +371,7 @@ side-has (suc s) y (fork x p l q r) h = inr (inr h)
 
 pub has-insert : (n u : ℕ) (t : Tree) (v h y : ℕ) → Has y (insertR n u t v h) → Has y t ⊎ ((u ≤ y) × (y < countR n u t v))
 unfolding insertR countR
-has-insert zero u t v h y e = has-made u y t (has-mark (bit 0 v) (rowAt u t) y t h e)
+has-insert zero u t v h y e = has-made u y t (has-mark (bit 0 v) (rowFor u t) y t h e)
 has-insert (suc n) u t v h y e =
     let s = bit (suc n) v in
     let k = side s t in
@@ -380,7 +380,7 @@ has-insert (suc n) u t v h y e =
     λ m. ⊎-elim (λ a. inl a) (λ b. inr (omega arith, omega arith)) (has-made u y t m) in
     let new : Has y (insertR n (next u t) k v h) → Has y t ⊎ ((u ≤ y) × (y < countR n (next u t) k v)) =
     λ m. ⊎-elim (λ a. inl (side-has s y t a)) (λ b. inr (omega (arith, next-le u t), omega arith)) (has-insert n (next u t) k v h y m) in
-    ⊎-elim old new (has-side s (rowAt u t) y t (insertR n (next u t) k v h) e)
+    ⊎-elim old new (has-side s (rowFor u t) y t (insertR n (next u t) k v h) e)
 
 pub under-insert : (n u : ℕ) (t : Tree) (v h : ℕ) → Under u t → Under (countR n u t v) (insertR n u t v h)
 under-insert n u t v h b y e = ⊎-elim (λ a. omega (arith, b y a, count-grows n u t v)) (λ c. omega arith) (has-insert n u t v h y e)
@@ -394,13 +394,13 @@ apart-side : (s x : ℕ) (t k : Tree) → Apart (fork x (lmark t) (lt t) (rmark 
 apart-side zero x t k a b c d = (c, a .1, d, b, a .4)
 apart-side (suc s) x t k a b c d = (a .0, c, (λ y p q. d y q p), a .3, b)
 
-apart-kids : (s u : ℕ) (t : Tree) → Apart t → (Has (rowAt u t) (side s t) → ⊥) × Apart (side s t) × ((y : ℕ) → Has y (side s t) → Has y (sib s t) → ⊥)
+apart-kids : (s u : ℕ) (t : Tree) → Apart t → (Has (rowFor u t) (side s t) → ⊥) × Apart (side s t) × ((y : ℕ) → Has y (side s t) → Has y (sib s t) → ⊥)
 apart-kids zero u nil a = ((λ e. e), tt, (λ y p q. p))
 apart-kids (suc s) u nil a = ((λ e. e), tt, (λ y p q. p))
 apart-kids zero u (fork x p l q r) a = (a .0, a .3, a .2)
 apart-kids (suc s) u (fork x p l q r) a = (a .1, a .4, (λ y h k. a .2 y k h))
 
-row-under : (u : ℕ) (t : Tree) → Under u t → rowAt u t < next u t
+row-under : (u : ℕ) (t : Tree) → Under u t → rowFor u t < next u t
 row-under u nil b = omega arith
 row-under u (fork x p l q r) b = b x (inl refl)
 
@@ -412,13 +412,13 @@ sib-under (suc s) y (fork x p l q r) h = inr (inl h)
 
 pub apart-insert : (n u : ℕ) (t : Tree) (v h : ℕ) → Apart t → Under u t → Apart (insertR n u t v h)
 unfolding insertR
-apart-insert zero u t v h a b = apart-mark (bit 0 v) (rowAt u t) t h (made-apart u t a)
+apart-insert zero u t v h a b = apart-mark (bit 0 v) (rowFor u t) t h (made-apart u t a)
 apart-insert (suc n) u t v h a b =
     let s = bit (suc n) v in
     let k = side s t in
     let ks = apart-kids s u t a in
     let kb : Under (next u t) k = λ y e. omega (arith, b y (side-has s y t e), next-le u t) in
-    apart-side s (rowAt u t) t (insertR n (next u t) k v h) (made-apart u t a)
+    apart-side s (rowFor u t) t (insertR n (next u t) k v h) (made-apart u t a)
     (apart-insert n (next u t) k v h (ks .1) kb)
-    (λ e. ⊎-elim (λ c. ks .0 c) (λ c. omega (arith, row-under u t b)) (has-insert n (next u t) k v h (rowAt u t) e))
+    (λ e. ⊎-elim (λ c. ks .0 c) (λ c. omega (arith, row-under u t b)) (has-insert n (next u t) k v h (rowFor u t) e))
     (λ y e f. ⊎-elim (λ c. ks .2 y c f) (λ c. omega (arith, b y (sib-under s y t f), next-le u t)) (has-insert n (next u t) k v h y e))

@@ -13,13 +13,13 @@ use Rattle.walk.specs.Limits.{WIDTH}
 use Rattle.walk.specs.Rows.{Row, Lists, lists, shortest, rowAt, root}
 use Rattle.layout.specs.Blocks.{Strides, strideOf, rowsOf, rowCount}
 use Rattle.tries.specs.Filling.{LayAsks, LayGives}
-use Rattle.layout.specs.Built.{Built}
+use Rattle.layout.specs.Laid.{LaidTrie}
 use Rattle.layout.proofs.Blocks.{hold-unique, rows-length}
 
 -- a record with these fields beside the rows
 pub lays-built : {σ : Strides} {t : Trie} {rows plan : List ℕ} {link w k e : ℕ} {ls ls′ : Lists} (rec : Record)
     → LayAsks σ t rows plan link w k ls → LayGives σ t k ls e ls′ → shortest ls′ ≡ shortest ls → 0 < w → 0 < k
-    → rec .width ≡ w → rec .levels ≡ k → rec .elements ≡ e → root rec ≡ strideOf σ k t → Built WIDTH σ t rec ls′
+    → rec .width ≡ w → rec .levels ≡ k → rec .elements ≡ e → root rec ≡ strideOf σ k t → LaidTrie WIDTH σ t rec ls′
 lays-built rec g o s pw pk ew ek ee er = record {
   width = (omega arith, omega (arith, g .trunk .narrow));
   levels = (omega arith, omega (arith, g .trunk .levels));
@@ -36,7 +36,7 @@ lists-same p q r = rw (p, q, r)
 
 module _ {σ : Strides} {t : Trie} where
   -- two builds with as many levels have the same rows
-  pub built-unique : {most : ℕ} {rec rec′ : Record} {ls ls′ : Lists} → Built most σ t rec ls → Built most σ t rec′ ls′ → rec .levels ≡ rec′ .levels
+  pub built-unique : {most : ℕ} {rec rec′ : Record} {ls ls′ : Lists} → LaidTrie most σ t rec ls → LaidTrie most σ t rec′ ls′ → rec .levels ≡ rec′ .levels
       → (rec .elements ≡ rec′ .elements) × ((i : ℕ) → i < rec .elements → rowAt ls i ≡ rowAt ls′ i)
   built-unique {rec = rec} {ls = ls} {ls′ = ls′} g g′ e = (
     g .elements ∙ ap (λ (k : ℕ). rowCount σ k t) e ∙ sym (g′ .elements),

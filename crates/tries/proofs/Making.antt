@@ -16,7 +16,7 @@ use Rattle.strides.proofs.Insertion.{trie-insert, trie-empty}
 use Rattle.strides.proofs.Counting.{node-count}
 use Rattle.walk.specs.Limits.{WIDTH}
 use Rattle.tries.specs.Scratch.{ROW}
-use Rattle.tries.specs.Trees.{Tree, nil, fork, shape, linkOf, rowAt, next, side, setSide, setMark, lt, rt, lmark, rmark, Stand, Has, Apart, Under, insertR, countR, addEntry, treeOf}
+use Rattle.tries.specs.Trees.{Tree, nil, fork, shape, linkOf, rowFor, next, side, setSide, setMark, lt, rt, lmark, rmark, Stand, Has, Apart, Under, insertR, countR, addEntry, treeOf}
 use Rattle.tries.specs.Inserting.{InsertIn, Inserted}
 use Rattle.tries.specs.Making.{Prefixes, InRows, AddIn, AddOut, Added, MakeIn, MakeOut}
 use Rattle.tries.proofs.Inserting.{made, next-le, made-insert, made-count, made-apart, made-under, count-grows, under-insert, apart-insert, link-insert}
@@ -46,10 +46,10 @@ set-shape (suc s) x (fork y p l q r) k = refl
 
 pub insert-shape : (n u : ℕ) (t : Tree) (v h : ℕ) → shape (insertR n u t v h) ≡ insertT (suc n) v h (shape t)
 unfolding insertR insertT
-insert-shape zero u t v h = mark-shape (bit 0 v) (rowAt u t) h t
+insert-shape zero u t v h = mark-shape (bit 0 v) (rowFor u t) h t
 insert-shape (suc n) u t v h =
     let s = bit (suc n) v in
-    set-shape s (rowAt u t) t (insertR n (next u t) (side s t) v h)
+    set-shape s (rowFor u t) t (insertR n (next u t) (side s t) v h)
     ∙ ap (λ (k : Trie). place s (markOn s (shape t)) k (shape t)) (insert-shape n (next u t) (side s t) v h ∙ ap (insertT (suc n) v h) (side-shape s t))
 
 pub add-shape : (l u : ℕ) (t : Tree) (v h : ℕ) → shape (addEntry l u t v h) ≡ insertT l v h (shape t)
@@ -58,14 +58,14 @@ add-shape zero u t v h = refl
 add-shape (suc n) u t v h = insert-shape n u t v h
 
 -- as many rows are taken as nodes are new
-size-mark : (s u h : ℕ) (t : Tree) → next u t + size (shape t) ≡ u + size (shape (setMark s (rowAt u t) t h))
+size-mark : (s u h : ℕ) (t : Tree) → next u t + size (shape t) ≡ u + size (shape (setMark s (rowFor u t) t h))
 unfolding shape size
 size-mark zero u h nil = omega arith
 size-mark (suc s) u h nil = omega arith
 size-mark zero u h (fork x p l q r) = omega arith
 size-mark (suc s) u h (fork x p l q r) = omega arith
 
-size-set : (s u : ℕ) (t k : Tree) → u + (size (shape (setSide s (rowAt u t) t k)) + size (shape (side s t))) ≡ next u t + (size (shape t) + size (shape k))
+size-set : (s u : ℕ) (t k : Tree) → u + (size (shape (setSide s (rowFor u t) t k)) + size (shape (side s t))) ≡ next u t + (size (shape t) + size (shape k))
 unfolding shape size
 size-set zero u nil k = omega arith
 size-set (suc s) u nil k = omega arith
@@ -92,7 +92,7 @@ unfolding shape size
 open-next nil = refl
 open-next (fork x p l q r) = omega arith
 
-row-root : (t : Tree) (u : ℕ) → rowAt 0 t ≡ 0 → u ≡ size (shape t) → rowAt u t ≡ 0
+row-root : (t : Tree) (u : ℕ) → rowFor 0 t ≡ 0 → u ≡ size (shape t) → rowFor u t ≡ 0
 unfolding shape size
 row-root nil u e f = f
 row-root (fork x p l q r) u e f = e
@@ -103,7 +103,7 @@ made-stand rows nil a =
     (record { link0 = a .blank 0 (omega arith); link1 = a .blank 1 (omega arith); mark0 = a .blank 2 (omega arith); mark1 = a .blank 3 (omega arith) }, tt, tt)
 made-stand rows (fork x p l q r) a = a .stand
 
-link-row : (t : Tree) → linkOf t ≡ 0 + 1 → rowAt 0 t ≡ 0
+link-row : (t : Tree) → linkOf t ≡ 0 + 1 → rowFor 0 t ≡ 0
 link-row nil e = absurd (omega arith)
 link-row (fork x p l q r) e = omega arith
 
@@ -188,7 +188,7 @@ unfolding nodeCount
 count-mono W val len i zero = omega (arith, ap (nodeCount W val len) (add-zero i))
 count-mono W val len i (suc k) = omega (arith, count-mono W val len i k, ap (nodeCount W val len) (add-suc i k))
 
-link-one : (t : Tree) → rowAt 0 t ≡ 0 → (0 < size (shape t) → linkOf t ≡ 1) × (size (shape t) ≡ 0 → linkOf t ≡ 0)
+link-one : (t : Tree) → rowFor 0 t ≡ 0 → (0 < size (shape t) → linkOf t ≡ 1) × (size (shape t) ≡ 0 → linkOf t ≡ 0)
 unfolding shape size
 link-one nil e = (λ h. absurd (omega arith), λ z. refl)
 link-one (fork x p l q r) e = (λ h. omega arith, λ z. absurd (omega arith))

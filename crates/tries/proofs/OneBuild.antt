@@ -20,7 +20,7 @@ use Rattle.walk.specs.declared.record.Record.{Record}
 use Rattle.walk.specs.Limits.{WIDTH, LEVELS}
 use Rattle.walk.specs.Rows.{Lists, shortest, rowAt}
 use Rattle.layout.specs.Blocks.{Strides, rowsOf, rowCount, Hold}
-use Rattle.layout.specs.Built.{tableTrie, Laid}
+use Rattle.layout.specs.Laid.{tableTrie, Laid}
 use Rattle.tries.specs.Filling.{LayGives}
 use Rattle.tries.specs.FixedChoice.{padded}
 use Rattle.tries.specs.Chooser.{chooseTests}

@@ -11,7 +11,7 @@ use Rattle.walk.specs.Limits.{WIDTH, LEVELS}
 use Rattle.tries.specs.Scratch.{ROW, ask, strideAt, Stands, MARKS}
 use Rattle.layout.specs.Blocks.{Strides, wide, linkTo, strideOf}
 use Rattle.tries.specs.Filling.{Trunk}
-use Rattle.layout.proofs.Buildable.{good-left, good-right, good-width, good-level, good-stride, good-below}
+use Rattle.layout.proofs.GoodStrides.{good-left, good-right, good-width, good-level, good-stride, good-below}
 
 pub zero? : (k : ℕ) → (k ≡ 0) ⊎ (0 < k)
 zero? zero = inl refl

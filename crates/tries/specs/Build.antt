@@ -16,7 +16,7 @@ use Rattle.walk.specs.Limits.{WIDTH, LEVELS}
 use Rattle.tries.specs.Limits.{ELEMENTS}
 use Rattle.walk.specs.Rows.{Lists, shortest, rowAt}
 use Rattle.layout.specs.Blocks.{Strides}
-use Rattle.layout.specs.Built.{tableTrie, Laid}
+use Rattle.layout.specs.Laid.{tableTrie, Laid}
 use Rattle.tries.specs.Costs.{held}
 use Rattle.tries.specs.FixedChoice.{padded}
 use Rattle.tries.specs.Chooser.{chooseTests, ifAccepted}

@@ -17,7 +17,7 @@ use Rattle.strides.specs.Strides.{chosenBy}
 use Rattle.walk.specs.Limits.{LEVELS, Within}
 use Rattle.table.specs.Limits.{outside}
 use Rattle.tries.specs.Scratch.{ROW, MARKS, Stands}
-use Rattle.layout.specs.Built.{tableTrie}
+use Rattle.layout.specs.Laid.{tableTrie}
 use Rattle.tries.specs.Costs.{held}
 use Rattle.tries.specs.FixedChoice.{padded}
 

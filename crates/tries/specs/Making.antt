@@ -11,7 +11,7 @@ use Rattle.strides.specs.Trie.{size}
 use Rattle.strides.specs.Entries.{trieOf}
 use Rattle.walk.specs.Limits.{WIDTH}
 use Rattle.tries.specs.Scratch.{DEPTH, ROW}
-use Rattle.tries.specs.Trees.{Tree, shape, linkOf, rowAt, col, Stand, Apart, Under, addEntry, treeOf}
+use Rattle.tries.specs.Trees.{Tree, shape, linkOf, rowFor, col, Stand, Apart, Under, addEntry, treeOf}
 
 -- a table's prefixes, as far as its trie goes by them: they may repeat
 pub record Prefixes (W : ℕ) (vs ls : List ℕ) : Type 0 where
@@ -26,7 +26,7 @@ pub record InRows (rows : List ℕ) (t : Tree) : Type 0 where
   pub stand : Stand rows t
   pub apart : Apart t
   pub under : Under (size (shape t)) t
-  pub rooted : rowAt 0 t ≡ 0
+  pub rooted : rowFor 0 t ≡ 0
   pub bare : (y c : ℕ) → DEPTH ≤ c → c < ROW → col rows y c ≡ 0
   pub blank : (i : ℕ) → size (shape t) * ROW ≤ i → getD rows i 0 ≡ 0
 

@@ -29,7 +29,7 @@ abbrev pub col : List ℕ → ℕ → ℕ → ℕ
 col rows x c = getD rows (x * ROW + c) 0
 
 -- row x has the links a and b and the marks p and q
-pub record Row (rows : List ℕ) (x a b p q : ℕ) : Type 0 where
+pub record NodeRow (rows : List ℕ) (x a b p q : ℕ) : Type 0 where
   pub link0 : col rows x 0 ≡ a
   pub link1 : col rows x 1 ≡ b
   pub mark0 : col rows x 2 ≡ p
@@ -37,7 +37,7 @@ pub record Row (rows : List ℕ) (x a b p q : ℕ) : Type 0 where
 
 abbrev pub Stand : List ℕ → Tree → Type 0
 Stand rows nil = Unit {0}
-Stand rows (fork x p l q r) = Row rows x (linkOf l) (linkOf r) p q × Stand rows l × Stand rows r
+Stand rows (fork x p l q r) = NodeRow rows x (linkOf l) (linkOf r) p q × Stand rows l × Stand rows r
 
 -- y is a row of the tree
 abbrev pub Has : ℕ → Tree → Type 0
@@ -72,9 +72,9 @@ rmark nil = 0
 rmark (fork x p l q r) = q
 
 -- the tree's row, and the next free one, where the row u is taken for a tree that is nil
-abbrev pub rowAt : ℕ → Tree → ℕ
-rowAt u nil = u
-rowAt u (fork x p l q r) = x
+abbrev pub rowFor : ℕ → Tree → ℕ
+rowFor u nil = u
+rowFor u (fork x p l q r) = x
 
 abbrev pub next : ℕ → Tree → ℕ
 next u nil = u + 1
@@ -94,8 +94,8 @@ setMark (suc s) x t h = fork x (lmark t) (lt t) h (rt t)
 
 -- the entry of the last n + 1 bits of v with the mark h is put in; u is the next free row
 unfoldable pub insertR : ℕ → ℕ → Tree → ℕ → ℕ → Tree
-insertR zero u t v h = setMark (bit 0 v) (rowAt u t) t h
-insertR (suc n) u t v h = setSide (bit (suc n) v) (rowAt u t) t (insertR n (next u t) (side (bit (suc n) v) t) v h)
+insertR zero u t v h = setMark (bit 0 v) (rowFor u t) t h
+insertR (suc n) u t v h = setSide (bit (suc n) v) (rowFor u t) t (insertR n (next u t) (side (bit (suc n) v) t) v h)
 
 -- the next free row after that
 unfoldable pub countR : ℕ → ℕ → Tree → ℕ → ℕ

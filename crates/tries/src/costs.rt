@@ -8,6 +8,8 @@ ghost use Rattle.walk.specs.Limits.{WIDTH, LEVELS};
 ghost use Rattle.tries.specs.Limits.{ENTRIES};
 ghost use Rattle.tries.specs.Scratch.{ROW, ask};
 ghost use Rattle.tries.specs.Costs.{held, CELLS, slot, RowAdded, GatherIn, Gathered, price, bestCost, bestStride, Stored, SettleIn, Summed, DepthOver, Settled, TreeAsk, TreeDone};
+use crate::caps::capped_power;
+use crate::caps::capped_sum;
 use crate::limits::COST_CAP;
 use crate::limits::SLOTS;
 use crate::scratch::COST;
@@ -15,8 +17,6 @@ use crate::scratch::DEPTH;
 use crate::scratch::STRIDE;
 use crate::scratch::asked;
 use crate::scratch::put;
-use strides::capped_power;
-use strides::capped_sum;
 use table::WIDTH;
 
 // Places of the sums: every stride, and every number of levels left.
@@ -70,8 +70,8 @@ pub(crate) struct Best {
     pub(crate) cost: u64,
 }
 
-// The better of b and the stride j + 1 at the cost c; b where they are equal.
-fn better(b: Best, j: usize, c: u64) -> Best
+// The cheaper of b and the stride j + 1 at the cost c; b where they are equal.
+fn cheaper(b: Best, j: usize, c: u64) -> Best
     ensures other { λ r. ⌜ (b .cost ≤ c → (r .cost ≡ b .cost) × (r .place ≡ b .place)) ⌝ }
     ensures less { λ r. ⌜ (c < b .cost → (r .cost ≡ c) × (r .place ≡ j)) ⌝ }
 {
@@ -95,7 +95,7 @@ fn cheapest(sums: &[u64], n: usize, q: usize, depth: usize) -> Best
     let mut j = 0;
     while j + 1 < depth {
         j += 1;
-        b = better(b, j, price_at(sums, n, q, j));
+        b = cheaper(b, j, price_at(sums, n, q, j));
     }
     b
 }

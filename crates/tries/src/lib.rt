@@ -2,6 +2,7 @@
 // too, so that a caller who builds needs no other name.
 mod builder;
 mod building;
+mod caps;
 mod chooser;
 mod costs;
 mod counting;

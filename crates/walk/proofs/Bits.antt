@@ -1,16 +1,14 @@
--- Shift and mask at any machine width w: what the machine's `1 << s` and `x & ((1 << s) - 1)` are, where s is below w.
+-- Shift and mask at any machine width w: what the machine's `x & ((1 << s) - 1)` is, where s is below w.
 use Prim.Native.Nat.{ℕ, _-_, _*_, _/_, _%_, _^_, _≤_, _<_}
 use mathlib.Core.Path.{_≡_, ap, _∙_}
 use mathlib.Core.Bool.{false}
-use native.Mathlib.Nat.{one-mul, le-trans, mod-le, div-le-self}
+use native.Mathlib.Nat.{le-trans, mod-le, div-le-self}
 use native.Mathlib.Omega.{arith}
 use lib.Bits.{bitAnd, and-mask}
-use lib.Dec.{leb, lit<}
-use lib.Pow.{shl-exact, pow-mono}
+use lib.Dec.{leb}
+use lib.Pow.{pow-mono}
 use borrow.Author.Tests.{lt-leb}
-
-pub one-shl : (w s : ℕ) → s < w → (1 * 2 ^ s) % 2 ^ w ≡ 2 ^ s
-one-shl w s h = shl-exact 1 s w (lit< tt) (omega arith) ∙ one-mul (2 ^ s)
+use Rattle.table.proofs.Shifts.{one-shl}
 
 pub and-shl : (w s x : ℕ) → s < w → bitAnd x ((1 * 2 ^ s) % 2 ^ w - 1) ≡ x % 2 ^ s
 and-shl w s x h = ap (λ (m : ℕ). bitAnd x (m - 1)) (one-shl w s h) ∙ and-mask x s

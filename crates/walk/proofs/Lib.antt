@@ -1,5 +1,6 @@
 pub mod Bits
 pub mod Tests
+pub mod Answers
 pub mod Unique
 pub mod Walks
 pub mod Paths

@@ -12,29 +12,21 @@ use lib.ListN.{length}
 use borrow.Author.Tests.{eqb-true, eqb-false}
 use Rattle.walk.specs.declared.record.Record.{Record}
 use Rattle.walk.specs.declared.walk.Answer.{Answer}
-use Rattle.walk.specs.declared.walk.Answer.the-variants.{Match, NoRoute, Refused}
+use Rattle.walk.specs.declared.walk.Answer.the-variants.{Refused}
 use Rattle.walk.specs.Limits.{LEVELS, Outside, Within}
 use Rattle.walk.specs.Refusals.{fails, passes}
 use Rattle.walk.specs.Rows.{Lists, shortest, rowAt, root}
-use Rattle.walk.specs.Answers.{latest, answer}
+use Rattle.walk.specs.Answers.{numberOf, latest, answer, Case}
 use Rattle.walk.specs.Lookup.{ended, tell, fromRoot, pathOf, lookupOf}
-use Rattle.walk.specs.Meaning.{FromRoot, Damage, short, rootless, breaks, OnPath, empty, walked, Tested, Looked, refused, accepted}
+use Rattle.walk.specs.Meaning.{FromRoot, Damage, short, rootless, breaks, OnPath, empty, walked, Tested, Looked}
 use Rattle.walk.proofs.Tests.{Passed, refusal-cases}
+use Rattle.walk.proofs.Answers.{answer-has, answer-number, answer-case}
 use Rattle.walk.proofs.Unique.{path-unique, looked-unique}
 use Rattle.walk.proofs.Paths.{trail-path}
 
 apart : {x most : ℕ} → Within x most → Outside x most → ⊥
 apart w (inl z) = omega arith
 apart w (inr g) = omega arith
-
--- an answer with a best is no refusal
-answer-accepts : (best reads n : ℕ) → answer best reads ≡ Refused n → ⊥
-unfolding answer
-answer-accepts best reads n = go (eqb best 0)
-  where
-    go : (t : Bool) → cond t (NoRoute reads) (Match best reads) ≡ Refused n → ⊥
-    go true e = let z : _≡_ {A = ℕ} 0 1 = cc in omega arith
-    go false e = let z : _≡_ {A = ℕ} 0 1 = cc in omega arith
 
 module _ (most : ℕ) (rec : Record) (ls : Lists) (address : ℕ) where
   nine : Within (rec .width) most → Within (rec .levels) LEVELS → address < 2 ^ rec .width → Damage rec ls address → Tested most rec ls address 9
@@ -49,6 +41,21 @@ module _ (most : ℕ) (rec : Record) (ls : Lists) (address : ℕ) where
       sound (empty z) (breaks g b) = omega arith
       sound (walked h q) (breaks g b) = true≢false (path-unique q b .1)
 
+  -- a refusal by the first test that fails is allowed; and so is what the rows on the path say, where none fails
+  refused-looked : {n : ℕ} → Tested most rec ls address n → 0 < n → Looked most rec ls address (Refused n)
+  refused-looked t h = record { tested = t; told = λ z. absurd (omega arith); case = h }
+
+  accepted-looked : {rs : List ℕ} {a : Answer} → Tested most rec ls address 0 → OnPath rec ls address rs
+      → a ≡ answer (latest (rowAt ls) (rec .floor) rs) (length rs) → Looked most rec ls address a
+  accepted-looked {rs} t o e =
+      let best = latest (rowAt ls) (rec .floor) rs in
+      let has = answer-has best (length rs) in
+      rw e (record {
+        tested = rw (answer-number best (length rs)) t;
+        told = λ z. (rs, o, has .0, has .1);
+        case = answer-case best (length rs);
+      })
+
   -- past the tests, what the path says is allowed
   past-tests : Passed most rec (shortest ls) address → Looked most rec ls address (tell (rowAt ls) (rec .floor) 0 (pathOf rec ls address))
   unfolding pathOf tell latest
@@ -57,12 +64,12 @@ module _ (most : ℕ) (rec : Record) (ls : Lists) (address : ℕ) where
       along : (rs : List ℕ) (w : Bool) → 0 < root rec → FromRoot rec ls address rs w
           → Looked most rec ls address (cond w (answer (latest (rowAt ls) (rec .floor) rs) (0 + length rs)) (Refused 9))
       along rs true g q =
-          accepted (none p (walked g q)) (walked g q) (ap (answer _) (zero-add _))
-      along rs false g q = refused (nine (p .width) (p .levels) (p .inside) (breaks g q)) (omega arith)
+          accepted-looked (none p (walked g q)) (walked g q) (ap (answer _) (zero-add _))
+      along rs false g q = refused-looked (nine (p .width) (p .levels) (p .inside) (breaks g q)) (omega arith)
 
       go : (z : Bool) → eqb (root rec) 0 ≡ z
           → Looked most rec ls address (tell (rowAt ls) (rec .floor) 0 (cond z ended (fromRoot rec ls address)))
-      go true e = let z = eqb-true _ _ e in accepted (none p (empty z)) (empty z) refl
+      go true e = let z = eqb-true _ _ e in accepted-looked (none p (empty z)) (empty z) refl
       go false e =
           along _ _ (omega (arith, eqb-false (root rec) 0 e)) (trail-path _ _ _ _ _ _ _)
 
@@ -72,10 +79,10 @@ module _ (most : ℕ) (rec : Record) (ls : Lists) (address : ℕ) where
   looked =
       refusal-cases most rec (shortest ls) address
       (λ (n : ℕ). Looked most rec ls address (cond (eqb n 0) (tell (rowAt ls) (rec .floor) 0 (pathOf rec ls address)) (Refused n)))
-      (λ o. refused (fails o) (omega arith))
-      (λ w o. refused (passes (apart w) (fails o)) (omega arith))
-      (λ w k o. refused (passes (apart w) (passes (apart k) (fails o))) (omega arith))
-      (λ w k a d. refused (nine w k a (⊎-elim short (λ (z : (root rec ≡ 0) × (0 < rec .elements)). rootless (z .0) (z .1)) d)) (omega arith))
+      (λ o. refused-looked (fails o) (omega arith))
+      (λ w o. refused-looked (passes (apart w) (fails o)) (omega arith))
+      (λ w k o. refused-looked (passes (apart w) (passes (apart k) (fails o))) (omega arith))
+      (λ w k a d. refused-looked (nine w k a (⊎-elim short (λ (z : (root rec ≡ 0) × (0 < rec .elements)). rootless (z .0) (z .1)) d)) (omega arith))
       past-tests
 
   -- the promise's two clauses, from the first
@@ -85,18 +92,16 @@ module _ (most : ℕ) (rec : Record) (ls : Lists) (address : ℕ) where
   -- where the tests pass and the path comes to its end, the answer is what its rows say
   pub path-answer : {rs : List ℕ} → Passed most rec (shortest ls) address → OnPath rec ls address rs
       → lookupOf most rec ls address ≡ answer (latest (rowAt ls) (rec .floor) rs) (length rs)
-  path-answer p o = looked-unique looked (accepted (none p o) o refl)
+  path-answer p o = looked-unique looked (accepted-looked (none p o) o refl)
 
   -- a refusal is given exactly where its test is the first to fail
   pub tested-refused : {n : ℕ} → Tested most rec ls address n → 0 < n → lookupOf most rec ls address ≡ Refused n
-  tested-refused t h = looked-unique looked (refused t h)
+  tested-refused t h = looked-unique looked (refused-looked t h)
 
   pub refused-tested : (n : ℕ) → lookupOf most rec ls address ≡ Refused n → Tested most rec ls address n × (0 < n)
-  refused-tested n = go looked
-    where
-      go : {a : Answer} → Looked most rec ls address a → a ≡ Refused n → Tested most rec ls address n × (0 < n)
-      go (refused {n = m} t h) e = let z : m ≡ n = cc in (rw z at t, omega arith)
-      go (accepted t p d) e = absurd (answer-accepts _ _ n (sym d ∙ e))
+  refused-tested n e =
+      let z : numberOf (lookupOf most rec ls address) ≡ n = ap numberOf e in
+      (rw z at (looked .tested), rw e at (looked .case))
 
   -- refusal 9 in particular: past tests 1, 2 and 8, exactly for what 01 calls damage
   pub damage-refused : Within (rec .width) most → Within (rec .levels) LEVELS → address < 2 ^ rec .width → Damage rec ls address

@@ -48,8 +48,8 @@ pub path-below : {e address : ℕ} {at : ℕ → Row} {k base s left : ℕ} {rs 
     → (r : ℕ) → List·Memᴰ r rs → r < e
 path-below spent r i = absurd (List·Memᴰ·not-nil i)
 path-below (damaged d) r i = absurd (List·Memᴰ·not-nil i)
-path-below (last h z) r i = rw (List·Memᴰ·eq-of-singleton i) (h .below)
-path-below (on h z p) r i = elim (List·Memᴰ·cases-cons i) [ inl q ↦ rw q (h .below) | inr m ↦ path-below p r m ]
+path-below (last h z) r i = rw (List·Memᴰ·eq-of-singleton i) (h .within)
+path-below (on h z p) r i = elim (List·Memᴰ·cases-cons i) [ inl q ↦ rw q (h .within) | inr m ↦ path-below p r m ]
 
 -- two sets of rows that agree along a path have it in common
 pub path-local : {e address : ℕ} {at at′ : ℕ → Row} {k base s left : ℕ} {rs : List ℕ} {w : Bool} → Path e address at k base s left rs w

@@ -5,39 +5,21 @@ use mathlib.Core.Path.{_≡_, refl, sym, ap, _∙_}
 use mathlib.Core.Bool.{Bool, true, false, cond}
 use mathlib.Core.List.{List, List·Memᴰ, List·Memᴰ·not-nil}
 use native.Mathlib.Omega.{arith}
+use native.Mathlib.Decide.{decLe}
 use lib.Dec.{eqb}
 use lib.ListN.{length}
-use borrow.Author.Tests.{eqb-true}
 use Rattle.walk.specs.declared.record.Record.{Record}
 use Rattle.walk.specs.declared.walk.Answer.{Answer}
-use Rattle.walk.specs.declared.walk.Answer.the-variants.{Match, NoRoute}
 use Rattle.walk.specs.Rows.{Lists, shortest, rowAt, root}
-use Rattle.walk.specs.Answers.{numberOf, hopOf, readsOf, Accepted, latest, answer}
+use Rattle.walk.specs.Answers.{numberOf, hopOf, readsOf, Accepted, latest}
 use Rattle.walk.specs.Lookup.{Trail, ended, tell, fromRoot, pathOf, pathRows, lookupOf}
-use Rattle.walk.specs.Meaning.{OnPath, empty, walked, Looked, refused, accepted}
+use Rattle.walk.specs.Meaning.{OnPath, empty, walked, Looked}
 use Rattle.walk.proofs.Tests.{tests-same}
 use Rattle.walk.proofs.Walks.{path-empty, path-root}
+use Rattle.walk.proofs.Answers.{refused-none}
 use Rattle.walk.proofs.Unique.{path-unique}
 use Rattle.walk.proofs.Paths.{trail-path, path-length, path-below, path-local, latest-local}
 use Rattle.walk.proofs.Looked.{looked}
-
--- an answer has the hop and the reads that it was made of
-pub answer-has : (best reads : ℕ) → (hopOf (answer best reads) ≡ best) × (readsOf (answer best reads) ≡ reads)
-unfolding answer
-answer-has best reads = go (eqb best 0) refl
-  where
-    go : (t : Bool) → eqb best 0 ≡ t
-        → (hopOf (cond t (NoRoute reads) (Match best reads)) ≡ best) × (readsOf (cond t (NoRoute reads) (Match best reads)) ≡ reads)
-    go true e = (sym (eqb-true _ _ e), refl)
-    go false e = (refl, refl)
-
-pub answer-number : (best reads : ℕ) → numberOf (answer best reads) ≡ 0
-unfolding answer
-answer-number best reads = go (eqb best 0)
-  where
-    go : (t : Bool) → numberOf (cond t (NoRoute reads) (Match best reads)) ≡ 0
-    go true = refl
-    go false = refl
 
 module _ (rec : Record) (ls : Lists) (address : ℕ) where
   -- the path's rows are those of the rule
@@ -56,35 +38,37 @@ module _ (rec : Record) (ls : Lists) (address : ℕ) where
       go false i = path-below (trail-path _ _ _ _ _ _ _) r i
 
 module _ (most : ℕ) (rec : Record) (ls : Lists) (address : ℕ) where
-  told : {a : Answer} → Looked most rec ls address a → Accepted a → OnPath rec ls address (pathRows rec ls address)
-      × (a ≡ answer (latest (rowAt ls) (rec .floor) (pathRows rec ls address)) (length (pathRows rec ls address)))
-  told (refused t h) z = absurd (omega arith)
-  told (accepted t o e) z = rw (path-rows rec ls address o) (o, e)
+  -- what an accepted answer says, of the rule's own rows
+  on-rows : {a : Answer} → Looked most rec ls address a → Accepted a → OnPath rec ls address (pathRows rec ls address)
+      × (hopOf a ≡ latest (rowAt ls) (rec .floor) (pathRows rec ls address)) × (readsOf a ≡ length (pathRows rec ls address))
+  on-rows l z = let t = l .told z in rw (path-rows rec ls address (t .1)) (t .1, t .2, t .3)
 
   module _ (z : Accepted (lookupOf most rec ls address)) where
     -- an accepted lookup went along the path to its end
     pub rows-on-path : OnPath rec ls address (pathRows rec ls address)
-    rows-on-path = told (looked most rec ls address) z .0
+    rows-on-path = on-rows (looked most rec ls address) z .0
 
     -- it has as many reads as there are rows on it
     pub reads-path : readsOf (lookupOf most rec ls address) ≡ length (pathRows rec ls address)
-    reads-path = rw (told (looked most rec ls address) z .1) (answer-has _ (length (pathRows rec ls address)) .1)
+    reads-path = on-rows (looked most rec ls address) z .2
 
     -- and the hop that they leave as best
     pub hop-path : hopOf (lookupOf most rec ls address) ≡ latest (rowAt ls) (rec .floor) (pathRows rec ls address)
-    hop-path = rw (told (looked most rec ls address) z .1) (answer-has _ (length (pathRows rec ls address)) .0)
+    hop-path = on-rows (looked most rec ls address) z .1
 
   -- no lookup has more reads than k
   pub reads-most : readsOf (lookupOf most rec ls address) ≤ rec .levels
-  reads-most = go (looked most rec ls address)
+  reads-most = elim (decLe (numberOf a) 0) [
+    | yes z ↦ let t = looked most rec ls address .told (omega arith) in omega (arith, t .3, few (t .1))
+    | no z ↦ omega (arith, refused-none a (omega arith))
+  ]
     where
+      a : Answer
+      a = lookupOf most rec ls address
+
       few : {rs : List ℕ} → OnPath rec ls address rs → length rs ≤ rec .levels
       few (empty z) = omega arith
       few (walked g p) = path-length p
-
-      go : {a : Answer} → Looked most rec ls address a → readsOf a ≤ rec .levels
-      go (refused t h) = omega arith
-      go (accepted {rs = rs} t o e) = rw (e, answer-has _ (length rs) .1) (few o)
 
 -- two sets of lists agree at the rows of the first's path
 module _ (rec : Record) (address : ℕ) (ls ls′ : Lists) (same : (r : ℕ) → List·Memᴰ r (pathRows rec ls address) → rowAt ls r ≡ rowAt ls′ r) where

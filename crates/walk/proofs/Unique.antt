@@ -1,20 +1,23 @@
 -- One lookup, one answer: two answers that the promise's meaning allows are equal. From the meaning alone; nothing here
 -- knows how an answer is computed.
-use Prim.Native.Nat.{ℕ}
+use Prim.Native.Nat.{ℕ, _≤_}
 use mathlib.Core.Path.{_≡_, refl, sym, ap, _∙_}
 use mathlib.Core.Bool.{Bool}
 use mathlib.Core.List.{List, _∷_}
 use native.Mathlib.Omega.{arith}
+use native.Mathlib.Decide.{decLe}
+use lib.ListN.{length}
 use Rattle.walk.specs.declared.record.Record.{Record}
 use Rattle.walk.specs.declared.walk.Answer.{Answer}
-use Rattle.walk.specs.declared.walk.Answer.the-variants.{Refused}
-use Rattle.walk.specs.Refusals.{Test, fails, passes}
-use Rattle.walk.specs.Rows.{Row, Lists, rowOf}
-use Rattle.walk.specs.Meaning.{Readable, Damaged, no-stride, too-wide, past-end, Path, spent, damaged, last, on, OnPath, empty, walked, Tested, Looked, refused, accepted}
+use Rattle.walk.specs.Refusals.{RefuseBy, fails, passes}
+use Rattle.walk.specs.Rows.{Row, Lists, rowAt, rowOf}
+use Rattle.walk.specs.Answers.{numberOf, hopOf, readsOf, latest}
+use Rattle.walk.specs.Meaning.{Readable, Damaged, no-stride, too-wide, past-end, Path, spent, damaged, last, on, OnPath, empty, walked, Tested, Looked}
+use Rattle.walk.proofs.Answers.{refused-none, answer-unique}
 
 -- one test is the first that fails
 pub test-unique : {number : ℕ} {Fails : Type 0} {Rest : ℕ → Type 0} {n m : ℕ} → ((i j : ℕ) → Rest i → Rest j → i ≡ j)
-    → Test number Fails Rest n → Test number Fails Rest m → n ≡ m
+    → RefuseBy number Fails Rest n → RefuseBy number Fails Rest m → n ≡ m
 test-unique u (fails f) (fails g) = refl
 test-unique u (fails f) (passes h q) = absurd (h f)
 test-unique u (passes h p) (fails g) = absurd (h g)
@@ -24,7 +27,7 @@ test-unique u (passes h p) (passes k q) = u _ _ p q
 pub not-both : {e address base s left : ℕ} → Readable e address base s left → Damaged e address base s left → ⊥
 not-both h (no-stride d) = omega (arith, h .stride)
 not-both h (too-wide d) = omega (arith, h .fits)
-not-both h (past-end d) = omega (arith, h .below)
+not-both h (past-end d) = omega (arith, h .within)
 
 -- one path starts at a block
 pub path-unique : {e address : ℕ} {at : ℕ → Row} {k base s left : ℕ} {rs rs′ : List ℕ} {w w′ : Bool}
@@ -44,7 +47,7 @@ path-unique {address = address} {base = base} {s = s} {left = left} (on h z p) (
     let u = path-unique p q in (ap (λ (rs : List ℕ). rowOf address base s left ∷ rs) (u .0), u .1)
 
 -- one list of rows is on the path
-on-path-unique : {rec : Record} {ls : Lists} {address : ℕ} {rs rs′ : List ℕ} → OnPath rec ls address rs → OnPath rec ls address rs′ → rs ≡ rs′
+pub on-path-unique : {rec : Record} {ls : Lists} {address : ℕ} {rs rs′ : List ℕ} → OnPath rec ls address rs → OnPath rec ls address rs′ → rs ≡ rs′
 on-path-unique (empty z) (empty y) = refl
 on-path-unique (empty z) (walked g p) = absurd (omega arith)
 on-path-unique (walked g p) (empty y) = absurd (omega arith)
@@ -54,9 +57,22 @@ module _ {most : ℕ} {rec : Record} {ls : Lists} {address : ℕ} where
   pub tested-unique : {n m : ℕ} → Tested most rec ls address n → Tested most rec ls address m → n ≡ m
   tested-unique = test-unique (λ i j. test-unique (λ i j. test-unique (λ i j. test-unique (λ i j p q. p ∙ sym q))))
 
+  same-told : {a b : Answer} → Looked most rec ls address a → Looked most rec ls address b → numberOf a ≡ numberOf b → (hopOf a ≡ hopOf b) × (readsOf a ≡ readsOf b)
+  same-told {a} {b} l m e = elim (decLe (numberOf a) 0) [
+    | yes z ↦
+        let p = l .told (omega arith) in
+        let q = m .told (omega arith) in
+        let one = on-path-unique (p .1) (q .1) in
+        (p .2 ∙ ap (latest (rowAt ls) (rec .floor)) one ∙ sym (q .2), p .3 ∙ ap length one ∙ sym (q .3))
+    | no z ↦
+        let p = refused-none a (omega arith) in
+        let q = refused-none b (omega arith) in
+        (p .0 ∙ sym (q .0), p .1 ∙ sym (q .1))
+  ]
+
   -- one answer is allowed
   pub looked-unique : {a b : Answer} → Looked most rec ls address a → Looked most rec ls address b → a ≡ b
-  looked-unique (refused t h) (refused u g) = ap Refused (tested-unique t u)
-  looked-unique (refused t h) (accepted u q e) = absurd (omega (arith, tested-unique t u))
-  looked-unique (accepted t p e) (refused u g) = absurd (omega (arith, tested-unique t u))
-  looked-unique (accepted t p e) (accepted u q d) = e ∙ rw (on-path-unique p q) (sym d)
+  looked-unique {a} {b} l m =
+      let n : numberOf a ≡ numberOf b = tested-unique (l .tested) (m .tested) in
+      let s = same-told l m n in
+      answer-unique a b n (s .0) (s .1) (l .case) (m .case)

@@ -25,7 +25,7 @@ module _ (e address base s left : ℕ) where
       go false a u b v c = g (no-stride (omega (arith, ltb-false 0 s a)))
       go true a false b v c = g (too-wide (leb-false _ _ b))
       go true a true b false c = g (past-end (ltb-false _ _ c))
-      go true a true b true c = f (record { stride = ltb-true _ _ a; fits = leb-true _ _ b; below = ltb-true _ _ c })
+      go true a true b true c = f (record { stride = ltb-true _ _ a; fits = leb-true _ _ b; within = ltb-true _ _ c })
 
   readable-true : Readable e address base s left → readable e address base s left ≡ true
   readable-true h = read-cases (λ (t : Bool). t ≡ true) (λ g. refl) (λ d. absurd (not-both h d))

@@ -1,6 +1,6 @@
 -- A lookup's answer: document 01's number and values for each case ("a match with hop and reads, no route with reads, or
 -- a refusal by number"; "a refused lookup returns no hop and 0 reads"), and how hops are taken.
-use Prim.Native.Nat.{ℕ}
+use Prim.Native.Nat.{ℕ, _<_}
 use mathlib.Core.Path.{_≡_}
 use mathlib.Core.Bool.{cond}
 use mathlib.Core.List.{List, [], _∷_}
@@ -27,6 +27,12 @@ readsOf (Refused number) = 0
 
 abbrev pub Accepted : Answer → Type 0
 Accepted a = numberOf a ≡ 0
+
+-- which case an answer is, by number and hop: a refusal has a number, a match a hop; hop 0 is no route
+abbrev pub Case : Answer → Type 0
+Case (Match hop reads) = 0 < hop
+Case (NoRoute reads) = Unit {0}
+Case (Refused number) = 0 < number
 
 -- a nonzero hop is the new best
 unfoldable pub better : (hop best : ℕ) → ℕ

@@ -8,18 +8,17 @@ use mathlib.Core.Bool.{Bool, true, false}
 use mathlib.Core.List.{List, [], _∷_}
 use lib.ListN.{length}
 use Rattle.walk.specs.declared.walk.Answer.{Answer}
-use Rattle.walk.specs.declared.walk.Answer.the-variants.{Refused}
 use Rattle.walk.specs.declared.record.Record.{Record}
 use Rattle.walk.specs.Limits.{LEVELS, Outside}
-use Rattle.walk.specs.Refusals.{Test, NoMore}
+use Rattle.walk.specs.Refusals.{RefuseBy, NoMore}
 use Rattle.walk.specs.Rows.{Row, Lists, shortest, rowAt, root, rowOf}
-use Rattle.walk.specs.Answers.{latest, answer}
+use Rattle.walk.specs.Answers.{numberOf, hopOf, readsOf, Case, latest}
 
 -- a block that can be read
 pub record Readable (e address base s left : ℕ) : Type 0 where
   pub stride : 0 < s
   pub fits : s ≤ left
-  pub below : rowOf address base s left < e
+  pub within : rowOf address base s left < e
 
 -- one that cannot
 pub data Damaged (e address base s left : ℕ) : Type 0 where
@@ -58,13 +57,14 @@ module _ (most : ℕ) (rec : Record) (ls : Lists) (address : ℕ) where
   -- the number of the first test that fails, 0 where none does
   abbrev pub Tested : ℕ → Type 0
   Tested =
-      Test 1 (Outside (rec .width) most)
-      (Test 2 (Outside (rec .levels) LEVELS) (Test 8 (2 ^ rec .width ≤ address)
-      (Test 9 (Damage rec ls address) NoMore)))
+      RefuseBy 1 (Outside (rec .width) most)
+      (RefuseBy 2 (Outside (rec .levels) LEVELS) (RefuseBy 8 (2 ^ rec .width ≤ address)
+      (RefuseBy 9 (Damage rec ls address) NoMore)))
 
-  -- the answers allowed: a refusal by the first test that fails; where none does, what the rows on the path say: the floor
-  -- or the latest nonzero hop, and as reads their number
-  pub data Looked : Answer → Type 0 where
-    refused : {n : ℕ} → Tested n → 0 < n → Looked (Refused n)
-    accepted : {rs : List ℕ} {a : Answer} → Tested 0 → OnPath rec ls address rs
-        → a ≡ answer (latest (rowAt ls) (rec .floor) rs) (length rs) → Looked a
+  -- the answers allowed. The number is that of the first test that fails, 0 where none does; where none does, hop and reads are what
+  -- the rows on the path say: the floor or the latest nonzero hop, and how many rows they are; and the case is that of number and hop
+  pub record Looked (a : Answer) : Type 0 where
+    pub tested : Tested (numberOf a)
+    pub told : numberOf a ≡ 0
+        → (rs : List ℕ) × OnPath rec ls address rs × (hopOf a ≡ latest (rowAt ls) (rec .floor) rs) × (readsOf a ≡ length rs)
+    pub case : Case a

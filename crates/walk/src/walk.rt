@@ -107,7 +107,7 @@ fn is_unfit(elements: usize, rows: usize, root: u8) -> bool
 }
 
 // The number of the first test that fails before a row is read, in the order 1, 2, 8, 9; 0 for none.
-fn tested(rec: Record, rows: usize, address: u32) -> u32
+fn first_refusal(rec: Record, rows: usize, address: u32) -> u32
     ensures { λ r. ⌜ r ≡ refusalOf WIDTH rec rows address ⌝ }
 {
     if is_outside(rec.width, WIDTH) {
@@ -132,7 +132,7 @@ pub fn lookup(rec: Record, hop: &[u16], link: &[u32], stride: &[u8], address: u3
     ensures meaning { λ r. ⌜ Looked WIDTH rec (lists (now (hop .entry)) (now (link .entry)) (now (stride .entry))) address r ⌝ }
 {
     let rows = least(hop.len(), least(link.len(), stride.len()));
-    let refusal = tested(rec, rows, address);
+    let refusal = first_refusal(rec, rows, address);
     if refusal != 0 {
         return Answer::Refused { number: refusal };
     }

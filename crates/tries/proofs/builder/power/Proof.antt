@@ -1,5 +1,5 @@
 use native.Mathlib.Omega.{arith}
-use Rattle.walk.proofs.Bits.{one-shl}
+use Rattle.table.proofs.Shifts.{one-shl}
 use borrow.Author.Needs.{needs}
 use Rattle.tries.proofs.builder.power.Statement.{statement}
 use Rattle.tries.proofs.builder.power.Tie as tie

@@ -31,8 +31,8 @@ add-j c = search needs
 price-at-requires-2 : tie.Need-price-at-requires-2 Inv-loop μ-loop
 price-at-requires-2 c κs = search needs
 
-better-requires : tie.Need-better-requires Inv-loop μ-loop
-better-requires c κs = search needs
+cheaper-requires : tie.Need-cheaper-requires Inv-loop μ-loop
+cheaper-requires c κs = search needs
 
 loop-less : tie.Need-loop-less Inv-loop μ-loop
 loop-less c = search needs
@@ -41,7 +41,7 @@ loop-again : tie.Need-loop-again Inv-loop μ-loop
 loop-again c =
     let S = c .before .before .before .before .before .before in
     let l = c .before .before .before .loop in
-    let n = scan-next (price (S .args .sums .now) (S .args .n) (S .args .q)) (l .j) (l .inv .1) (l .inv .2) (c .before .price-at2 .ensures) (c .better .ensures .0) (c .better .ensures .1) in
+    let n = scan-next (price (S .args .sums .now) (S .args .n) (S .args .q)) (l .j) (l .inv .1) (l .inv .2) (c .before .price-at2 .ensures) (c .cheaper .ensures .0) (c .cheaper .ensures .1) in
     (omega arith, n .0, n .1)
 
 returns : tie.Need-returns Inv-loop μ-loop
@@ -63,7 +63,7 @@ cheapest-spec =
     add-loop
     add-j
     price-at-requires-2
-    better-requires
+    cheaper-requires
     loop-less
     loop-again
     returns)

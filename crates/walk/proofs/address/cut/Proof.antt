@@ -2,7 +2,8 @@ use Prim.Native.Nat.{_/_, _^_}
 use native.Mathlib.Omega.{arith}
 use lib.Pow.{pow-pos}
 use borrow.Author.Needs.{needs}
-use Rattle.walk.proofs.Bits.{one-shl, and-shl}
+use Rattle.table.proofs.Shifts.{one-shl}
+use Rattle.walk.proofs.Bits.{and-shl}
 use Rattle.walk.proofs.address.cut.Statement.{statement}
 use Rattle.walk.proofs.address.cut.Tie as tie
 

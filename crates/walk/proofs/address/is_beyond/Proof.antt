@@ -3,7 +3,8 @@ use mathlib.Core.Path.{ap, sym}
 use native.Mathlib.Omega.{arith}
 use lib.Dec.{leb}
 use borrow.Author.Needs.{needs}
-use Rattle.walk.proofs.Bits.{one-shl, held-below}
+use Rattle.table.proofs.Shifts.{one-shl}
+use Rattle.walk.proofs.Bits.{held-below}
 use Rattle.walk.proofs.address.is_beyond.Statement.{statement}
 use Rattle.walk.proofs.address.is_beyond.Tie as tie
 

@@ -62,7 +62,7 @@ can-read : (c : tie.Else3 Inv-loop μ-loop) →
     let l = c .before .before .before .before .before .loop in
     let a = c .before .before .before .before .before .before .before .before .before .args in
     Readable (a .elements) (a .address) (l .base) (l .s) (l .left)
-can-read c = record { stride = omega arith; fits = c .before .before .if2 .left; below = rw (row-is (c .before)) at (c .if3 .left) }
+can-read c = record { stride = omega arith; fits = c .before .before .if2 .left; within = rw (row-is (c .before)) at (c .if3 .left) }
 
 mul-newer : tie.Need-mul-newer Inv-loop μ-loop
 mul-newer c = search needs

@@ -10,9 +10,9 @@ use Rattle.walk.proofs.walk.lookup.Statement.{statement}
 use Rattle.walk.proofs.walk.lookup.Tie as tie
 
 -- the number that the tests gave is that of the shortest list
-number : (c : tie.After-tested) → let a = c .before .before .before .before .before .before .args in
-    c .tested .result ≡ refusalOf WIDTH (a .t1) (shortest (lists (a .hop .now) (a .link .now) (a .stride .now))) (a .address)
-number c = rw (c .before .least2 .ensures, c .before .before .least .ensures) at (c .tested .ensures)
+number : (c : tie.After-first-refusal) → let a = c .before .before .before .before .before .before .args in
+    c .first-refusal .result ≡ refusalOf WIDTH (a .t1) (shortest (lists (a .hop .now) (a .link .now) (a .stride .now))) (a .address)
+number c = rw (c .before .least2 .ensures, c .before .before .least .ensures) at (c .first-refusal .ensures)
 
 -- no test failed
 zero-number : (c : tie.Else1) → let a = c .before .before .before .before .before .before .before .args in
@@ -25,8 +25,8 @@ least-requires c κs = search needs
 least-requires-2 : tie.Need-least-requires-2
 least-requires-2 c κs = search needs
 
-tested-requires : tie.Need-tested-requires
-tested-requires c κs = search needs
+first-refusal-requires : tie.Need-first-refusal-requires
+first-refusal-requires c κs = search needs
 
 returns : tie.Need-returns
 returns c = promised _ _ _ _ (sym (lookup-refused _ _ _ _ (number (c .before)) (c .if1 .taken)))
@@ -58,7 +58,7 @@ lookup-spec =
     (tie.spec
     least-requires
     least-requires-2
-    tested-requires
+    first-refusal-requires
     returns
     element-copy-out-root
     cast-root

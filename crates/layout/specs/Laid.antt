@@ -1,24 +1,21 @@
--- A record and lists as one accepted build leaves them together: of a trie t and its strides (Built), and of a table (Laid).
+-- A record and lists as one accepted build leaves them together: of a trie t and its strides (LaidTrie), and of a table (Laid).
 -- The demands rest on these; what a call of `build` has to show is that its record and its lists are so.
-use Prim.Native.Nat.{ℕ, _≤_, _<_}
+use Prim.Native.Nat.{ℕ, _≤_}
 use mathlib.Core.Path.{_≡_}
-use mathlib.Core.Bool.{false}
 use mathlib.Core.List.{List}
 use lib.ListN.{length}
 use Rattle.table.specs.Table.{at, Table}
-use Rattle.table.specs.Longest.{matches, IsBest}
+use Rattle.table.specs.Longest.{NoMatch, LongestIs}
 use Rattle.strides.specs.Trie.{Trie}
 use Rattle.strides.specs.Entries.{trieOf, floorOf}
 use Rattle.strides.specs.Strides.{Good}
 use Rattle.walk.specs.declared.record.Record.{Record}
-use Rattle.walk.specs.declared.walk.Answer.{Answer}
-use Rattle.walk.specs.declared.walk.Answer.the-variants.{Match, NoRoute}
 use Rattle.walk.specs.Limits.{LEVELS, Within}
 use Rattle.walk.specs.Rows.{Lists, shortest, root}
 use Rattle.layout.specs.Blocks.{Strides, strideOf, rowsOf, rowCount, Hold}
 
 -- the record names the rows of t, and rows 0 to E - 1 are they; the widest address allowed is `most`
-pub record Built (most : ℕ) (σ : Strides) (t : Trie) (rec : Record) (ls : Lists) : Type 0 where
+pub record LaidTrie (most : ℕ) (σ : Strides) (t : Trie) (rec : Record) (ls : Lists) : Type 0 where
   pub width : Within (rec .width) most
   pub levels : Within (rec .levels) LEVELS
   pub good : Good σ t (rec .width) 0 (rec .levels)
@@ -40,14 +37,12 @@ pub record Laid (most W : ℕ) (vs ls hs : List ℕ) (σ : Strides) (k : ℕ) (r
   pub width : rec .width ≡ W
   pub levels : rec .levels ≡ k
   pub floor : rec .floor ≡ tableFloor W vs ls hs
-  pub built : Built most σ (tableTrie W vs ls hs) rec rows
+  pub built : LaidTrie most σ (tableTrie W vs ls hs) rec rows
 
 -- no prefix of the table begins the address a
-abbrev pub NoMatch : (W : ℕ) (vs ls : List ℕ) (a : ℕ) → Type 0
-NoMatch W vs ls a = (i : ℕ) → i < length vs → matches W (at vs) (at ls) a i ≡ false
+abbrev pub NoPrefix : (W : ℕ) (vs ls : List ℕ) (a : ℕ) → Type 0
+NoPrefix W vs ls a = NoMatch W (at vs) (at ls) (length vs) a
 
--- demand 2: the answers that give the hop of the longest table prefix that begins the address a, and say that there is none
--- exactly when no prefix does; `reads` is the number of blocks read
-pub data Longest (W : ℕ) (vs ls hs : List ℕ) (a reads : ℕ) : Answer → Type 0 where
-  found : {j : ℕ} → IsBest (matches W (at vs) (at ls) a) (at ls) (length vs) j → Longest W vs ls hs a reads (Match (at hs j) reads)
-  nothing : NoMatch W vs ls a → Longest W vs ls hs a reads (NoRoute reads)
+-- r is the hop of the longest table prefix that begins the address a, else 0
+abbrev pub LongestHop : (W : ℕ) (vs ls hs : List ℕ) (a r : ℕ) → Type 0
+LongestHop W vs ls hs a r = LongestIs W (at vs) (at ls) (at hs) (length vs) a r

@@ -7,8 +7,8 @@ use Rattle.walk.specs.Limits.{WIDTH, LEVELS}
 use Rattle.table.specs.Limits.{outside}
 use Rattle.walk.specs.Lookup.{refusalOf}
 use Rattle.walk.proofs.Tests.{outside-false}
-use Rattle.walk.proofs.walk.tested.Statement.{statement}
-use Rattle.walk.proofs.walk.tested.Tie as tie
+use Rattle.walk.proofs.walk.first_refusal.Statement.{statement}
+use Rattle.walk.proofs.walk.first_refusal.Tie as tie
 
 -- tests 1, 2 and 8 passed
 width-in : (c : tie.Else1) → outside (c .before .before .args .t1 .width) WIDTH ≡ false
@@ -60,8 +60,8 @@ unfolding refusalOf
 returns-5 c =
     simp (width-in (c .before .before .before .before .before .before .before), levels-in (c .before .before .before .before .before), address-in (c .before .before .before), sym (c .before .is-unfit .ensures) ∙ c .if4 .left)
 
-pub tested-spec : {M : Type 1} → statement M
-tested-spec =
+pub first-refusal-spec : {M : Type 1} → statement M
+first-refusal-spec =
     tie.close
     (tie.spec
     is-outside-requires
