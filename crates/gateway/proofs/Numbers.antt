@@ -23,7 +23,6 @@ use Rattle.tries.specs.Build.{buildTests}
 use Rattle.walk.specs.Meaning.{Tested, Looked}
 use Rattle.tries.proofs.Choosing.{numbered-choose}
 use Rattle.tries.proofs.Builds.{numbered-build}
-use Rattle.tries.proofs.Demands.{looked-tested}
 use Rattle.walk.specs.declared.record.Record.{Record}
 use Rattle.table.specs.Refusals.{outcomeNumber, outcomeDetail}
 use Rattle.gateway.specs.Numbers.{Told, outcomeNumbers, sharedNumbers, spanNumbers, choiceNumbers, buildNumbers, answerNumbers}
@@ -94,4 +93,4 @@ module _ (kind : Kind) (W k : ℕ) (vs ls hs scratch : List ℕ) where
 -- its tests are passed where it is 0; else the test of that number is the first to fail
 pub found-tells : (rec : Record) (ls : Lists) (address : ℕ) {r : Found} → Told (Looked WIDTH rec ls address) answerNumbers r
     → Tested WIDTH rec ls address (r .number)
-found-tells rec ls address t = rw (t .2) (looked-tested (t .1))
+found-tells rec ls address t = rw (t .2) (t .1 .tested)
