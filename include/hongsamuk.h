@@ -18,8 +18,21 @@
  * All lists belong to the caller before, during and after a call; no call keeps a pointer, allocates, or has a state of its
  * own, so calls on different lists may run at the same time. A list that a call writes must not overlap another list of that call.
  *
- * How long the lists of a build must be: a build with no scratch is refused by 6, and its detail is the number of scratch rows
- * (HONGSAMUK_ROW numbers each) that the table needs; a chooser answers the number of elements.
+ * How long the lists of a build must be: lend it no scratch. Where it is refused by 6, the detail is the number of scratch rows
+ * (HONGSAMUK_ROW numbers each) that the table needs: one for each node of its 1-bit trie. A table with no entry, or with none but
+ * the entry of length 0, has no nodes: it needs no scratch and no elements. A chooser answers the number of elements.
+ *
+ * The layout of the structs, in bytes: where each field begins, then the size. The code behind the calls, this header and the calls
+ * for Rust all have these numbers; the asserts at the end of this file hold a compiler of C11 or C++11 to them, and the tests of
+ * the calls for Rust hold all three to this table.
+ *
+ *    hongsamuk_record    width 0, levels 4, elements 8, floor 12, strides 14, size 24
+ *    hongsamuk_checked   number 0, detail 8, size 16
+ *    hongsamuk_shared    number 0, bits 4, size 8
+ *    hongsamuk_span      number 0, detail 8, index 16, count 20, size 24
+ *    hongsamuk_chosen    number 0, detail 8, cost 16, strides 24, size 32
+ *    hongsamuk_built     number 0, detail 8, record 16, size 40
+ *    hongsamuk_answer    number 0, hop 4, reads 8, size 12
  */
 #ifndef HONGSAMUK_H
 #define HONGSAMUK_H
@@ -143,7 +156,9 @@ hongsamuk_built hongsamuk_build_variable(
     uint32_t *row_link, size_t row_links,
     uint8_t *row_stride, size_t row_strides);
 
-/* The hop of the longest prefix that begins the address, or none: tests 1, 2, 8, 9. No list changes. */
+/* One lookup: tests 1, 2, 8, 9. Over a record and element lists that one accepted build left together: the hop of the table's
+ * longest prefix that begins the address, or 0 where none does. Over any other: the latest hop that is not 0 of the rows on the
+ * address's path, else the floor, as they are found there. No list changes. */
 hongsamuk_answer hongsamuk_lookup(
     hongsamuk_record record,
     const uint16_t *row_hop, size_t row_hops,
@@ -165,6 +180,50 @@ size_t hongsamuk_lookup_batch(
 
 #ifdef __cplusplus
 }
+#endif
+
+#if defined(__cplusplus) && __cplusplus >= 201103L
+#define HONGSAMUK_HOLDS(test) static_assert(test, #test)
+#elif defined(__STDC_VERSION__) && __STDC_VERSION__ >= 201112L
+#define HONGSAMUK_HOLDS(test) _Static_assert(test, #test)
+#endif
+
+#ifdef HONGSAMUK_HOLDS
+#define HONGSAMUK_AT(type, field, place) HONGSAMUK_HOLDS(offsetof(type, field) == (place))
+#define HONGSAMUK_SIZE(type, size) HONGSAMUK_HOLDS(sizeof(type) == (size))
+HONGSAMUK_AT(hongsamuk_record, width, 0);
+HONGSAMUK_AT(hongsamuk_record, levels, 4);
+HONGSAMUK_AT(hongsamuk_record, elements, 8);
+HONGSAMUK_AT(hongsamuk_record, floor, 12);
+HONGSAMUK_AT(hongsamuk_record, strides, 14);
+HONGSAMUK_SIZE(hongsamuk_record, 24);
+HONGSAMUK_AT(hongsamuk_checked, number, 0);
+HONGSAMUK_AT(hongsamuk_checked, detail, 8);
+HONGSAMUK_SIZE(hongsamuk_checked, 16);
+HONGSAMUK_AT(hongsamuk_shared, number, 0);
+HONGSAMUK_AT(hongsamuk_shared, bits, 4);
+HONGSAMUK_SIZE(hongsamuk_shared, 8);
+HONGSAMUK_AT(hongsamuk_span, number, 0);
+HONGSAMUK_AT(hongsamuk_span, detail, 8);
+HONGSAMUK_AT(hongsamuk_span, index, 16);
+HONGSAMUK_AT(hongsamuk_span, count, 20);
+HONGSAMUK_SIZE(hongsamuk_span, 24);
+HONGSAMUK_AT(hongsamuk_chosen, number, 0);
+HONGSAMUK_AT(hongsamuk_chosen, detail, 8);
+HONGSAMUK_AT(hongsamuk_chosen, cost, 16);
+HONGSAMUK_AT(hongsamuk_chosen, strides, 24);
+HONGSAMUK_SIZE(hongsamuk_chosen, 32);
+HONGSAMUK_AT(hongsamuk_built, number, 0);
+HONGSAMUK_AT(hongsamuk_built, detail, 8);
+HONGSAMUK_AT(hongsamuk_built, record, 16);
+HONGSAMUK_SIZE(hongsamuk_built, 40);
+HONGSAMUK_AT(hongsamuk_answer, number, 0);
+HONGSAMUK_AT(hongsamuk_answer, hop, 4);
+HONGSAMUK_AT(hongsamuk_answer, reads, 8);
+HONGSAMUK_SIZE(hongsamuk_answer, 12);
+#undef HONGSAMUK_SIZE
+#undef HONGSAMUK_AT
+#undef HONGSAMUK_HOLDS
 #endif
 
 #endif

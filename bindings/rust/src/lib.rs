@@ -263,7 +263,9 @@ pub fn build(kind: Kind, levels: u32, table: Table, scratch: &mut [u64], rows: R
     Built { outcome: outcome(built.number, built.detail), record: built.record }
 }
 
-/// The hop of the longest prefix that begins the address, or none: tests 1, 2, 8, 9.
+/// One lookup: tests 1, 2, 8, 9. Over a record and rows that one accepted build left together: a match with the hop of the table's
+/// longest prefix that begins the address, or no route where none does. Over any other: the latest hop that is not 0 of the rows on
+/// the address's path, else the floor, as they are found there.
 #[inline]
 pub fn lookup(record: &Record, rows: Rows, address: u32) -> Answer {
     // SAFETY: pointers and lengths are those of slices, which the call only reads.

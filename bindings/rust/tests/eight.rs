@@ -147,6 +147,7 @@ fn zones() {
     assert_eq!(zone_span(EIGHT, prefix(96, 4)), Span::Part { index: 5, count: 3 });
     assert_eq!(zone_span(EIGHT, prefix(72, 4)), Span::Part { index: 3, count: 0 });
     assert_eq!(zone_span(EIGHT, prefix(97, 4)), Span::Refused { number: 10, detail: 0 });
+    assert_eq!(zone_span(Table { width: 6, ..EIGHT }, prefix(0, 1)), Span::Refused { number: 4, detail: 1 });
     assert_eq!(zone(EIGHT, prefix(96, 4)).as_ptr(), EIGHT.value[5..].as_ptr());
     assert_eq!(zone(EIGHT, prefix(96, 4)).len(), 3);
     assert!(zone(EIGHT, prefix(97, 4)).is_empty());
