@@ -3,7 +3,9 @@
 // level limit and the lengths of scratch, which is filled with sevens, and of the element lists, filled with
 // nines; the answer is the outcome, the record, scratch's zeros and sevens, and how many nines each element
 // list has past row E. `record` gives a record and rows of its own. `print` prints rows 0 to E-1 of the last
-// record, `look` asks it one address, `sweep` all addresses below a number.
+// record, `look` asks it one address, `sweep` all addresses below a number. A line with another word, or with a
+// list longer than the program's room or than the rows that it gives, is answered `bad line` and changes nothing.
+// A text that fills the page is answered `text too long`.
 use cases::Held;
 use libc::STDIN_FILENO;
 use printing::put;
@@ -31,6 +33,18 @@ struct State {
     record: Record,
     lists: Lists,
     at: usize,
+}
+
+// The word that begins a line.
+enum Word {
+    Table,
+    Fixed,
+    Variable,
+    Record,
+    Print,
+    Look,
+    Sweep,
+    Other,
 }
 
 fn say_record(record: Record) {
@@ -139,12 +153,62 @@ fn build_held(
     )
 }
 
-// The word of the line says which kind.
-fn kind_of(letter: u8) -> Kind {
-    if letter == b'f' {
-        return Kind::Fixed;
+fn is_letter(byte: u8) -> bool {
+    if byte < b'a' {
+        return false;
     }
-    Kind::Variable
+    byte <= b'z'
+}
+
+// Whether a word stands there, with no letter after it.
+fn is_word(text: &[u8], at: usize, word: &[u8]) -> bool {
+    if text.len() < at {
+        return false;
+    }
+    if text.len() - at < word.len() {
+        return false;
+    }
+    let mut i = 0;
+    while i < word.len() {
+        if text[at + i] != word[i] {
+            return false;
+        }
+        i += 1;
+    }
+    !is_letter(cases::byte(text, at + word.len()))
+}
+
+fn word_at(text: &[u8], at: usize) -> Word {
+    if is_word(text, at, b"table") {
+        return Word::Table;
+    }
+    if is_word(text, at, b"fixed") {
+        return Word::Fixed;
+    }
+    if is_word(text, at, b"variable") {
+        return Word::Variable;
+    }
+    if is_word(text, at, b"record") {
+        return Word::Record;
+    }
+    if is_word(text, at, b"print") {
+        return Word::Print;
+    }
+    if is_word(text, at, b"look") {
+        return Word::Look;
+    }
+    if is_word(text, at, b"sweep") {
+        return Word::Sweep;
+    }
+    Word::Other
+}
+
+// Says that the line is bad, and passes it over.
+fn bad_line(text: &[u8], at: usize, state: State) -> State {
+    say(b"bad line");
+    let mut next = state;
+    next.at = cases::seek(text, at, b'\n', b'\n');
+    next
 }
 
 fn lists_at(text: &[u8], at: usize) -> Lists {
@@ -159,11 +223,32 @@ fn lists_at(text: &[u8], at: usize) -> Lists {
     }
 }
 
+// Whether one of the three lists is longer than that.
+fn is_longer(lists: Lists, than: usize) -> bool {
+    if than < lists.hops {
+        return true;
+    }
+    if than < lists.links {
+        return true;
+    }
+    than < lists.strides
+}
+
+// Whether the three lists, or the rows that are given next, are more than the room, or a list longer than the rows.
+fn is_unfit(text: &[u8], lists: Lists, room: usize) -> bool {
+    let rows = cases::number(text, lists.at).value as usize;
+    if room < rows {
+        return true;
+    }
+    is_longer(lists, rows)
+}
+
 // Lends as many places of scratch and of the element lists as the line says.
 fn build_line(
     text: &[u8],
     at: usize,
-    held: Held,
+    kind: Kind,
+    state: State,
     values: &[u32],
     lengths: &[u8],
     hops: &[u16],
@@ -172,10 +257,16 @@ fn build_line(
     row_links: &mut [u32],
     row_strides: &mut [u8],
 ) -> State {
-    let kind = kind_of(cases::byte(text, at));
+    let held = state.held;
     let levels = cases::number(text, at);
     let places = cases::number(text, levels.next);
     let lists = lists_at(text, places.next);
+    if scratch.len() < places.value as usize {
+        return bad_line(text, at, state);
+    }
+    if is_longer(lists, row_hops.len()) {
+        return bad_line(text, at, state);
+    }
     let n = cases::least(places.value as usize, scratch.len());
     let a = cases::least(lists.hops, row_hops.len());
     let b = cases::least(lists.links, row_links.len());
@@ -299,6 +390,7 @@ fn print(elements: usize, row_hops: &[u16], row_links: &[u32], row_strides: &[u8
 fn ask(
     text: &[u8],
     at: usize,
+    word: Word,
     state: State,
     row_hops: &[u16],
     row_links: &[u32],
@@ -306,16 +398,15 @@ fn ask(
 ) -> usize {
     let record = state.record;
     let lists = state.lists;
-    let letter = cases::byte(text, at);
     let h = cases::front16(row_hops, lists.hops);
     let l = cases::front32(row_links, lists.links);
     let s = cases::front8(row_strides, lists.strides);
-    if letter == b'p' {
+    if let Word::Print = word {
         print(record.elements as usize, h, l, s);
         return cases::seek(text, at, b'\n', b'\n');
     }
     let number = cases::number(text, at);
-    if letter == b's' {
+    if let Word::Sweep = word {
         sweep(cases::held32(number.value), record, h, l, s);
         return number.next;
     }
@@ -327,12 +418,15 @@ fn ask(
 fn record_line(
     text: &[u8],
     at: usize,
-    held: Held,
+    state: State,
     row_hops: &mut [u16],
     row_links: &mut [u32],
     row_strides: &mut [u8],
 ) -> State {
-    let mut next = record_at(text, at, held);
+    let mut next = record_at(text, at, state.held);
+    if is_unfit(text, next.lists, row_hops.len()) {
+        return bad_line(text, at, state);
+    }
     let listed = cases::rows(text, next.at, row_links, row_strides, row_hops);
     next.at = listed.next;
     say(b"record");
@@ -348,6 +442,10 @@ fn table_line(
     lengths: &mut [u8],
     hops: &mut [u16],
 ) -> State {
+    let width = cases::number(text, at);
+    if is_unfit(text, lists_at(text, width.next), values.len()) {
+        return bad_line(text, at, state);
+    }
     say(b"table");
     let held = cases::table_line(text, at, values, lengths, hops);
     let mut next = state;
@@ -356,7 +454,7 @@ fn table_line(
     next
 }
 
-// One case: its first letter says which.
+// One case: the first word of the next line says which.
 fn line(
     text: &[u8],
     state: State,
@@ -368,17 +466,16 @@ fn line(
     row_links: &mut [u32],
     row_strides: &mut [u8],
 ) -> State {
-    let held = state.held;
-    let at = cases::seek(text, state.at, b'a', b'z');
-    let letter = cases::byte(text, at);
-    if letter == b'r' {
-        return record_line(text, at, held, row_hops, row_links, row_strides);
-    }
-    if letter == b'f' || letter == b'v' {
-        return build_line(
+    let end = cases::seek(text, state.at, b'\n', b'\n');
+    let at = cases::seek(text, end, b'!', b'~');
+    let word = word_at(text, at);
+    match word {
+        Word::Table => table_line(text, at, state, values, lengths, hops),
+        Word::Fixed => build_line(
             text,
             at,
-            held,
+            Kind::Fixed,
+            state,
             values,
             lengths,
             hops,
@@ -386,14 +483,28 @@ fn line(
             row_hops,
             row_links,
             row_strides,
-        );
+        ),
+        Word::Variable => build_line(
+            text,
+            at,
+            Kind::Variable,
+            state,
+            values,
+            lengths,
+            hops,
+            scratch,
+            row_hops,
+            row_links,
+            row_strides,
+        ),
+        Word::Record => record_line(text, at, state, row_hops, row_links, row_strides),
+        Word::Other => bad_line(text, at, state),
+        _ => {
+            let mut next = state;
+            next.at = ask(text, at, word, state, row_hops, row_links, row_strides);
+            next
+        }
     }
-    if letter == b't' {
-        return table_line(text, at, state, values, lengths, hops);
-    }
-    let mut next = state;
-    next.at = ask(text, at, state, row_hops, row_links, row_strides);
-    next
 }
 
 // Before the first case: no table, a record of zeros, no rows.
@@ -451,6 +562,10 @@ fn run(
 fn main() {
     let mut page = cases::page();
     let n = io::read_full(STDIN_FILENO, &mut page);
+    if n == page.len() {
+        say(b"text too long\n");
+        return;
+    }
     let mut values = cases::values();
     let mut lengths = cases::lengths();
     let mut hops = cases::hops();

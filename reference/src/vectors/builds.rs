@@ -4,7 +4,9 @@
 //! zeros and sevens, and how many nines stand in each element list past row E. `print` prints rows 0 to E-1
 //! as hop/link/stride. `look` asks one address of the last record and lists, `sweep` all addresses below a
 //! number, as hop/reads, or r with the refusal. A `record` line sets a record and lists of its own, the
-//! rows as link/stride>hop; of its strides all but the first are the number called others.
+//! rows as link/stride>hop; of its strides all but the first are the number called others. A line with another
+//! word, or with a list longer than the program's room or than the rows that it gives, is a bad line and changes
+//! nothing.
 
 use super::choosers::{name, KINDS, SCRATCH};
 use super::tables::{damaged, width};
@@ -16,8 +18,9 @@ use crate::random::Random;
 use crate::table::Table;
 use crate::trie::Trie;
 
-/// The program's element lists have no more places.
+/// The program's element lists have no more places, and its table's lists.
 const ROOM: usize = 20_000;
+const ENTRIES: usize = 5_000;
 
 const WANTED: &[&str] = &[
     "fixed accepted",
@@ -50,6 +53,7 @@ const WANTED: &[&str] = &[
     "damage BlockAfterLast",
     "damaged row off the path",
     "link backwards followed",
+    "bad line",
 ];
 
 /// What the last build or `record` line left.
@@ -465,6 +469,37 @@ fn noise(vectors: &mut Vectors, random: &mut Random) {
     }
 }
 
+/// Lines of another word, and lists longer than the program's room or than the rows that are given. After each
+/// the record and the rows are the ones before it.
+fn bad(vectors: &mut Vectors) {
+    let lines = [
+        "lock 97".to_string(),
+        "looking 97".to_string(),
+        "loo 97".to_string(),
+        "LOOK 97".to_string(),
+        "97".to_string(),
+        "fixes levels 2 scratch 240 lists 26 26 26".to_string(),
+        format!("fixed levels 2 scratch {} lists 26 26 26", SCRATCH + 1),
+        format!("variable levels 2 scratch 240 lists {} 26 26", ROOM + 1),
+        format!("variable levels 2 scratch 240 lists 26 {} 26", ROOM + 1),
+        format!("variable levels 2 scratch 240 lists 26 26 {}", ROOM + 1),
+        format!("table width 7 lists 0 0 0 entries {}: 0/1>1", ENTRIES + 1),
+        "table width 7 lists 2 1 1 entries 1: 0/1>1".to_string(),
+        "table width 7 lists 1 1 2 entries 1: 0/1>1".to_string(),
+        format!("record width 7 levels 2 elements 0 floor 9 stride 0 others 0 lists 0 0 0 rows {}:", ROOM + 1),
+        "record width 7 levels 2 elements 0 floor 9 stride 0 others 0 lists 0 1 0 rows 0:".to_string(),
+    ];
+    let eight = eight();
+    table(vectors, &eight);
+    let left = built(vectors, &eight, Kind::Variable, 2, (240, 26, 26, 26));
+    for line in lines {
+        vectors.case(line, "bad line".to_string());
+        vectors.hit("bad line");
+        look(vectors, &left, 97);
+    }
+    built(vectors, &eight, Kind::Variable, 2, (240, 26, 26, 26));
+}
+
 pub fn write(top: &str) {
     let mut vectors = Vectors::default();
     let mut random = Random::new(5);
@@ -475,5 +510,6 @@ pub fn write(top: &str) {
     refusals(&mut vectors, &mut random);
     harmed(&mut vectors, &mut random);
     noise(&mut vectors, &mut random);
+    bad(&mut vectors);
     vectors.write(top, "build_cases", WANTED);
 }
