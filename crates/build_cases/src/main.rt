@@ -38,8 +38,7 @@ struct State {
 // The word that begins a line.
 enum Word {
     Table,
-    Fixed,
-    Variable,
+    Build(Kind),
     Record,
     Print,
     Look,
@@ -183,10 +182,10 @@ fn word_at(text: &[u8], at: usize) -> Word {
         return Word::Table;
     }
     if is_word(text, at, b"fixed") {
-        return Word::Fixed;
+        return Word::Build(Kind::Fixed);
     }
     if is_word(text, at, b"variable") {
-        return Word::Variable;
+        return Word::Build(Kind::Variable);
     }
     if is_word(text, at, b"record") {
         return Word::Record;
@@ -471,23 +470,10 @@ fn line(
     let word = word_at(text, at);
     match word {
         Word::Table => table_line(text, at, state, values, lengths, hops),
-        Word::Fixed => build_line(
+        Word::Build(kind) => build_line(
             text,
             at,
-            Kind::Fixed,
-            state,
-            values,
-            lengths,
-            hops,
-            scratch,
-            row_hops,
-            row_links,
-            row_strides,
-        ),
-        Word::Variable => build_line(
-            text,
-            at,
-            Kind::Variable,
+            kind,
             state,
             values,
             lengths,
