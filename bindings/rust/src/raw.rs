@@ -1,5 +1,5 @@
 //! The calls of `include/hongsamuk.h` as they are: pointers and lengths. A pointer must be good for its length, or the length 0.
-//! The structures are laid out as in C.
+//! The structures are laid out as in C; `tests/layout.rs` holds them to the table in the header's comment.
 
 use crate::{Record, LEVELS};
 
