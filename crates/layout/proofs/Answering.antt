@@ -28,13 +28,13 @@ use Rattle.layout.proofs.Blocks.{hold-first, hold-rest, hold-at, level-
 
 -- ---- the blocks along an address
 module _ (σ : Strides) where
-  blocks-none : (w c n r x : ℕ) → blocksAlong σ w none c n r x ≡ []
+  pub blocks-none : (w c n r x : ℕ) → blocksAlong σ w none c n r x ≡ []
   unfolding blocksAlong
   blocks-none zero c n r x = refl
   blocks-none (suc w) c n r x = refl
 
   -- a block begins: it, and the blocks below its stride
-  blocks-own : (w : ℕ) (t : Trie) (n r s x : ℕ) → Some t → 0 < w → σ (suc r) t ≡ suc s
+  pub blocks-own : (w : ℕ) (t : Trie) (n r s x : ℕ) → Some t → 0 < w → σ (suc r) t ≡ suc s
       → blocksAlong σ w t 0 n (suc r) x ≡ record { level = n; stride = suc s; bits = w } ∷ blocksAlong σ w t (suc s) (suc n) r x
   unfolding blocksAlong
   blocks-own zero t n r s x g h e = absurd (omega arith)
@@ -42,7 +42,7 @@ module _ (σ : Strides) where
   blocks-own (suc w) (node p a q b) n r s x g h e = rw e
 
   -- between blocks the bits lead on
-  blocks-split : (c m w : ℕ) (t : Trie) (n r x : ℕ) → w ≡ c + m
+  pub blocks-split : (c m w : ℕ) (t : Trie) (n r x : ℕ) → w ≡ c + m
       → blocksAlong σ w t c n r x ≡ blocksAlong σ m (subAlong c t (x / 2 ^ m)) 0 n r x
   unfolding blocksAlong subAlong
   blocks-split zero m w t n r x e = let z : w ≡ m = omega arith in rw z
@@ -169,7 +169,7 @@ module _ (σ : Strides) (ls : Lists) (e : ℕ) where
     unfolding rowOf
     readable = record { stride = omega arith; fits = le; within = omega (arith, rw (wide-own σ t r some, h) at (l .fits 0), index-lt) }
 
-    lies-next : Lies sub 0 r next
+    pub lies-next : Lies sub 0 r next
     lies-next = lies-along (suc s) t r (λ n. at (suc n)) cut (lies-below t r s at h l)
 
     -- the rows on the path from here, and from the child block
@@ -327,7 +327,7 @@ module _ (σ : Strides) (t : Trie) (k : ℕ) (ls : Lists) where
       let e : k ≡ suc (pred k) = omega arith in
       rw e (rw (wide-own σ t (pred k) some) (pow-pos (σ (suc (pred k)) t)))
 
-  lies-all : (w : ℕ) → Some t → Good σ t w 0 k → Hold ls 0 (rowsOf σ k t) → Lies σ ls (rowCount σ k t) t 0 k (firstRow σ t k)
+  pub lies-all : (w : ℕ) → Some t → Good σ t w 0 k → Hold ls 0 (rowsOf σ k t) → Lies σ ls (rowCount σ k t) t 0 k (firstRow σ t k)
   unfolding rowsOf rowCount
   lies-all w some good h = record {
     rows = λ n. elim (decLe (suc n) k) [

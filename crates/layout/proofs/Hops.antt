@@ -13,24 +13,21 @@ use Rattle.strides.specs.Entries.{trieOf}
 use Rattle.strides.proofs.Paths.{bit-mod, SameBits, mark-same}
 use Rattle.strides.proofs.Longest.{mark-block}
 use Rattle.layout.specs.Blocks.{Strides, rowBelow}
-
--- the row's path, as an address of W bits
-abbrev pub rowPath : (W d s q x : ℕ) → ℕ
-rowPath W d s q x = (q * 2 ^ s + x) * 2 ^ (W - (d + s))
+use Rattle.layout.specs.PathBlocks.{rowPath}
 
 module _ (W d s q x : ℕ) (fits : d + s ≤ W) (first : q < 2 ^ d) (index : x < 2 ^ s) where
-  path-lt : rowPath W d s q x < 2 ^ W
+  pub path-lt : rowPath W d s q x < 2 ^ W
   path-lt =
       let e : d + s + (W - (d + s)) ≡ W = omega arith in
       let small : q * 2 ^ s + x < 2 ^ (d + s) = rw (pow-add 2 d s) (digits-lt first index) in
       let whole = shl-lt (d + s) (W - (d + s)) small in
       rw e at whole
 
-  path-row : start W (d + s) (rowPath W d s q x) ≡ q * 2 ^ s + x
+  pub path-row : start W (d + s) (rowPath W d s q x) ≡ q * 2 ^ s + x
   unfolding start
   path-row = shl-shr (q * 2 ^ s + x) (W - (d + s))
 
-  path-node : start W d (rowPath W d s q x) ≡ q
+  pub path-node : start W d (rowPath W d s q x) ≡ q
   unfolding start
   path-node =
       let e : W - d ≡ W - (d + s) + s = omega arith in

@@ -4,5 +4,7 @@ pub mod GoodStrides
 pub mod Order
 pub mod Answering
 pub mod Hops
+pub mod PathBlocks
+pub mod RowRule
 pub mod Laid
 pub mod Agreeing

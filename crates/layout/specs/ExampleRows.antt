@@ -1,13 +1,15 @@
--- The rows of document 01's run (width 3, two levels, 1 to hop 1 and 101 to hop 2; root stride 1, then 2), by computation from its
--- table, with the rows on the path of address 101.
+-- Rows by computation from their tables. First 01's run (width 3, two levels, 1 to hop 1 and 101 to hop 2; root stride 1, then 2), with
+-- the rows on the path of address 101.
 use Prim.Native.Nat.{ℕ, zero, suc}
 use mathlib.Core.Path.{_≡_, refl}
 use mathlib.Core.List.{List, [], _∷_}
 use Rattle.table.specs.Prefix.{start}
-use Rattle.strides.specs.Trie.{Trie, bit, markAlong, subAlong}
+use Rattle.strides.specs.Trie.{Trie, depth, bit, markAlong, subAlong}
+use Rattle.strides.specs.Eight.{eightTrie}
 use Rattle.strides.specs.Entries.{nodeIf, trieBelow, beyond, properStart, wholeEntry, someStart, markAt, trieOf}
 use Rattle.walk.specs.Rows.{Row, rowOf}
-use Rattle.layout.specs.Blocks.{Strides, wide, leftOf, rowBelow, listOf, blockRows, levelRows, firstRow, levelsRows, rowsOf, rowCount, blocksAlong, blockRow, rowsAlong}
+use Rattle.layout.specs.Blocks.{Strides, wide, leftOf, rowBelow, listOf, blockRows, levelRows, firstRow, levelsRows}
+use Rattle.layout.specs.Blocks.{rowsOf, rowCount, blocksAlong, blockRow, rowsAlong}
 use Rattle.layout.specs.Laid.{tableTrie}
 
 abbrev table : Trie
@@ -23,5 +25,24 @@ row h l s = record { hop = h; link = l; stride = s }
 
 rows : (rowsOf strides 2 table ≡ row 0 0 0 ∷ row 1 2 2 ∷ row 0 0 0 ∷ row 2 0 0 ∷ row 0 0 0 ∷ row 0 0 0 ∷ [])
     × (rowCount strides 2 table ≡ 6) × (rowsAlong strides 3 2 table 0b101 ≡ 1 ∷ 3 ∷ [])
-unfolding start bit markAlong subAlong nodeIf trieBelow beyond properStart wholeEntry someStart markAt trieOf rowOf wide leftOf rowBelow listOf blockRows levelRows firstRow levelsRows rowsOf rowCount blocksAlong blockRow rowsAlong
+unfolding start bit markAlong subAlong nodeIf trieBelow beyond properStart wholeEntry someStart markAt trieOf rowOf wide leftOf
+    rowBelow listOf blockRows levelRows firstRow levelsRows rowsOf rowCount blocksAlong blockRow rowsAlong
 rows = (refl, refl, refl)
+
+-- The eight-prefix table with the variable strides for two levels: 4 at the root, then as deep as the subtrie is. Its two child
+-- blocks lie left to right, at rows 16 and 18 with strides 1 and 3.
+abbrev eightStrides : Strides
+eightStrides zero t = 0
+eightStrides (suc zero) t = depth t
+eightStrides (suc (suc r)) t = 4
+
+-- n rows with the hop h and no child
+abbrev plain : (n h : ℕ) → List Row → List Row
+plain zero h rs = rs
+plain (suc n) h rs = row h 0 0 ∷ plain n h rs
+
+eight-rows : rowsOf eightStrides 2 eightTrie
+    ≡ plain 8 1 (row 2 16 1 ∷ plain 1 2 (plain 2 4 (row 6 18 3 ∷ plain 3 3 (plain 1 0 (plain 1 5 (plain 1 8 (plain 1 7 (plain 6 0 []))))))))
+unfolding start bit markAlong subAlong nodeIf trieBelow beyond properStart wholeEntry someStart markAt trieOf eightTrie depth rowOf wide leftOf
+    rowBelow listOf blockRows levelRows firstRow levelsRows rowsOf
+eight-rows = refl
