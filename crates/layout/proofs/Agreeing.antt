@@ -5,11 +5,13 @@ use mathlib.Core.Bool.{true, false}
 use mathlib.Core.List.{List, [], _∷_, _++_}
 use native.Mathlib.Omega.{arith}
 use Rattle.strides.specs.Trie.{Trie, none, node, left, kid, bit, markAlong, subAlong}
-use Rattle.strides.specs.Choice.{onSide}
 use Rattle.strides.specs.Strides.{Good, choiceBy}
-use Rattle.strides.specs.Choice.{SameBlocks}
+use Rattle.strides.specs.Choice.{onSide, SameBlocks}
 use Rattle.walk.specs.Rows.{Row}
-use Rattle.layout.specs.Blocks.{Strides, wide, passed, leftOf, linkTo, strideOf, rowBelow, listOf, blockRows, levelRows, firstRow, levelsRows, rowsOf, rowCount, Begun, blocksAlong}
+use Rattle.walk.specs.declared.record.Record.{Record}
+use Rattle.walk.specs.Rows.{Lists}
+use Rattle.layout.specs.Laid.{tableTrie, Laid}
+use Rattle.layout.specs.Blocks.{Hold, Strides, wide, passed, leftOf, linkTo, strideOf, rowBelow, listOf, blockRows, levelRows, firstRow, levelsRows, rowsOf, rowCount, Begun, blocksAlong}
 
 -- one step along a path, with what stands left of it
 at-none : (i : ℕ) (f : Trie → ℕ) → f none ≡ 0 → passed i 0 + f (kid i none) ≡ 0
@@ -167,3 +169,25 @@ module _ (σ τ : Strides) where
     pub count-same : rowCount σ k t ≡ rowCount τ k t
     unfolding rowCount
     count-same = first-same k
+
+-- so what is laid for the ones is laid for the others
+pub laid-agree : {most W : ℕ} {vs ls hs : List ℕ} {σ τ : Strides} {k : ℕ} {rec : Record} {rows : Lists} → Agree σ τ (tableTrie W vs ls hs) 0 k
+    → Good τ (tableTrie W vs ls hs) W 0 k → Laid most W vs ls hs σ k rec rows → Laid most W vs ls hs τ k rec rows
+laid-agree {W = W} {vs = vs} {ls = ls} {hs = hs} {σ = σ} {τ = τ} {k = k} {rows = rows} a good l =
+    let t = tableTrie W vs ls hs in
+    let b = l .built in
+    record {
+      table = l .table;
+      width = l .width;
+      levels = l .levels;
+      floor = l .floor;
+      built = record {
+        width = b .width;
+        levels = b .levels;
+        good = rw (l .width, l .levels) good;
+        elements = rw (l .levels) (rw (l .levels) at (b .elements) ∙ count-same σ τ t k a);
+        first = rw (l .levels) (rw (l .levels) at (b .first) ∙ stride-same σ τ t k a);
+        room = b .room;
+        rows = rw (l .levels) (subst (Hold rows 0) (rows-same σ τ t k a) (rw (l .levels) at (b .rows)));
+      };
+    }

@@ -25,9 +25,9 @@ use Rattle.strides.specs.Entries.{wholeEntry, markAt, floorOf}
 use Rattle.strides.specs.Cheapest.{Kind, fixed, variable, Cheapest}
 use Rattle.strides.specs.Recurrence.{plain, leastBy, stridesBy, fixedStrides, listBy, pickBy}
 use Rattle.strides.specs.Strides.{Follows, chosenBy, costBy, variableStride, fixedStride}
-use Rattle.strides.proofs.Insertion.{trie-depth-width}
-use Rattle.strides.proofs.Cheapest.{chosen-good, least-cheapest, strides-named, cheapest-unique}
-use Rattle.strides.proofs.Capped.{chosen-capped, strides-capped, follows-capped, cap-never-bites}
+use Rattle.strides.proofs.Cheapest.{chosen-good, chosen-follows, least-cheapest, strides-named, cheapest-unique}
+use Rattle.strides.proofs.Capped.{chosen-capped, strides-capped, follows-capped}
+use Rattle.strides.proofs.Follows.{follows-unique}
 use Rattle.walk.specs.declared.record.Record.{Record}
 use Rattle.walk.specs.Limits.{WIDTH, LEVELS}
 use Rattle.tries.specs.Limits.{ELEMENTS, COST-CAP}
@@ -40,6 +40,7 @@ use Rattle.tries.specs.FixedChoice.{padded}
 use Rattle.tries.specs.Chooser.{chooseTests, ifAccepted, PlanIn, Planned}
 use Rattle.tries.specs.Build.{roomTest, buildTests, NoRecord, Keeps, RowsAre, RowsBuilt, BuildIs, Builds}
 use Rattle.layout.proofs.Cost.{count-cost}
+use Rattle.layout.proofs.Agreeing.{same-agree, laid-agree}
 use Rattle.tries.proofs.Laying.{lays-built}
 use Rattle.tries.proofs.FixedChoice.{padded-read}
 use Rattle.tries.proofs.Choosing.{numbered-choose, accepted-plan, accepted-levels, below-cap, plan-depth-width}
@@ -174,6 +175,18 @@ module _ (kind : Kind) {W k : ℕ} {vs ls hs scratch : List ℕ} (g : PlanIn W k
     built = lays-built rec asks gives s (g .table .some-width) (g .levels .0) ew ek (ee ∙ p .least ∙ sym count-least ∙ sym (gives .count)) (root-named (rec .strides) (es ∙ p .named));
   }
 
+  -- the cap never bites: the strides found with it are those found without, wherever a block begins
+  plain-laid : {rec : Record} {rows : Lists} → Laid WIDTH W vs ls hs (chosenBy held kind k (tableTrie W vs ls hs)) k rec rows
+      → Laid WIDTH W vs ls hs (chosenBy plain kind k (tableTrie W vs ls hs)) k rec rows
+  plain-laid =
+      let t = tableTrie W vs ls hs in
+      let some = g .levels .0 in
+      let d = plan-depth-width W k vs ls hs scratch g in
+      let good = chosen-good held kind k t W some d in
+      let follows = follows-capped COST-CAP kind k t some (below-cap W k vs ls hs scratch g kind) in
+      let one = follows-unique kind k t (chosenBy held kind k t) (chosenBy plain kind k t) follows (chosen-follows kind k t some) in
+      laid-agree (same-agree (chosenBy held kind k t) (chosenBy plain kind k t) t W 0 k good one) (chosen-good plain kind k t W some d)
+
 -- ---- the three answers
 
 -- refused: nothing is written
@@ -209,7 +222,7 @@ module _ (kind : Kind) {W k : ℕ} {vs ls hs scratch : List ℕ} (g : PlanIn W k
       record {
         tests = o ∙ sym (rw (sym (p .least)) (outcome-passes (roomTest cost (shortest lent)) [] f));
         written = record {
-          laid = λ a. accepted-laid kind g rec p asks gives same ew ek ee ef es;
+          laid = λ a. plain-laid kind g (accepted-laid kind g rec p asks gives same ew ek ee ef es);
           named = λ a. es ∙ p .named;
           keeps = record { hops = sh; links = sl; strides = ss; later = λ a i h. gives .after i (omega (arith, count, ee)); refused = λ ne. absurd (ne o) };
         };
@@ -253,14 +266,6 @@ module _ (kind : Kind) (W k : ℕ) (vs ls hs : List ℕ) where
           ap (λ (m : ℕ). outcome (buildTests W k vs ls hs words room m)) (cheapest-unique kind k (tableTrie W vs ls hs) (least-cheapest kind k (tableTrie W vs ls hs) some) (c some))
       go (Refused n d) e = early W k vs ls hs words room (leastBy plain kind k (tableTrie W vs ls hs)) e ∙ sym (early W k vs ls hs words room least e)
 
-  -- the strides that the recurrences find follow the tie rule
-  pub table-follows : Table W vs ls hs → 1 ≤ k → Follows kind k (tableTrie W vs ls hs) (chosenBy held kind k (tableTrie W vs ls hs))
-  table-follows t some =
-      let d = trie-depth-width W (at vs) (at ls) (at hs) (length vs) (λ i l. t .entry i l .prefix) in
-      let short : depth (tableTrie W vs ls hs) ≤ WIDTH = omega (arith, d, t .width) in
-      let p : 2 ^ depth (tableTrie W vs ls hs) ≤ 2 ^ WIDTH = pow-mono short in
-      follows-capped COST-CAP kind k (tableTrie W vs ls hs) some (cap-never-bites COST-CAP kind k (tableTrie W vs ls hs) (omega arith))
-
 module _ {kind : Kind} {W k : ℕ} {vs ls hs scratch : List ℕ} {rows : Lists} {out : Outcome} {rec : Record} {scratch′ : List ℕ} {rows′ : Lists}
     (b : BuildIs kind W k vs ls hs scratch rows out rec scratch′ rows′) where
   abbrev T : Trie
@@ -278,7 +283,7 @@ module _ {kind : Kind} {W k : ℕ} {vs ls hs scratch : List ℕ} {rows : Lists} 
     tested = λ least c.
         subst (Gives (buildTests W k vs ls hs (length scratch) (shortest rows) least)) (sym (b .tests ∙ tests-least kind W k vs ls hs (length scratch) (shortest rows) least c))
         (outcome-gives (buildTests W k vs ls hs (length scratch) (shortest rows) least));
-    laid = λ e. (chosenBy held kind k T, table-follows kind W k vs ls hs (b .written .laid e .table) (some-levels e), b .written .laid e);
+    laid = λ e. (chosenBy plain kind k T, chosen-follows kind k T (some-levels e), b .written .laid e);
     named = λ e. (stridesBy plain kind k T, strides-named kind k T (some-levels e), b .written .named e);
     zeroed = λ a. b .after ∙ rw (sym (gives-outcome tests Accepted a));
     untouched = λ ne. b .after ∙ kept (outcome tests) refl ne;

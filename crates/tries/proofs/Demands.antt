@@ -1,7 +1,7 @@
 -- The bureau's three demands, sentence by sentence, as theorems over what the public calls promise: their meaning, not how it is
 -- found. A promise stands for its call: Gives for `check_table`, Shares for `shared_length`, Spans for `zone_span`, HandsBack for
 -- `zone`, Chooses for the choosers, Builds for `build`, Looked for `lookup`. A list that a call borrows to read cannot change.
-use Prim.Native.Nat.{ℕ, _^_, _≤_, _<_}
+use Prim.Native.Nat.{ℕ, suc, _+_, _-_, _^_, _≤_, _<_}
 use mathlib.Core.Path.{_≡_, refl, sym, ap, subst, _∙_}
 use mathlib.Core.Bool.{Bool, true, false, _||_}
 use mathlib.Core.List.{List, [], _∷_, List·Memᴰ}
@@ -13,7 +13,9 @@ use lib.ListN.{length, replicate}
 use denote.Ref.{RefT, now}
 use borrow.Author.Tests.{lt-ltb, le-ltb}
 use Rattle.table.specs.Refusals.{Test, outcome, Gives}
-use Rattle.table.specs.Table.{tableTests}
+use Rattle.table.specs.Prefix.{start}
+use Rattle.table.specs.Longest.{ofWinner, winnerIn}
+use Rattle.table.specs.Table.{at, tableTests}
 use Rattle.table.specs.Zone.{PartOf}
 use Rattle.table.specs.Answers.{sharedOutcome, sharedTests, Shares, spanOutcome, spanIndex, spanCount, zoneTests, Spans, PartFor, HandsBack}
 use Rattle.table.specs.declared.entry.Outcome.{Outcome}
@@ -23,8 +25,11 @@ use Rattle.table.specs.declared.zoning.Span.{Span}
 use Rattle.table.specs.declared.zoning.Span.the-variants.{Part}
 use Rattle.table.proofs.Refusals.{outcome-gives, outcome-fails, outcome-passes, gives-outcome, gives-unique, refused-not-accepted}
 use Rattle.table.proofs.Numbered.{refused-number}
+use Rattle.strides.specs.Trie.{Some}
+use Rattle.strides.specs.Entries.{SomeStart}
 use Rattle.strides.specs.Cheapest.{Kind, Cheapest}
 use Rattle.strides.specs.Recurrence.{plain, leastBy}
+use Rattle.strides.proofs.Entries.{node-begins}
 use Rattle.strides.proofs.Cheapest.{least-cheapest}
 use Rattle.strides.proofs.Follows.{follows-cheapest}
 use Rattle.walk.specs.declared.record.Record.{Record}
@@ -37,7 +42,8 @@ use Rattle.walk.specs.Answers.{numberOf, hopOf, readsOf}
 use Rattle.walk.specs.Lookup.{pathRows, lookupOf}
 use Rattle.walk.specs.Meaning.{OnPath, Tested, Looked}
 use Rattle.tries.specs.FixedChoice.{padded}
-use Rattle.layout.specs.Blocks.{rowsAlong}
+use Rattle.layout.specs.Blocks.{linkTo, strideOf, blockRow, rowsAlong, Begun, blocksAlong}
+use Rattle.layout.specs.PathBlocks.{nodeOn, BlockAt, rowPath}
 use Rattle.layout.specs.Laid.{tableTrie, NoPrefix, LongestHop}
 use Rattle.tries.specs.Chooser.{chooseTests, Chooses}
 use Rattle.tries.specs.Build.{roomTest, buildTests, NoRecord, Builds}
@@ -45,6 +51,8 @@ use Rattle.walk.proofs.Unique.{tested-unique, looked-unique}
 use Rattle.walk.proofs.Looked.{looked}
 use Rattle.walk.proofs.Answers.{refused-none}
 use Rattle.walk.proofs.Reading.{path-rows, reads-path, reads-most, lookup-local}
+use Rattle.layout.proofs.PathBlocks.{blocks-are}
+use Rattle.layout.proofs.RowRule.{row-rule}
 use Rattle.layout.proofs.Laid.{blocks, accepted, laid-longest, no-route, rows-exactly, reads-blocks, reads-few, rows-alone, elements-cost, one-answer}
 use Rattle.tries.proofs.Choosing.{numbered-choose}
 use Rattle.tries.proofs.Builds.{early, late}
@@ -200,6 +208,20 @@ module _ {kind : Kind} {W k : ℕ} {vs ls hs scratch : List ℕ} {rows : Lists} 
       same true f = detail (is ∙ outcome-fails (roomTest least (shortest rows)) [] f)
       same false f = absurd (refused-not-accepted (is ∙ outcome-passes (roomTest least (shortest rows)) [] f))
 
+  -- every row of every block holds what the row rule says (`row-rule`, layout)
+  pub build-rows : (e : out ≡ Accepted) (x n d : ℕ) → x < 2 ^ W → BlockAt (b .laid e .0) W k (tableTrie W vs ls hs) x n d
+      → (i : ℕ) → i < 2 ^ b .laid e .0 (k - n) (nodeOn W (tableTrie W vs ls hs) x d)
+      → let σ = b .laid e .0 in
+      let t = tableTrie W vs ls hs in
+      let s = σ (k - n) (nodeOn W t x d) in
+      let y = rowPath W d s (start W d x) i in
+      rowAt rows′ (blockRow σ W k t x n + i) ≡ record {
+        hop = ofWinner (at hs) (winnerIn W (at vs) (at ls) (length vs) d (d + s) y);
+        link = linkTo (nodeOn W t y (d + s)) (blockRow σ W k t y (suc n));
+        stride = strideOf σ (k - suc n) (nodeOn W t y (d + s));
+      }
+  build-rows e = row-rule (b .laid e .2)
+
   module _ (e : out ≡ Accepted) (a : ℕ) (h : a < 2 ^ W) {r : Answer} (l : Looked WIDTH rec rows′ a r) where
     is-looked : r ≡ lookupOf WIDTH rec rows′ a
     is-looked = looked-unique l (looked WIDTH rec rows′ a)
@@ -216,6 +238,17 @@ module _ {kind : Kind} {W k : ℕ} {vs ls hs scratch : List ℕ} {rows : Lists} 
     -- chosen strides begin a block: the block's first row plus the next s bits
     pub build-path : {rs : List ℕ} → OnPath rec rows′ a rs → rs ≡ rowsAlong (b .laid e .0) W k (tableTrie W vs ls hs) a
     build-path o = sym (path-rows rec rows′ a o) ∙ rows-exactly (b .laid e .2) a h
+
+    -- those blocks, one by one: each at a node that begins the address, at the root or a stride below the block before; and a node begins
+    -- the address with d bits exactly where they are a proper start of some entry
+    pub build-begun : (x : Begun) → List·Memᴰ x (blocksAlong (b .laid e .0) W (tableTrie W vs ls hs) 0 0 k a)
+        ↔ ((n : ℕ) × (d : ℕ) × BlockAt (b .laid e .0) W k (tableTrie W vs ls hs) a n d
+        × (x ≡ record { level = n; stride = b .laid e .0 (k - n) (nodeOn W (tableTrie W vs ls hs) a d); bits = W - d }))
+    build-begun = let g = b .laid e .2 in blocks-are (b .laid e .0) W k (tableTrie W vs ls hs) (rw (g .width, g .levels) at (g .built .good)) a
+
+    pub build-nodes : (d : ℕ) → d ≤ W → Some (nodeOn W (tableTrie W vs ls hs) a d) ↔ SomeStart W (at vs) (at ls) (length vs) d (start W d a)
+    build-nodes d le =
+        node-begins W (at vs) (at ls) (at hs) (length vs) (λ i l. b .laid e .2 .table .entry i l .prefix .short) a d h le
 
     -- r reads are r such blocks, never above k
     pub build-blocks : readsOf r ≡ blocks (b .laid e .2) a

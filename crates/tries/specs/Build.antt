@@ -17,7 +17,6 @@ use Rattle.tries.specs.Limits.{ELEMENTS}
 use Rattle.walk.specs.Rows.{Lists, shortest, rowAt}
 use Rattle.layout.specs.Blocks.{Strides}
 use Rattle.layout.specs.Laid.{tableTrie, Laid}
-use Rattle.tries.specs.Costs.{held}
 use Rattle.tries.specs.FixedChoice.{padded}
 use Rattle.tries.specs.Chooser.{chooseTests, ifAccepted}
 
@@ -51,7 +50,7 @@ pub record Keeps (rows : Lists) (out : Outcome) (rec : Record) (rows′ : Lists)
 
 -- the exact record and rows: of the strides and the choice that the recurrences find
 pub record RowsAre (kind : Kind) (W k : ℕ) (vs ls hs : List ℕ) (rows : Lists) (out : Outcome) (rec : Record) (rows′ : Lists) : Type 0 where
-  pub laid : out ≡ Accepted → Laid WIDTH W vs ls hs (chosenBy held kind k (tableTrie W vs ls hs)) k rec rows′
+  pub laid : out ≡ Accepted → Laid WIDTH W vs ls hs (chosenBy plain kind k (tableTrie W vs ls hs)) k rec rows′
   pub named : out ≡ Accepted → rec .strides ≡ padded LEVELS (stridesBy plain kind k (tableTrie W vs ls hs))
   pub keeps : Keeps rows out rec rows′
 
