@@ -36,7 +36,9 @@ pub fn table_line(
     lengths: &mut [u8],
     hops: &mut [u16],
 ) -> Held
-    ensures { λ r. ⌜ Holds (now (text .entry)) at (now (values .entry)) (now (lengths .entry)) (now (hops .entry)) (now (values .exit)) (now (lengths .exit)) (now (hops .exit)) r ⌝ }
+    ensures { λ r. ⌜
+        Holds (now (text .entry)) at (now (values .entry)) (now (lengths .entry)) (now (hops .entry)) (now (values .exit)) (now (lengths .exit))
+        (now (hops .exit)) r ⌝ }
 {
     let width = number(text, at);
     let v = number(text, width.next);

@@ -21,7 +21,9 @@ pub fn rows(
     second: &mut [u8],
     third: &mut [u16],
 ) -> Listed
-    ensures { λ r. ⌜ Reads (now (text .entry)) at (now (first .entry)) (now (second .entry)) (now (third .entry)) (now (first .exit)) (now (second .exit)) (now (third .exit)) r ⌝ }
+    ensures { λ r. ⌜
+        Reads (now (text .entry)) at (now (first .entry)) (now (second .entry)) (now (third .entry)) (now (first .exit)) (now (second .exit))
+        (now (third .exit)) r ⌝ }
 {
     let head = number(text, at);
     let room = least(first.len(), least(second.len(), third.len()));

@@ -39,8 +39,14 @@ pub extern "C" fn hongsamuk_choose_fixed(
     hop: &[u16],
     scratch: &mut [u64],
 ) -> Choice
-    ensures exact { λ r. ⌜ Told (ExactChoice fixed width levels (now (value .entry)) (now (length .entry)) (now (hop .entry)) (now (scratch .entry)) (now (scratch .exit))) choiceNumbers r ⌝ }
-    ensures meaning { λ r. ⌜ Told (AllowedChoice fixed width levels (now (value .entry)) (now (length .entry)) (now (hop .entry)) (now (scratch .entry)) (now (scratch .exit))) choiceNumbers r ⌝ }
+    ensures exact { λ r. ⌜
+        Told
+        (ExactChoice fixed width levels (now (value .entry)) (now (length .entry)) (now (hop .entry)) (now (scratch .entry)) (now (scratch .exit)))
+        choiceNumbers r ⌝ }
+    ensures meaning { λ r. ⌜
+        Told
+        (AllowedChoice fixed width levels (now (value .entry)) (now (length .entry)) (now (hop .entry)) (now (scratch .entry)) (now (scratch .exit)))
+        choiceNumbers r ⌝ }
 {
     choice_numbers(tries::choose_fixed(width, levels, value, length, hop, scratch))
 }
@@ -55,8 +61,14 @@ pub extern "C" fn hongsamuk_choose_variable(
     hop: &[u16],
     scratch: &mut [u64],
 ) -> Choice
-    ensures exact { λ r. ⌜ Told (ExactChoice variable width levels (now (value .entry)) (now (length .entry)) (now (hop .entry)) (now (scratch .entry)) (now (scratch .exit))) choiceNumbers r ⌝ }
-    ensures meaning { λ r. ⌜ Told (AllowedChoice variable width levels (now (value .entry)) (now (length .entry)) (now (hop .entry)) (now (scratch .entry)) (now (scratch .exit))) choiceNumbers r ⌝ }
+    ensures exact { λ r. ⌜
+        Told
+        (ExactChoice variable width levels (now (value .entry)) (now (length .entry)) (now (hop .entry)) (now (scratch .entry)) (now (scratch .exit)))
+        choiceNumbers r ⌝ }
+    ensures meaning { λ r. ⌜
+        Told
+        (AllowedChoice variable width levels (now (value .entry)) (now (length .entry)) (now (hop .entry)) (now (scratch .entry)) (now (scratch .exit)))
+        choiceNumbers r ⌝ }
 {
     choice_numbers(tries::choose_variable(width, levels, value, length, hop, scratch))
 }

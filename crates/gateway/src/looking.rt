@@ -61,7 +61,8 @@ pub extern "C" fn hongsamuk_lookup(
     address: u32,
 ) -> Found
     ensures exact { λ r. ⌜ r ≡ answerNumbers (lookupOf WIDTH rec (lists (now (hops .entry)) (now (links .entry)) (now (strides .entry))) address) ⌝ }
-    ensures meaning { λ r. ⌜ Told (Looked WIDTH rec (lists (now (hops .entry)) (now (links .entry)) (now (strides .entry))) address) answerNumbers r ⌝ }
+    ensures meaning { λ r. ⌜
+        Told (Looked WIDTH rec (lists (now (hops .entry)) (now (links .entry)) (now (strides .entry))) address) answerNumbers r ⌝ }
 {
     let answer = tries::lookup(rec, hops, links, strides, address);
     let found = answer_numbers(answer);
@@ -91,8 +92,14 @@ pub extern "C" fn hongsamuk_lookup_batch(
     hop: &mut [u16],
     reads: &mut [u32],
 ) -> usize
-    ensures exact { λ r. ⌜ Answered (Exactly rec (lists (now (hops .entry)) (now (links .entry)) (now (strides .entry)))) (now (address .entry)) (columns (now (number .entry)) (now (hop .entry)) (now (reads .entry))) (columns (now (number .exit)) (now (hop .exit)) (now (reads .exit))) r ⌝ }
-    ensures meaning { λ r. ⌜ Answered (Looked WIDTH rec (lists (now (hops .entry)) (now (links .entry)) (now (strides .entry)))) (now (address .entry)) (columns (now (number .entry)) (now (hop .entry)) (now (reads .entry))) (columns (now (number .exit)) (now (hop .exit)) (now (reads .exit))) r ⌝ }
+    ensures exact { λ r. ⌜
+        Answered (Exactly rec (lists (now (hops .entry)) (now (links .entry)) (now (strides .entry)))) (now (address .entry))
+        (columns (now (number .entry)) (now (hop .entry)) (now (reads .entry)))
+        (columns (now (number .exit)) (now (hop .exit)) (now (reads .exit))) r ⌝ }
+    ensures meaning { λ r. ⌜
+        Answered (Looked WIDTH rec (lists (now (hops .entry)) (now (links .entry)) (now (strides .entry)))) (now (address .entry))
+        (columns (now (number .entry)) (now (hop .entry)) (now (reads .entry)))
+        (columns (now (number .exit)) (now (hop .exit)) (now (reads .exit))) r ⌝ }
 {
     let n = least(
         address.len(),

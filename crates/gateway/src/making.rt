@@ -43,8 +43,16 @@ pub extern "C" fn hongsamuk_build_fixed(
     links: &mut [u32],
     strides: &mut [u8],
 ) -> BuiltRows
-    ensures exact { λ r. ⌜ Told (ExactBuild fixed width levels (now (value .entry)) (now (length .entry)) (now (hop .entry)) (now (scratch .entry)) (lists (now (hops .entry)) (now (links .entry)) (now (strides .entry))) (now (scratch .exit)) (lists (now (hops .exit)) (now (links .exit)) (now (strides .exit)))) buildNumbers r ⌝ }
-    ensures meaning { λ r. ⌜ Told (AllowedBuild fixed width levels (now (value .entry)) (now (length .entry)) (now (hop .entry)) (now (scratch .entry)) (lists (now (hops .entry)) (now (links .entry)) (now (strides .entry))) (now (scratch .exit)) (lists (now (hops .exit)) (now (links .exit)) (now (strides .exit)))) buildNumbers r ⌝ }
+    ensures exact { λ r. ⌜
+        Told
+        (ExactBuild fixed width levels (now (value .entry)) (now (length .entry)) (now (hop .entry)) (now (scratch .entry))
+        (lists (now (hops .entry)) (now (links .entry)) (now (strides .entry))) (now (scratch .exit))
+        (lists (now (hops .exit)) (now (links .exit)) (now (strides .exit)))) buildNumbers r ⌝ }
+    ensures meaning { λ r. ⌜
+        Told
+        (AllowedBuild fixed width levels (now (value .entry)) (now (length .entry)) (now (hop .entry)) (now (scratch .entry))
+        (lists (now (hops .entry)) (now (links .entry)) (now (strides .entry))) (now (scratch .exit))
+        (lists (now (hops .exit)) (now (links .exit)) (now (strides .exit)))) buildNumbers r ⌝ }
 {
     build_numbers(tries::build(
         Kind::Fixed,
@@ -73,8 +81,16 @@ pub extern "C" fn hongsamuk_build_variable(
     links: &mut [u32],
     strides: &mut [u8],
 ) -> BuiltRows
-    ensures exact { λ r. ⌜ Told (ExactBuild variable width levels (now (value .entry)) (now (length .entry)) (now (hop .entry)) (now (scratch .entry)) (lists (now (hops .entry)) (now (links .entry)) (now (strides .entry))) (now (scratch .exit)) (lists (now (hops .exit)) (now (links .exit)) (now (strides .exit)))) buildNumbers r ⌝ }
-    ensures meaning { λ r. ⌜ Told (AllowedBuild variable width levels (now (value .entry)) (now (length .entry)) (now (hop .entry)) (now (scratch .entry)) (lists (now (hops .entry)) (now (links .entry)) (now (strides .entry))) (now (scratch .exit)) (lists (now (hops .exit)) (now (links .exit)) (now (strides .exit)))) buildNumbers r ⌝ }
+    ensures exact { λ r. ⌜
+        Told
+        (ExactBuild variable width levels (now (value .entry)) (now (length .entry)) (now (hop .entry)) (now (scratch .entry))
+        (lists (now (hops .entry)) (now (links .entry)) (now (strides .entry))) (now (scratch .exit))
+        (lists (now (hops .exit)) (now (links .exit)) (now (strides .exit)))) buildNumbers r ⌝ }
+    ensures meaning { λ r. ⌜
+        Told
+        (AllowedBuild variable width levels (now (value .entry)) (now (length .entry)) (now (hop .entry)) (now (scratch .entry))
+        (lists (now (hops .entry)) (now (links .entry)) (now (strides .entry))) (now (scratch .exit))
+        (lists (now (hops .exit)) (now (links .exit)) (now (strides .exit)))) buildNumbers r ⌝ }
 {
     build_numbers(tries::build(
         Kind::Variable,

@@ -18,13 +18,15 @@ use Rattle.walk.specs.Rows.{Row, Lists, shortest, rowAt, root, rowOf}
 use Rattle.walk.specs.Answers.{better, latest, answer}
 use Rattle.walk.specs.Lookup.{pathRows, lookupOf}
 use Rattle.walk.specs.Meaning.{Readable, Path, last, on, OnPath, empty, walked}
-use Rattle.layout.specs.Blocks.{Strides, wide, passed, leftOf, linkTo, strideOf, rowBelow, blockRows, levelRows, firstRow, levelsRows, rowsOf, rowCount, Hold, Begun, blocksAlong, blockRow, rowIn, rowsAlong}
+use Rattle.layout.specs.Blocks.{Strides, wide, passed, leftOf, linkTo, strideOf, rowBelow, blockRows, levelRows, firstRow, levelsRows, rowsOf, rowCount, Hold, Begun, blocksAlong}
+use Rattle.layout.specs.Blocks.{blockRow, rowIn, rowsAlong}
 use Rattle.layout.specs.Laid.{LaidTrie}
 use Rattle.walk.proofs.Tests.{Passed}
 use Rattle.walk.proofs.Looked.{path-answer}
 use Rattle.walk.proofs.Reading.{path-rows}
 use Rattle.layout.proofs.GoodStrides.{good-level, good-root, good-block}
-use Rattle.layout.proofs.Blocks.{hold-first, hold-rest, hold-at, level-length, wide-own, level-own, wide-below, level-below, wide-past, left-same, left-own, left-below, left-split, first-next, first-mono, first-past, levels-length, count-none}
+use Rattle.layout.proofs.Blocks.{hold-first, hold-rest, hold-at, level-length, wide-own, level-own, wide-below, level-below, wide-past, left-same, left-own, left-below, left-split}
+use Rattle.layout.proofs.Blocks.{first-next, first-mono, first-past, levels-length, count-none}
 
 -- ---- the blocks along an address
 module _ (σ : Strides) where

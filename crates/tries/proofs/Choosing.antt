@@ -384,7 +384,8 @@ module _ (W k : ℕ) (vs ls hs scratch : List ℕ) (g : PlanIn W k vs ls hs scra
               (λ i u p q. ap (λ (y : ℕ). getD plan (y - i) 0) long ∙ read (k - i) (omega (arith, long)))));
         }
 
-    pub plan-variable : (rows' : List ℕ) (cost stride : ℕ) → length rows' ≡ length rows → TreeDone k rows root 0 rows' → cost ≡ ask rows' root (BEFORE-COSTS + k) → stride ≡ ask rows' root (BEFORE-STRIDES + k)
+    pub plan-variable : (rows' : List ℕ) (cost stride : ℕ) → length rows' ≡ length rows → TreeDone k rows root 0 rows' → cost ≡ ask rows' root (BEFORE-COSTS + k)
+        → stride ≡ ask rows' root (BEFORE-STRIDES + k)
         → Planned variable W k vs ls hs cost (set (replicate LEVELS 0) 0 (stride % 256)) (replicate LEVELS 0) root rows'
     unfolding chosenBy
     plan-variable rows' cost stride len' d e f =

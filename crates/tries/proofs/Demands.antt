@@ -172,7 +172,11 @@ module _ {kind : Kind} {W k : ℕ} {vs ls hs scratch : List ℕ} {rows : Lists} 
   pub room-refused : {least : ℕ} → Cheapest kind k (tableTrie W vs ls hs) least → Gives (chooseTests W k vs ls hs (length scratch)) Accepted
       → (out ≡ Refused 7 least) ↔ ((shortest rows < least) ⊎ (ELEMENTS < least))
   unfolding outcome
-  room-refused {least} c g = (λ e. over e, λ m. ⊎-elim (λ (h : shortest rows < least). refuses (rw (lt-ltb (shortest rows) least h) refl)) (λ (h : ELEMENTS < least). refuses (rw (lt-ltb ELEMENTS least h) (or-true (ltb (shortest rows) least)))) m)
+  room-refused {least} c g = (
+    λ e. over e,
+    λ m. ⊎-elim (λ (h : shortest rows < least). refuses (rw (lt-ltb (shortest rows) least h) refl))
+        (λ (h : ELEMENTS < least). refuses (rw (lt-ltb ELEMENTS least h) (or-true (ltb (shortest rows) least)))) m,
+  )
     where
       is : out ≡ outcome (roomTest least (shortest rows) ∷ [])
       is = passes b g least c

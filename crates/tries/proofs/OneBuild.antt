@@ -89,8 +89,11 @@ module _ (kind : Kind) (W k : ℕ) (vs ls hs scratch : List ℕ) (rows : Lists) 
         let r = c .keeps .refused ne in
         let r′ = d .keeps .refused ne′ in
         let z = r .0 in
-        let z′ = r′ .0 in
-        (record-same rec rec′ (z .width ∙ sym (z′ .width)) (z .levels ∙ sym (z′ .levels)) (z .elements ∙ sym (z′ .elements)) (z .floor ∙ sym (z′ .floor)) (z .strides ∙ sym (z′ .strides)), r .1 ∙ sym (r′ .1))
+        let z′ = r′ .0 in (
+          record-same rec rec′ (z .width ∙ sym (z′ .width)) (z .levels ∙ sym (z′ .levels)) (z .elements ∙ sym (z′ .elements)) (z .floor ∙ sym (z′ .floor)) (z .strides ∙ sym (z′ .strides)),
+          r
+              .1 ∙ sym (r′ .1),
+        )
 
     pub builds-unique : (out ≡ out′) × (rec ≡ rec′) × (s ≡ s′) × (rows1 ≡ rows2)
     builds-unique =

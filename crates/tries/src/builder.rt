@@ -54,7 +54,9 @@ fn write(hop: &mut [u16], link: &mut [u32], stride: &mut [u8], i: usize, h: u16,
 // Writes the rows from `base` to before `end`, below which there is no node: all have the hop `best` and no child.
 fn bare(hop: &mut [u16], link: &mut [u32], stride: &mut [u8], base: usize, end: usize, best: u16)
     requires { ⌜ (base ≤ end) × (end ≤ shortest (lists (now hop) (now link) (now stride))) ⌝ }
-    ensures { λ _. ⌜ Bare base end best (lists (now (hop .entry)) (now (link .entry)) (now (stride .entry))) (lists (now (hop .exit)) (now (link .exit)) (now (stride .exit))) ⌝ }
+    ensures { λ _. ⌜
+        Bare base end best (lists (now (hop .entry)) (now (link .entry)) (now (stride .entry)))
+        (lists (now (hop .exit)) (now (link .exit)) (now (stride .exit))) ⌝ }
 {
     let mut i = base;
     while i < end {
@@ -77,7 +79,9 @@ fn leaf(
     stride: &mut [u8],
 ) -> usize
     requires { ⌜ (0 < k) × CanFill (now rows) (now plan) k 0 r base free (lists (now hop) (now link) (now stride)) ⌝ }
-    ensures { λ f. ⌜ Fills (now (rows .entry)) (now (plan .entry)) k 0 r base best free (lists (now (hop .entry)) (now (link .entry)) (now (stride .entry))) f (lists (now (hop .exit)) (now (link .exit)) (now (stride .exit))) ⌝ }
+    ensures { λ f. ⌜
+        Fills (now (rows .entry)) (now (plan .entry)) k 0 r base best free (lists (now (hop .entry)) (now (link .entry)) (now (stride .entry))) f
+        (lists (now (hop .exit)) (now (link .exit)) (now (stride .exit))) ⌝ }
 {
     let s = stride_at(rows, plan, k, r);
     write(hop, link, stride, base, best, free, s);
@@ -101,7 +105,9 @@ fn fill(
     stride: &mut [u8],
 ) -> usize
     requires { ⌜ CanFill (now rows) (now plan) k c r base free (lists (now hop) (now link) (now stride)) ⌝ }
-    ensures { λ f. ⌜ Fills (now (rows .entry)) (now (plan .entry)) k c r base best free (lists (now (hop .entry)) (now (link .entry)) (now (stride .entry))) f (lists (now (hop .exit)) (now (link .exit)) (now (stride .exit))) ⌝ }
+    ensures { λ f. ⌜
+        Fills (now (rows .entry)) (now (plan .entry)) k c r base best free (lists (now (hop .entry)) (now (link .entry)) (now (stride .entry))) f
+        (lists (now (hop .exit)) (now (link .exit)) (now (stride .exit))) ⌝ }
 {
     if k == 0 {
         bare(hop, link, stride, base, base + power(c), best);
@@ -149,7 +155,10 @@ fn block(
     stride: &mut [u8],
 ) -> Front
     requires { ⌜ (0 < k) × CanBlock (now rows) (now plan) k r (to .base) (to .free) (lists (now hop) (now link) (now stride)) ⌝ }
-    ensures { λ s. ⌜ Blocks (now (rows .entry)) (now (plan .entry)) k r (to .base) (to .free) (lists (now (hop .entry)) (now (link .entry)) (now (stride .entry))) (s .base) (s .free) (lists (now (hop .exit)) (now (link .exit)) (now (stride .exit))) ⌝ }
+    ensures { λ s. ⌜
+        Blocks (now (rows .entry)) (now (plan .entry)) k r (to .base) (to .free)
+        (lists (now (hop .entry)) (now (link .entry)) (now (stride .entry))) (s .base) (s .free)
+        (lists (now (hop .exit)) (now (link .exit)) (now (stride .exit))) ⌝ }
 {
     let s = stride_at(rows, plan, k, r);
     let base = to.base;
@@ -177,7 +186,10 @@ fn level(
     stride: &mut [u8],
 ) -> Front
     requires { ⌜ CanLevel (now rows) (now plan) k w c n r (to .base) (to .free) (lists (now hop) (now link) (now stride)) ⌝ }
-    ensures { λ s. ⌜ Levels (now (rows .entry)) (now (plan .entry)) k w c n r (to .base) (to .free) (lists (now (hop .entry)) (now (link .entry)) (now (stride .entry))) (s .base) (s .free) (lists (now (hop .exit)) (now (link .exit)) (now (stride .exit))) ⌝ }
+    ensures { λ s. ⌜
+        Levels (now (rows .entry)) (now (plan .entry)) k w c n r (to .base) (to .free)
+        (lists (now (hop .entry)) (now (link .entry)) (now (stride .entry))) (s .base) (s .free)
+        (lists (now (hop .exit)) (now (link .exit)) (now (stride .exit))) ⌝ }
 {
     if k == 0 {
         return to;
@@ -208,7 +220,9 @@ pub(crate) fn lay(
     stride: &mut [u8],
 ) -> usize
     requires { ⌜ CanLay (now rows) (now plan) root width levels (lists (now hop) (now link) (now stride)) ⌝ }
-    ensures { λ e. ⌜ Lays (now (rows .entry)) (now (plan .entry)) root width levels (lists (now (hop .entry)) (now (link .entry)) (now (stride .entry))) e (lists (now (hop .exit)) (now (link .exit)) (now (stride .exit))) ⌝ }
+    ensures { λ e. ⌜
+        Lays (now (rows .entry)) (now (plan .entry)) root width levels (lists (now (hop .entry)) (now (link .entry)) (now (stride .entry))) e
+        (lists (now (hop .exit)) (now (link .exit)) (now (stride .exit))) ⌝ }
 {
     let first = given(root, power(stride_at(rows, plan, root, levels)));
     let mut to = Front {

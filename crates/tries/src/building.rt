@@ -57,7 +57,8 @@ fn is_crowded(e: u64, hops: usize, links: usize, strides: usize) -> bool
 
 // The hop of the entry of length 0, which can only be a table's first; 0 where there is none.
 fn floor_hop(lens: &[u8], hops: &[u16]) -> u16
-    ensures { λ r. ⌜ ((W : ℕ) (vs : List ℕ) → Table W vs (now (lens .entry)) (now (hops .entry)) → r ≡ tableFloor W vs (now (lens .entry)) (now (hops .entry))) ⌝ }
+    ensures { λ r. ⌜
+        ((W : ℕ) (vs : List ℕ) → Table W vs (now (lens .entry)) (now (hops .entry)) → r ≡ tableFloor W vs (now (lens .entry)) (now (hops .entry))) ⌝ }
 {
     if lens.len() == 0 {
         return 0;
@@ -82,7 +83,10 @@ fn build_rows(
     strides: &mut [u8],
 ) -> Built
     requires { ⌜ PlanIn width levels (now vals) (now lens) (now marks) (now scratch) ⌝ }
-    ensures { λ r. ⌜ RowsBuilt (kindOf kind) width levels (now (vals .entry)) (now (lens .entry)) (now (marks .entry)) (lists (now (hops .entry)) (now (links .entry)) (now (strides .entry))) (r .outcome) (r .record) (lists (now (hops .exit)) (now (links .exit)) (now (strides .exit))) ⌝ }
+    ensures { λ r. ⌜
+        RowsBuilt (kindOf kind) width levels (now (vals .entry)) (now (lens .entry)) (now (marks .entry))
+        (lists (now (hops .entry)) (now (links .entry)) (now (strides .entry))) (r .outcome) (r .record)
+        (lists (now (hops .exit)) (now (links .exit)) (now (strides .exit))) ⌝ }
 {
     let p = planned(kind, width, levels, vals, lens, marks, scratch);
     let e = p.cost;
@@ -128,8 +132,14 @@ pub fn build(
     links: &mut [u32],
     strides: &mut [u8],
 ) -> Built
-    ensures exact { λ r. ⌜ BuildIs (kindOf kind) width levels (now (value .entry)) (now (length .entry)) (now (hop .entry)) (now (scratch .entry)) (lists (now (hops .entry)) (now (links .entry)) (now (strides .entry))) (r .outcome) (r .record) (now (scratch .exit)) (lists (now (hops .exit)) (now (links .exit)) (now (strides .exit))) ⌝ }
-    ensures meaning { λ r. ⌜ Builds (kindOf kind) width levels (now (value .entry)) (now (length .entry)) (now (hop .entry)) (now (scratch .entry)) (lists (now (hops .entry)) (now (links .entry)) (now (strides .entry))) (r .outcome) (r .record) (now (scratch .exit)) (lists (now (hops .exit)) (now (links .exit)) (now (strides .exit))) ⌝ }
+    ensures exact { λ r. ⌜
+        BuildIs (kindOf kind) width levels (now (value .entry)) (now (length .entry)) (now (hop .entry)) (now (scratch .entry))
+        (lists (now (hops .entry)) (now (links .entry)) (now (strides .entry))) (r .outcome) (r .record) (now (scratch .exit))
+        (lists (now (hops .exit)) (now (links .exit)) (now (strides .exit))) ⌝ }
+    ensures meaning { λ r. ⌜
+        Builds (kindOf kind) width levels (now (value .entry)) (now (length .entry)) (now (hop .entry)) (now (scratch .entry))
+        (lists (now (hops .entry)) (now (links .entry)) (now (strides .entry))) (r .outcome) (r .record) (now (scratch .exit))
+        (lists (now (hops .exit)) (now (links .exit)) (now (strides .exit))) ⌝ }
 {
     let outcome = tested(width, levels, value, length, hop, scratch.len());
     if let Outcome::Refused { number, detail } = outcome {

@@ -89,7 +89,9 @@ fn plan_variable(
     scratch: &mut [u64],
 ) -> Plan
     requires { ⌜ PlanIn width levels (now vals) (now lens) (now hops) (now scratch) ⌝ }
-    ensures { λ r. ⌜ Planned variable width levels (now (vals .entry)) (now (lens .entry)) (now (hops .entry)) (r .cost) (r .strides) (r .plan) (r .root) (now (scratch .exit)) ⌝ }
+    ensures { λ r. ⌜
+        Planned variable width levels (now (vals .entry)) (now (lens .entry)) (now (hops .entry)) (r .cost) (r .strides) (r .plan) (r .root)
+        (now (scratch .exit)) ⌝ }
 {
     zero(scratch);
     let root = make_rows(scratch, width, vals, lens, hops);
@@ -115,7 +117,9 @@ fn plan_fixed(
     scratch: &mut [u64],
 ) -> Plan
     requires { ⌜ PlanIn width levels (now vals) (now lens) (now hops) (now scratch) ⌝ }
-    ensures { λ r. ⌜ Planned fixed width levels (now (vals .entry)) (now (lens .entry)) (now (hops .entry)) (r .cost) (r .strides) (r .plan) (r .root) (now (scratch .exit)) ⌝ }
+    ensures { λ r. ⌜
+        Planned fixed width levels (now (vals .entry)) (now (lens .entry)) (now (hops .entry)) (r .cost) (r .strides) (r .plan) (r .root)
+        (now (scratch .exit)) ⌝ }
 {
     zero(scratch);
     let root = make_rows(scratch, width, vals, lens, hops);
@@ -141,7 +145,9 @@ pub(crate) fn planned(
     scratch: &mut [u64],
 ) -> Plan
     requires { ⌜ PlanIn width levels (now vals) (now lens) (now hops) (now scratch) ⌝ }
-    ensures { λ r. ⌜ Planned (kindOf kind) width levels (now (vals .entry)) (now (lens .entry)) (now (hops .entry)) (r .cost) (r .strides) (r .plan) (r .root) (now (scratch .exit)) ⌝ }
+    ensures { λ r. ⌜
+        Planned (kindOf kind) width levels (now (vals .entry)) (now (lens .entry)) (now (hops .entry)) (r .cost) (r .strides) (r .plan) (r .root)
+        (now (scratch .exit)) ⌝ }
 {
     match kind {
         Kind::Fixed => plan_fixed(width, levels, vals, lens, hops, scratch),
@@ -159,7 +165,9 @@ fn choose(
     hop: &[u16],
     scratch: &mut [u64],
 ) -> Chosen
-    ensures exact { λ r. ⌜ ChosenIs (kindOf kind) width levels (now (value .entry)) (now (length .entry)) (now (hop .entry)) (now (scratch .entry)) (r .outcome) (r .cost) (r .strides) (now (scratch .exit)) ⌝ }
+    ensures exact { λ r. ⌜
+        ChosenIs (kindOf kind) width levels (now (value .entry)) (now (length .entry)) (now (hop .entry)) (now (scratch .entry)) (r .outcome)
+        (r .cost) (r .strides) (now (scratch .exit)) ⌝ }
 {
     let outcome = tested(width, levels, value, length, hop, scratch.len());
     if let Outcome::Refused { number, detail } = outcome {
@@ -189,8 +197,12 @@ pub fn choose_fixed(
     hop: &[u16],
     scratch: &mut [u64],
 ) -> Chosen
-    ensures exact { λ r. ⌜ ChosenIs fixed width levels (now (value .entry)) (now (length .entry)) (now (hop .entry)) (now (scratch .entry)) (r .outcome) (r .cost) (r .strides) (now (scratch .exit)) ⌝ }
-    ensures meaning { λ r. ⌜ Chooses fixed width levels (now (value .entry)) (now (length .entry)) (now (hop .entry)) (now (scratch .entry)) (r .outcome) (r .cost) (r .strides) (now (scratch .exit)) ⌝ }
+    ensures exact { λ r. ⌜
+        ChosenIs fixed width levels (now (value .entry)) (now (length .entry)) (now (hop .entry)) (now (scratch .entry)) (r .outcome) (r .cost)
+        (r .strides) (now (scratch .exit)) ⌝ }
+    ensures meaning { λ r. ⌜
+        Chooses fixed width levels (now (value .entry)) (now (length .entry)) (now (hop .entry)) (now (scratch .entry)) (r .outcome) (r .cost)
+        (r .strides) (now (scratch .exit)) ⌝ }
 {
     choose(Kind::Fixed, width, levels, value, length, hop, scratch)
 }
@@ -204,8 +216,12 @@ pub fn choose_variable(
     hop: &[u16],
     scratch: &mut [u64],
 ) -> Chosen
-    ensures exact { λ r. ⌜ ChosenIs variable width levels (now (value .entry)) (now (length .entry)) (now (hop .entry)) (now (scratch .entry)) (r .outcome) (r .cost) (r .strides) (now (scratch .exit)) ⌝ }
-    ensures meaning { λ r. ⌜ Chooses variable width levels (now (value .entry)) (now (length .entry)) (now (hop .entry)) (now (scratch .entry)) (r .outcome) (r .cost) (r .strides) (now (scratch .exit)) ⌝ }
+    ensures exact { λ r. ⌜
+        ChosenIs variable width levels (now (value .entry)) (now (length .entry)) (now (hop .entry)) (now (scratch .entry)) (r .outcome) (r .cost)
+        (r .strides) (now (scratch .exit)) ⌝ }
+    ensures meaning { λ r. ⌜
+        Chooses variable width levels (now (value .entry)) (now (length .entry)) (now (hop .entry)) (now (scratch .entry)) (r .outcome) (r .cost)
+        (r .strides) (now (scratch .exit)) ⌝ }
 {
     choose(Kind::Variable, width, levels, value, length, hop, scratch)
 }

@@ -49,7 +49,9 @@ pub(crate) fn longest_length(lens: &[u8]) -> usize
 fn fill_row(n: usize, i: usize, d: usize, levels: usize, costs: &mut [u64], strides: &mut [u64])
     requires { ⌜ (length (now costs) ≡ LEVEL-CELLS) × (length (now strides) ≡ LEVEL-CELLS) ⌝ }
     requires { ⌜ (n ≤ ENTRIES) × (1 ≤ d) × (i + d ≤ WIDTH) × (levels ≤ LEVELS) ⌝ }
-    ensures { λ _. ⌜ RowFilled levels n d i (now (costs .entry)) (now (strides .entry)) (now (costs .exit)) (now (strides .exit)) (drop ((i + 1) * LEVELS) (now (costs .entry))) ⌝ }
+    ensures { λ _. ⌜
+        RowFilled levels n d i (now (costs .entry)) (now (strides .entry)) (now (costs .exit)) (now (strides .exit))
+        (drop ((i + 1) * LEVELS) (now (costs .entry))) ⌝ }
 {
     let mut r = 0;
     while r < levels {
@@ -78,7 +80,8 @@ fn fill_table(nodes: &[u64], levels: usize, depth: usize, costs: &mut [u64], str
 // The strides that the table names, from the first level on: unused places 0.
 fn read_list(strides: &[u64], levels: usize, depth: usize) -> [u8; SLOTS]
     requires { ⌜ (1 ≤ levels) × (levels ≤ LEVELS) × (depth ≤ WIDTH) × (length (now strides) ≡ LEVEL-CELLS) × SomeNodes levels depth (now strides) ⌝ }
-    ensures { λ r. ⌜ ((nodes : ℕ → ℕ) → StridesFilled nodes levels depth (now (strides .entry)) → r ≡ padded LEVELS (listBy held nodes (levels - 1) 0 depth)) ⌝ }
+    ensures { λ r. ⌜
+        ((nodes : ℕ → ℕ) → StridesFilled nodes levels depth (now (strides .entry)) → r ≡ padded LEVELS (listBy held nodes (levels - 1) 0 depth)) ⌝ }
 {
     let mut list = [0u8; SLOTS];
     let mut i = 0;

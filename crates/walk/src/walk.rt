@@ -62,7 +62,8 @@ fn follow(
     floor: u16,
 ) -> Answer
     requires { ⌜ (elements ≤ shortest (lists (now hop) (now link) (now stride))) × (width ≤ WIDTH) ⌝ }
-    ensures { λ r. ⌜ r ≡ walk elements address (rowAt (lists (now (hop .entry)) (now (link .entry)) (now (stride .entry)))) levels 0 root width floor 0 ⌝ }
+    ensures { λ r. ⌜
+        r ≡ walk elements address (rowAt (lists (now (hop .entry)) (now (link .entry)) (now (stride .entry)))) levels 0 root width floor 0 ⌝ }
 {
     let mut base: usize = 0;
     let mut s: u32 = root;

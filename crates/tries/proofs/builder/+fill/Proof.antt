@@ -28,7 +28,20 @@ abbrev fill-below : ℕ → In 5 fill-kinds.ps
 fill-below t = and 5 fill-kinds.ps (falls 5 fill-kinds.ps _<_ μ-fill t) fill.Pre
 
 abbrev cs : ℕ → fill-lts.Claims
-cs t = (power-reads.Asked, power-reads.Learnt, bare-reads.Asked, bare-reads.Learnt, leaf-reads.Asked, leaf-reads.Learnt, best-below-reads.Asked, best-below-reads.Learnt, asked-reads.Asked, asked-reads.Learnt, fill-below t, fill.Post)
+cs t = (
+  power-reads.Asked,
+  power-reads.Learnt,
+  bare-reads.Asked,
+  bare-reads.Learnt,
+  leaf-reads.Asked,
+  leaf-reads.Learnt,
+  best-below-reads.Asked,
+  best-below-reads.Learnt,
+  asked-reads.Asked,
+  asked-reads.Learnt,
+  fill-below t,
+  fill.Post,
+)
 
 fill-power-requires : (t : ℕ) → fill-lts.Need-power-requires (cs t) (fill-at t) fill.Post
 fill-power-requires t c κs = c .before .before .before .before .before .before .before .before .before .pre .1 .2 .short
@@ -49,7 +62,9 @@ fill-same-length-3 : (t : ℕ) → fill-lts.Need-same-length-3 (cs t) (fill-at t
 fill-same-length-3 t c = search needs
 
 fill-returns : (t : ℕ) → fill-lts.Need-returns (cs t) (fill-at t) fill.Post
-fill-returns t c = λ σ u g. bare-gives g (c .before .before .before .before .before .before .before .before .before .before .before .if1 .taken) (c .before .before .before .before .before .before .before .power .ensures) (c .before .before .before .before .before .before .bare .ensures)
+fill-returns t c =
+    λ σ u g. bare-gives g (c .before .before .before .before .before .before .before .before .before .before .before .if1 .taken)
+    (c .before .before .before .before .before .before .before .power .ensures) (c .before .before .before .before .before .before .bare .ensures)
 
 fill-leaf-requires : (t : ℕ) → fill-lts.Need-leaf-requires (cs t) (fill-at t) fill.Post
 fill-leaf-requires t c κs =
@@ -143,8 +158,15 @@ fill-returns-3 t c =
     let e : S .args .c ≡ suc (S .args .c - 1) = omega (arith, c .before .before .before .before .before .before .before .before .before .before .before .before .before .before .before .before .before .before .before .before .before .before .before .before .before .if2 .left) in
     λ σ u g.
     let o = F .ensures σ (left u) (left-asks g e (c .before .before .before .before .before .before .before .before .before .before .before .before .before .before .before .before .before .before .before .before .before .before .asked .ensures)) in
-    halves-give g e (omega (arith, F .kept)) o P (c .before .before .before .before .before .before .before .before .before .before .before .before .before .before .before .before .before .before .before .before .before .before .before .before .best-below .ensures) (c .before .before .before .before .before .before .before .before .before .before .before .before .before .before .before .before .before .before .before .before .before .before .before .best-below2 .ensures)
-    (c .before .before .before .before .before .before .fill2 .ensures σ (right u) (right-asks g e (omega (arith, F .kept)) o P (c .before .before .before .before .before .before .before .before .before .before .before .before .before .before .before .before .before .before .before .before .before .asked2 .ensures)))
+    halves-give g e (omega (arith, F .kept)) o P
+    (c .before .before .before .before .before .before .before .before .before .before .before .before .before .before .before .before .before .before .before .before .before .before .before
+    .before .best-below .ensures)
+    (c .before .before .before .before .before .before .before .before .before .before .before .before .before .before .before .before .before .before .before .before .before .before .before
+    .best-below2 .ensures)
+    (c .before .before .before .before .before .before .fill2 .ensures σ (right u)
+    (right-asks g e (omega (arith, F .kept)) o P
+    (c .before .before .before .before .before .before .before .before .before .before .before .before .before .before .before .before .before .before .before .before .before .asked2
+    .ensures)))
 
 pub +fill-spec : {M : Type 1} → statement M
 +fill-spec = close μ-fill λ t. fill-lts.spec (cs t)

@@ -3,7 +3,8 @@ use mathlib.Core.Path.{_≡_}
 use native.Mathlib.Omega.{arith}
 use borrow.Author.Needs.{needs}
 use Rattle.strides.specs.Trie.{left, right}
-use Rattle.tries.proofs.Leveling.{nothing-gives, at-block, from-block, at-own, from-own, block-bounds, stride-positive, below-asks, below-gives, side-bounds, first-asks, second-asks, sides-give}
+use Rattle.tries.proofs.Leveling.{nothing-gives, at-block, from-block, at-own, from-own, block-bounds, stride-positive, below-asks, below-gives, side-bounds, first-asks, second-asks}
+use Rattle.tries.proofs.Leveling.{sides-give}
 use Prim.Native.Nat.{ℕ, _<_}
 use borrow.Fn.Kinds.{In}
 use borrow.Fn.PlainCycle.{Measures, is, falls, and}
@@ -115,7 +116,12 @@ level-level-requires-2 t c κs =
     (omega arith, (S .pre .1 .0, left (S .pre .1 .1), first-asks (S .pre .1 .2) (omega arith) (c .before .before .before .before .asked .ensures)))
 
 level-sub-level-5 : (t : ℕ) → level-lts.Need-sub-level-5 (cs t) (level-at t) level.Post
-level-sub-level-5 t c = omega (arith, side-bounds (c .before .before .before .before .before .before .before .before .before .before .before .before .before .before .before .before .before .before .before .pre .1 .2) (omega arith))
+level-sub-level-5 t c =
+    omega (
+      arith,
+      side-bounds (c .before .before .before .before .before .before .before .before .before .before .before .before .before .before .before .before .before .before .before .pre .1 .2)
+          (omega arith),
+    )
 
 level-sub-level-6 : (t : ℕ) → level-lts.Need-sub-level-6 (cs t) (level-at t) level.Post
 level-sub-level-6 t c = omega arith
@@ -149,7 +155,9 @@ level-returns-4 t c =
     λ σ u g.
     let o = F .ensures σ (left u) (first-asks g e (c .before .before .before .before .before .before .before .before .before .before .before .before .before .before .before .before .before .before .before .before .before .asked .ensures)) in
     sides-give g e (omega (arith, F .kept)) o
-    (c .before .before .before .before .before .before .level3 .ensures σ (right u) (second-asks g e (omega (arith, F .kept)) o (c .before .before .before .before .before .before .before .before .before .before .before .before .before .before .before .before .before .before .before .before .asked2 .ensures)))
+    (c .before .before .before .before .before .before .level3 .ensures σ (right u)
+    (second-asks g e (omega (arith, F .kept)) o
+    (c .before .before .before .before .before .before .before .before .before .before .before .before .before .before .before .before .before .before .before .before .asked2 .ensures)))
 
 pub +level-spec : {M : Type 1} → statement M
 +level-spec = close μ-level λ t. level-lts.spec (cs t)

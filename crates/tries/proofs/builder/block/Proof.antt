@@ -22,7 +22,14 @@ fill-requires c κs =
     (S .pre .1 .1 .0, S .pre .1 .1 .1, own-asks (S .pre .1 .1 .2) (S .pre .0) (c .before .before .before .stride-at .ensures) (omega arith) refl)
 
 power-requires : tie.Need-power-requires
-power-requires c κs = omega (arith, block-bounds (c .before .before .before .before .before .before .before .before .before .before .before .before .before .before .before .before .pre .1 .1 .2) (c .before .before .before .before .before .before .before .before .before .before .before .before .before .before .before .before .pre .0) .stride, c .before .before .before .before .before .before .before .before .before .before .stride-at .ensures)
+power-requires c κs =
+    omega (
+      arith,
+      block-bounds (c .before .before .before .before .before .before .before .before .before .before .before .before .before .before .before .before .pre .1 .1 .2)
+          (c .before .before .before .before .before .before .before .before .before .before .before .before .before .before .before .before .pre .0) .stride,
+      c .before .before .before .before
+          .before .before .before .before .before .before .stride-at .ensures,
+    )
 
 add-t20 : tie.Need-add-t20
 add-t20 c =

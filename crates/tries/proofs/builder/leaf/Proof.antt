@@ -15,7 +15,13 @@ write-requires c κs =
     (omega arith, omega arith, omega arith, omega arith, omega (arith, c .before .before .before .stride-at .ensures))
 
 power-requires : tie.Need-power-requires
-power-requires c κs = omega (arith, leaf-bounds (c .before .before .before .before .before .before .before .before .before .before .before .before .before .before .before .before .pre .1 .2) .stride, c .before .before .before .before .before .before .before .before .before .before .stride-at .ensures)
+power-requires c κs =
+    omega (
+      arith,
+      leaf-bounds (c .before .before .before .before .before .before .before .before .before .before .before .before .before .before .before .before .pre .1 .2) .stride,
+      c .before
+          .before .before .before .before .before .before .before .before .before .stride-at .ensures,
+    )
 
 add-result : tie.Need-add-result
 add-result c =
@@ -37,7 +43,8 @@ returns c =
     let S = c .before .before .before .before .before .before .before .before .before .before .before .before .before .before .before .before .before in
     let W = c .before .before .before .before .before .before .before .write in
     λ σ t g.
-    leaf-gives g (S .pre .0) (S .args .best) (c .before .before .before .before .before .before .before .before .before .before .before .stride-at .ensures) (c .power .ensures) (W .ensures .0) (W .ensures .1 .0) (W .ensures .1 .1)
+    leaf-gives g (S .pre .0) (S .args .best) (c .before .before .before .before .before .before .before .before .before .before .before .stride-at .ensures) (c .power .ensures)
+    (W .ensures .0) (W .ensures .1 .0) (W .ensures .1 .1)
 
 pub leaf-spec : {M : Type 1} → statement M
 leaf-spec =

@@ -30,7 +30,9 @@ enum-told c = search needs
 build-rows-requires : tie.Need-build-rows-requires
 build-rows-requires c κs =
     let S = c .before .before .before .before .before .before .before .before .before .before .before .before .before .before in
-    accepted-plan (S .args .width) (S .args .levels) (S .args .value .now) (S .args .length .now) (S .args .hop .now) (S .args .scratch .now) (λ i. omega (arith, c .before .before .before .before .before .before .before .before .before .before .before .shared-slice-known3 .given i)) (sym (c .before .before .before .before .before .before .tested .ensures) ∙ c .before .before .before .before .enum-told .given .1)
+    accepted-plan (S .args .width) (S .args .levels) (S .args .value .now) (S .args .length .now) (S .args .hop .now) (S .args .scratch .now)
+    (λ i. omega (arith, c .before .before .before .before .before .before .before .before .before .before .before .shared-slice-known3 .given i))
+    (sym (c .before .before .before .before .before .before .tested .ensures) ∙ c .before .before .before .before .enum-told .given .1)
 
 zero-requires : tie.Need-zero-requires
 zero-requires c κs = search needs

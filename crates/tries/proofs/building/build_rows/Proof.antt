@@ -22,7 +22,8 @@ same-length c = search needs
 returns : tie.Need-returns
 returns c =
     let S = c .before .before .before .before .before .before .before .before .before .before .before .before .before .before in
-    crowded-is _ (S .pre) (lists (S .args .hops .now) (S .args .links .now) (S .args .strides .now)) (c .before .before .before .before .before .planned .ensures) (sym (c .before .before .is-crowded .ensures) ∙ c .before .if1 .taken) (c .refused .ensures .0) (c .refused .ensures .1)
+    crowded-is _ (S .pre) (lists (S .args .hops .now) (S .args .links .now) (S .args .strides .now)) (c .before .before .before .before .before .planned .ensures)
+    (sym (c .before .before .is-crowded .ensures) ∙ c .before .if1 .taken) (c .refused .ensures .0) (c .refused .ensures .1)
 
 array-share-prefix-plan : tie.Need-array-share-prefix-plan
 array-share-prefix-plan c = search needs
@@ -30,13 +31,32 @@ array-share-prefix-plan c = search needs
 slice-aggregate-lay : tie.Need-slice-aggregate-lay
 slice-aggregate-lay c =
     let S = c .before .before .before .before .before .before .before .before .before .before .before .before .before .before .before .before in
-    omega (arith, S .pre .levels .1, c .before .before .before .before .before .before .before .planned .ensures .places, length-take (S .args .levels) (c .before .before .before .before .before .before .before .planned .result .plan))
+    omega (
+      arith,
+      S .pre .levels .1,
+      c .before .before .before .before .before .before .before .planned .ensures .places,
+      length-take (S .args .levels)
+          (c .before .before .before .before .before .before .before .planned .result .plan),
+    )
 
 lay-requires : tie.Need-lay-requires
-lay-requires c κs = (_, _, may-lay _ (c .before .before .before .before .before .before .before .before .before .before .before .before .before .before .before .before .before .before .before .pre) _ (c .before .before .before .before .before .before .before .before .before .before .planned .ensures) (sym (c .before .before .before .before .before .before .before .is-crowded .ensures) ∙ c .before .before .before .before .before .before .if1 .left))
+lay-requires c κs = (
+  _,
+  _,
+  may-lay _ (c .before .before .before .before .before .before .before .before .before .before .before .before .before .before .before .before .before .before .before .pre) _
+      (c .before .before .before .before .before .before .before .before .before .before .planned .ensures)
+      (sym (c .before .before .before .before .before .before .before .is-crowded .ensures) ∙ c .before .before .before .before .before .before .if1 .left),
+)
 
 cast-t33 : tie.Need-cast-t33
-cast-t33 c = omega (arith, few-rows _ (c .before .before .before .before .before .before .before .before .before .before .before .before .before .before .before .before .before .before .planned .result .cost) (sym (c .before .before .before .before .before .before .before .before .before .before .before .before .before .before .before .is-crowded .ensures) ∙ c .before .before .before .before .before .before .before .before .before .before .before .before .before .before .if1 .left))
+cast-t33 c =
+    omega (
+      arith,
+      few-rows _
+          (c .before .before .before .before .before .before .before .before .before .before .before .before .before .before .before .before .before .before .planned .result .cost)
+          (sym (c .before .before .before .before .before .before .before .before .before .before .before .before .before .before .before .is-crowded .ensures) ∙ c .before .before .before .before
+          .before .before .before .before .before .before .before .before .before .before .if1 .left),
+    )
 
 floor-hop-requires : tie.Need-floor-hop-requires
 floor-hop-requires c κs = search needs
@@ -56,7 +76,12 @@ same-length-5 c = search needs
 returns-2 : tie.Need-returns-2
 returns-2 c =
     let S = c .before .before .before .before .before .before .before .before .before .before .before .before .before .before .before .before .before .before .before .before .before .before .before .before .before .before .before .before in
-    built-is _ (S .pre) (lists (S .args .hops .now) (S .args .links .now) (S .args .strides .now)) (c .before .before .before .before .before .before .before .before .before .before .before .before .before .before .before .before .before .before .before .planned .ensures) _ (sym (c .before .before .before .before .before .before .before .before .before .before .before .before .before .before .before .before .is-crowded .ensures) ∙ c .before .before .before .before .before .before .before .before .before .before .before .before .before .before .before .if1 .left) (c .before .before .before .before .before .before .before .before .lay .ensures) (omega arith) (omega arith) (omega arith) refl refl refl (c .floor-hop .ensures _ _ (S .pre .table)) refl refl
+    built-is _ (S .pre) (lists (S .args .hops .now) (S .args .links .now) (S .args .strides .now))
+    (c .before .before .before .before .before .before .before .before .before .before .before .before .before .before .before .before .before .before .before .planned .ensures) _
+    (sym (c .before .before .before .before .before .before .before .before .before .before .before .before .before .before .before .before .is-crowded .ensures) ∙ c .before .before .before
+    .before .before .before .before .before .before .before .before .before .before .before .before .if1 .left)
+    (c .before .before .before .before .before .before .before .before .lay .ensures) (omega arith) (omega arith) (omega arith) refl refl refl (c .floor-hop .ensures _ _ (S .pre .table))
+    refl refl
 
 pub build-rows-spec : {M : Type 1} → statement M
 build-rows-spec =

@@ -13,13 +13,17 @@ smaller-requires-2 : tie.Need-smaller-requires-2
 smaller-requires-2 c κs = search needs
 
 returns : tie.Need-returns
-returns c = crowded (min (c .before .before .before .args .hops) (min (c .before .before .before .args .links) (c .before .before .before .args .strides))) (c .before .before .before .args .e) ELEMENTS (omega arith)
+returns c =
+    crowded (min (c .before .before .before .args .hops) (min (c .before .before .before .args .links) (c .before .before .before .args .strides))) (c .before .before .before .args .e)
+    ELEMENTS (omega arith)
 
 cast-result : tie.Need-cast-result
 cast-result c = search needs
 
 returns-2 : tie.Need-returns-2
-returns-2 c = roomy (min (c .before .before .before .args .hops) (min (c .before .before .before .args .links) (c .before .before .before .args .strides))) (c .before .before .before .args .e) ELEMENTS (omega arith)
+returns-2 c =
+    roomy (min (c .before .before .before .args .hops) (min (c .before .before .before .args .links) (c .before .before .before .args .strides))) (c .before .before .before .args .e)
+    ELEMENTS (omega arith)
 
 pub is-crowded-spec : {M : Type 1} → statement M
 is-crowded-spec =

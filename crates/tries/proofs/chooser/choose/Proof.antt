@@ -16,7 +16,8 @@ enum-known-outcome c = search needs
 returns : tie.Need-returns
 returns c =
     let S = c .before .before .before .before .before .before .before .before in
-    refused-is _ (S .args .width) (S .args .levels) (S .args .value .now) (S .args .length .now) (S .args .hop .now) (S .args .scratch .now) (c .before .before .before .tested .ensures) (c .before .outcome .given .1)
+    refused-is _ (S .args .width) (S .args .levels) (S .args .value .now) (S .args .length .now) (S .args .hop .now) (S .args .scratch .now) (c .before .before .before .tested .ensures)
+    (c .before .outcome .given .1)
 
 enum-told : tie.Need-enum-told
 enum-told c = search needs
@@ -24,7 +25,8 @@ enum-told c = search needs
 planned-requires : tie.Need-planned-requires
 planned-requires c κs =
     let S = c .before .before .before .before .before .before .before .before in
-    accepted-plan (S .args .width) (S .args .levels) (S .args .value .now) (S .args .length .now) (S .args .hop .now) (S .args .scratch .now) (λ i. omega (arith, c .before .before .before .before .before .shared-slice-known3 .given i)) (sym (c .before .before .before .tested .ensures) ∙ c .before .enum-told .given .1)
+    accepted-plan (S .args .width) (S .args .levels) (S .args .value .now) (S .args .length .now) (S .args .hop .now) (S .args .scratch .now)
+    (λ i. omega (arith, c .before .before .before .before .before .shared-slice-known3 .given i)) (sym (c .before .before .before .tested .ensures) ∙ c .before .enum-told .given .1)
 
 zero-requires : tie.Need-zero-requires
 zero-requires c κs = search needs
@@ -36,7 +38,9 @@ returns-2 : tie.Need-returns-2
 returns-2 c =
     let S = c .before .before .before .before .before .before .before .before .before .before .before .before .before .before .before .before in
     let e : length (c .before .before .before .before .before .before .before .planned .last .1 .1 .1 .1 .1 .1 .0) ≡ length (S .args .scratch .now) = omega arith in
-    chosen-is _ (S .args .width) (S .args .levels) (S .args .value .now) (S .args .length .now) (S .args .hop .now) (S .args .scratch .now) (sym (c .before .before .before .before .before .before .before .before .before .before .before .tested .ensures) ∙ c .before .before .before .before .before .before .before .before .before .enum-told .given .1) (c .before .before .before .before .before .before .before .planned .ensures) (c .before .before .before .zero .ensures ∙ ap (λ (n : ℕ). replicate n 0) e)
+    chosen-is _ (S .args .width) (S .args .levels) (S .args .value .now) (S .args .length .now) (S .args .hop .now) (S .args .scratch .now)
+    (sym (c .before .before .before .before .before .before .before .before .before .before .before .tested .ensures) ∙ c .before .before .before .before .before .before .before .before
+    .before .enum-told .given .1) (c .before .before .before .before .before .before .before .planned .ensures) (c .before .before .before .zero .ensures ∙ ap (λ (n : ℕ). replicate n 0) e)
 
 pub choose-spec : {M : Type 1} → statement M
 choose-spec =

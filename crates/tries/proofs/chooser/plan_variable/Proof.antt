@@ -15,15 +15,20 @@ make-rows-requires c κs =
 settle-tree-requires : tie.Need-settle-tree-requires
 settle-tree-requires c κs =
     let S = c .before .before .before .before .before .before .before .before .before .before .before .before .before in
-    settle-in (S .args .width) (S .args .levels) (S .args .vals .now) (S .args .lens .now) (S .args .hops .now) (S .args .scratch .now) (S .pre) _ _ (c .before .before .before .make-rows .ensures) (omega arith)
+    settle-in (S .args .width) (S .args .levels) (S .args .vals .now) (S .args .lens .now) (S .args .hops .now) (S .args .scratch .now) (S .pre) _ _
+    (c .before .before .before .make-rows .ensures) (omega arith)
 
 add-asked : tie.Need-add-asked
 add-asked c = let S = c .before .before .before .before .before .before .before .before .before .before .before .before .before .before .before .before .before in omega (arith, S .pre .levels .1)
 
 asked-requires : tie.Need-asked-requires
 asked-requires c κs =
-    let S = c .before .before .before .before .before .before .before .before .before .before .before .before .before .before .before .before .before in
-    (root-fits (S .args .width) (S .args .levels) (S .args .vals .now) (S .args .lens .now) (S .args .hops .now) (S .args .scratch .now) (S .pre) _ _ (c .before .before .before .before .before .before .before .make-rows .ensures) (omega arith) (c .before .before .before .settle-tree .last .0) (omega arith), omega (arith, S .pre .levels .1))
+    let S = c .before .before .before .before .before .before .before .before .before .before .before .before .before .before .before .before .before in (
+      root-fits (S .args .width) (S .args .levels) (S .args .vals .now) (S .args .lens .now) (S .args .hops .now) (S .args .scratch .now) (S .pre) _ _
+          (c .before .before .before .before .before .before .before .make-rows .ensures) (omega arith) (c .before .before .before .settle-tree .last .0) (omega arith),
+      omega
+          (arith, S .pre .levels .1),
+    )
 
 cast-strides : tie.Need-cast-strides
 cast-strides c = search needs
@@ -36,8 +41,12 @@ add-asked-2 c = let S = c .before .before .before .before .before .before .befor
 
 asked-requires-2 : tie.Need-asked-requires-2
 asked-requires-2 c κs =
-    let S = c .before .before .before .before .before .before .before .before .before .before .before .before .before .before .before .before .before .before .before in
-    (root-fits (S .args .width) (S .args .levels) (S .args .vals .now) (S .args .lens .now) (S .args .hops .now) (S .args .scratch .now) (S .pre) _ _ (c .before .before .before .before .before .before .before .before .before .make-rows .ensures) (omega arith) (c .before .before .before .before .before .settle-tree .last .0) (omega arith), omega (arith, S .pre .levels .1))
+    let S = c .before .before .before .before .before .before .before .before .before .before .before .before .before .before .before .before .before .before .before in (
+      root-fits (S .args .width) (S .args .levels) (S .args .vals .now) (S .args .lens .now) (S .args .hops .now) (S .args .scratch .now) (S .pre) _ _
+          (c .before .before .before .before .before .before .before .before .before .make-rows .ensures) (omega arith) (c .before .before .before .before .before .settle-tree .last .0)
+          (omega arith),
+      omega (arith, S .pre .levels .1),
+    )
 
 same-length : tie.Need-same-length
 same-length c = search needs
@@ -45,7 +54,9 @@ same-length c = search needs
 returns : tie.Need-returns
 returns c =
     let S = c .before .before .before .before .before .before .before .before .before .before .before .before .before .before .before .before .before .before .before .before in
-    plan-variable (S .args .width) (S .args .levels) (S .args .vals .now) (S .args .lens .now) (S .args .hops .now) (S .args .scratch .now) (S .pre) _ _ (c .before .before .before .before .before .before .before .before .before .before .make-rows .ensures) (omega arith) _ _ _ (omega arith) (c .before .before .before .before .before .before .settle-tree .ensures) (c .asked2 .ensures) (c .before .before .asked .ensures)
+    plan-variable (S .args .width) (S .args .levels) (S .args .vals .now) (S .args .lens .now) (S .args .hops .now) (S .args .scratch .now) (S .pre) _ _
+    (c .before .before .before .before .before .before .before .before .before .before .make-rows .ensures) (omega arith) _ _ _ (omega arith)
+    (c .before .before .before .before .before .before .settle-tree .ensures) (c .asked2 .ensures) (c .before .before .asked .ensures)
 
 pub plan-variable-spec : {M : Type 1} → statement M
 plan-variable-spec =

@@ -85,7 +85,9 @@ gather-returns t c =
     let H = c .before .before .gather2 in
     let ne = c .before .before .before .before .before .before .before .before .before .before .before .before .before .before .if1 .taken in
     let g = row-in (S .args .levels) (S .args .rows .now) (S .args .k) (S .args .d) (S .args .sums .now) (S .pre .1) ne in
-    all-out (S .args .levels) (S .args .rows .now) (S .args .k) (S .args .d) (S .args .sums .now) (X .last .1 .1 .1 .1 .0) (G .last .1 .1 .1 .1 .0) (H .last .1 .1 .1 .1 .0) (g .3) ne (X .ensures) (rw (c .before .before .before .before .before .before .before .before .before .asked .ensures) at (G .ensures)) (rw (c .before .before .before .before .asked2 .ensures) at (H .ensures))
+    all-out (S .args .levels) (S .args .rows .now) (S .args .k) (S .args .d) (S .args .sums .now) (X .last .1 .1 .1 .1 .0) (G .last .1 .1 .1 .1 .0) (H .last .1 .1 .1 .1 .0) (g .3) ne
+    (X .ensures) (rw (c .before .before .before .before .before .before .before .before .before .asked .ensures) at (G .ensures))
+    (rw (c .before .before .before .before .asked2 .ensures) at (H .ensures))
 
 gather-returns-2 : (t : ℕ) → gather-lts.Need-returns-2 (cs t) (gather-at t) gather.Post
 gather-returns-2 t c =

@@ -65,15 +65,22 @@ settle-tree-settle-tree-requires-2 t c κs =
     let S = c .before .before .before .before .before .before .before .before .before .before .before in
     let L = c .before .before .before .before .before .settle-tree in
     let ne = c .before .before .before .before .before .before .before .before .before .if1 .taken in
-    let f = some-fits (S .args .levels) (S .args .rows .now) (S .args .k) (S .args .d) (S .pre .1) ne in
-    (omega arith, rw (c .asked2 .ensures) (some-right (S .args .levels) (S .args .rows .now) (S .args .k) (S .args .d) (L .last .0) (omega arith) (rw (c .before .before .before .before .before .before .asked .ensures) at (L .ensures)) (S .pre .1) ne))
+    let f = some-fits (S .args .levels) (S .args .rows .now) (S .args .k) (S .args .d) (S .pre .1) ne in (
+      omega arith,
+      rw (c .asked2 .ensures)
+          (some-right (S .args .levels) (S .args .rows .now) (S .args .k) (S .args .d) (L .last .0) (omega arith)
+          (rw (c .before .before .before .before .before .before .asked .ensures) at (L .ensures)) (S .pre .1) ne),
+    )
 
 settle-tree-settle-requires : (t : ℕ) → settle-tree-lts.Need-settle-requires (cs t) (settle-tree-at t) settle-tree.Post
 settle-tree-settle-requires t c κs =
     let S = c .before .before .before .before .before .before .before .before .before .before .before .before .before .before .before in
     let L = c .before .before .before .before .before .before .before .before .before .settle-tree in
     let R = c .before .before .before .settle-tree2 in
-    some-own (S .args .levels) (S .args .rows .now) (S .args .k) (S .args .d) (L .last .0) (omega arith) (rw (c .before .before .before .before .before .before .before .before .before .before .asked .ensures) at (L .ensures)) (R .last .0) (omega arith) (rw (c .before .before .before .before .asked2 .ensures) at (R .ensures)) (S .pre .1) (c .before .before .before .before .before .before .before .before .before .before .before .before .before .if1 .taken)
+    some-own (S .args .levels) (S .args .rows .now) (S .args .k) (S .args .d) (L .last .0) (omega arith)
+    (rw (c .before .before .before .before .before .before .before .before .before .before .asked .ensures) at (L .ensures)) (R .last .0) (omega arith)
+    (rw (c .before .before .before .before .asked2 .ensures) at (R .ensures)) (S .pre .1)
+    (c .before .before .before .before .before .before .before .before .before .before .before .before .before .if1 .taken)
 
 settle-tree-same-length : (t : ℕ) → settle-tree-lts.Need-same-length (cs t) (settle-tree-at t) settle-tree.Post
 settle-tree-same-length t c = search needs
@@ -84,7 +91,10 @@ settle-tree-returns t c =
     let L = c .before .before .before .before .before .before .before .before .before .before .before .before .settle-tree in
     let R = c .before .before .before .before .before .before .settle-tree2 in
     let X = c .before .before .settle in
-    all-settled (S .args .levels) (S .args .rows .now) (S .args .k) (S .args .d) (L .last .0) (omega arith) (rw (c .before .before .before .before .before .before .before .before .before .before .before .before .before .asked .ensures) at (L .ensures)) (R .last .0) (omega arith) (rw (c .before .before .before .before .before .before .before .asked2 .ensures) at (R .ensures)) (X .last .0) (c .before .before .before .before .before .before .before .before .before .before .before .before .before .before .before .before .if1 .taken) (X .ensures)
+    all-settled (S .args .levels) (S .args .rows .now) (S .args .k) (S .args .d) (L .last .0) (omega arith)
+    (rw (c .before .before .before .before .before .before .before .before .before .before .before .before .before .asked .ensures) at (L .ensures)) (R .last .0) (omega arith)
+    (rw (c .before .before .before .before .before .before .before .asked2 .ensures) at (R .ensures)) (X .last .0)
+    (c .before .before .before .before .before .before .before .before .before .before .before .before .before .before .before .before .if1 .taken) (X .ensures)
 
 settle-tree-returns-2 : (t : ℕ) → settle-tree-lts.Need-returns-2 (cs t) (settle-tree-at t) settle-tree.Post
 settle-tree-returns-2 t c =

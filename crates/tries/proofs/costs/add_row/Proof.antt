@@ -38,8 +38,12 @@ loop-again : tie.Need-loop-again Inv-loop μ-loop
 loop-again c =
     let S = c .before .before .before .before .before .before .before .before .before in
     let l = c .before .before .before .before .before .before .loop in
-    let B = c .before .before .bump in
-    (omega arith, ap length (B .ensures) ∙ length-set (l .sums) (S .args .d * LEVELS + l .r) _ ∙ l .inv .1, row-next _ _ _ _ _ _ (l .r) _ (l .inv .1) (S .pre .2) (omega arith) (l .inv .2) (c .before .before .before .asked .ensures) (B .ensures))
+    let B = c .before .before .bump in (
+      omega arith,
+      ap length (B .ensures) ∙ length-set (l .sums) (S .args .d * LEVELS + l .r) _ ∙ l .inv .1,
+      row-next _ _ _ _ _ _ (l .r) _ (l .inv .1) (S .pre .2) (omega arith) (l .inv .2)
+          (c .before .before .before .asked .ensures) (B .ensures),
+    )
 
 same-length : tie.Need-same-length Inv-loop μ-loop
 same-length c = search needs

@@ -30,12 +30,25 @@ add-result : tie.Need-add-result
 add-result c =
     let S = c .before .before .before .before .before .before in
     let b = depth-bound (S .args .levels) (S .args .rows .now) (S .args .k) (S .pre) in
-    omega (arith, c .larger .ensures, c .before .before .before .asked2 .ensures, c .before .asked4 .ensures, ap (λ (y : ℕ). ask (S .args .rows .now) y DEPTH) (c .before .before .before .before .asked .ensures), ap (λ (y : ℕ). ask (S .args .rows .now) y DEPTH) (c .before .before .asked3 .ensures))
+    omega (
+      arith,
+      c .larger .ensures,
+      c .before .before .before .asked2 .ensures,
+      c .before .asked4 .ensures,
+      ap (λ (y : ℕ). ask (S .args .rows .now) y DEPTH)
+          (c .before .before .before .before .asked .ensures),
+      ap (λ (y : ℕ). ask (S .args .rows .now) y DEPTH) (c .before .before .asked3 .ensures),
+    )
 
 returns : tie.Need-returns
 returns c =
     let S = c .before .before .before .before .before .before in
-    depth-out (S .args .levels) (S .args .rows .now) (S .args .k) _ (rw (c .before .before .before .asked2 .ensures ∙ ap (λ (y : ℕ). ask (S .args .rows .now) y DEPTH) (c .before .before .before .before .asked .ensures), c .before .asked4 .ensures ∙ ap (λ (y : ℕ). ask (S .args .rows .now) y DEPTH) (c .before .before .asked3 .ensures)) at (c .larger .ensures))
+    depth-out (S .args .levels) (S .args .rows .now) (S .args .k) _
+    (rw (
+      c .before .before .before .asked2 .ensures ∙ ap (λ (y : ℕ). ask (S .args .rows .now) y DEPTH) (c .before .before .before .before .asked .ensures),
+      c .before .asked4 .ensures ∙ ap
+          (λ (y : ℕ). ask (S .args .rows .now) y DEPTH) (c .before .before .asked3 .ensures),
+    ) at (c .larger .ensures))
 
 pub depth-over-spec : {M : Type 1} → statement M
 depth-over-spec =

@@ -39,7 +39,13 @@ same-length c = search needs
 returns : tie.Need-returns
 returns c =
     let S = c .before .before .before .before .before .before .before .before .before .before .before .before .before .before .before .before in
-    settle-out (S .args .levels) (S .args .rows .now) (S .args .k) (S .pre) (c .before .before .before .before .before .before .before .before .before .before .before .before .sum-below .last .1 .1 .1 .0) (c .before .before .before .before .before .before .before .put .last .0) (c .before .before .store .last .0) (c .before .before .before .before .before .before .before .before .before .depth-over .result) (c .before .before .before .before .before .before .before .before .before .before .before .before .sum-below .ensures) (c .before .before .before .before .before .before .before .before .before .depth-over .ensures) (c .before .before .before .before .before .before .before .put .ensures) (c .before .before .store .ensures)
+    settle-out (S .args .levels) (S .args .rows .now) (S .args .k) (S .pre)
+    (c .before .before .before .before .before .before .before .before .before .before .before .before .sum-below .last .1 .1 .1 .0)
+    (c .before .before .before .before .before .before .before .put .last .0) (c .before .before .store .last .0)
+    (c .before .before .before .before .before .before .before .before .before .depth-over .result)
+    (c .before .before .before .before .before .before .before .before .before .before .before .before .sum-below .ensures)
+    (c .before .before .before .before .before .before .before .before .before .depth-over .ensures) (c .before .before .before .before .before .before .before .put .ensures)
+    (c .before .before .store .ensures)
 
 pub settle-spec : {M : Type 1} → statement M
 settle-spec =

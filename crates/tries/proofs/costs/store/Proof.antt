@@ -48,8 +48,12 @@ loop-again c =
     let l = c .before .before .before .before .before .before .before .before .before .before .before .loop in
     let C = c .before .before .before .before .before .before .before .before .before .choice in
     let Q = c .before .before .before .before .before .before .before .put in
-    let T = c .before .before .put2 in
-    (omega arith, omega arith, store-next (S .args .rows .now) (S .args .x) (S .args .depth) (S .args .sums .now) (l .rows) (Q .last .0) (T .last .0) (l .r) _ _ (omega arith) (omega arith) (omega arith) (l .inv .2) (C .ensures .0) (C .ensures .1 .0) (Q .ensures) (T .ensures))
+    let T = c .before .before .put2 in (
+      omega arith,
+      omega arith,
+      store-next (S .args .rows .now) (S .args .x) (S .args .depth) (S .args .sums .now) (l .rows) (Q .last .0) (T .last .0) (l .r) _ _ (omega arith) (omega arith)
+          (omega arith) (l .inv .2) (C .ensures .0) (C .ensures .1 .0) (Q .ensures) (T .ensures),
+    )
 
 same-length : tie.Need-same-length Inv-loop μ-loop
 same-length c = search needs

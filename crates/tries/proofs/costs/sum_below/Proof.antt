@@ -28,7 +28,8 @@ returns c =
     let S = c .before .before .before .before .before .before .before .before .before .before .before .before in
     let G = c .before .before .before .before .before .before .before .gather in
     let H = c .before .before .gather2 in
-    both-below (S .args .levels) (S .args .rows .now) (S .args .k) (S .pre .0) (S .args .sums .now) (G .last .1 .1 .1 .1 .0) (H .last .1 .1 .1 .1 .0) (rw (c .before .before .before .before .before .before .before .before .before .asked .ensures) at (G .ensures)) (rw (c .before .before .before .before .asked2 .ensures) at (H .ensures))
+    both-below (S .args .levels) (S .args .rows .now) (S .args .k) (S .pre .0) (S .args .sums .now) (G .last .1 .1 .1 .1 .0) (H .last .1 .1 .1 .1 .0)
+    (rw (c .before .before .before .before .before .before .before .before .before .asked .ensures) at (G .ensures)) (rw (c .before .before .before .before .asked2 .ensures) at (H .ensures))
 
 pub sum-below-spec : {M : Type 1} → statement M
 sum-below-spec =

@@ -39,7 +39,9 @@ enum-told : tie.Need-enum-told
 enum-told c = search needs
 
 returns : tie.Need-returns
-returns c = new-after _ _ _ _ _ (same-length (sym (c .before .before .before .shared .given .1) ∙ found (c .before .before .before .before .before))) (c .before .smaller .ensures) (c .smaller2 .ensures)
+returns c =
+    new-after _ _ _ _ _ (same-length (sym (c .before .before .before .shared .given .1) ∙ found (c .before .before .before .before .before))) (c .before .smaller .ensures)
+    (c .smaller2 .ensures)
 
 returns-2 : tie.Need-returns-2
 returns-2 c = absurd (not-refused (sym (c .enum-told .given .1) ∙ found (c .before .before)))

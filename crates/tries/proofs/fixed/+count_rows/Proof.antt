@@ -34,7 +34,9 @@ cs t = (asked-reads.Asked, asked-reads.Learnt, count-rows-below t, count-rows.Po
 
 -- what is known of the row at a link that is not 0
 at-node : (t : ℕ) (c : count-rows-lts.Then1 (cs t) (count-rows-at t) count-rows.Post)
-    → let S = c .before .before .before in (S .args .k * ROW ≤ length (S .args .rows .now)) × (S .args .d < WIDTH) × (length (S .args .counts .now) ≡ WIDTH) × (at (S .args .counts .now) (S .args .d) < ENTRIES)
+    → let S =
+    c .before .before .before in (S .args .k * ROW ≤ length (S .args .rows .now)) × (S .args .d < WIDTH) × (length (S .args .counts .now) ≡ WIDTH)
+    × (at (S .args .counts .now) (S .args .d) < ENTRIES)
 at-node t c = let S = c .before .before .before in node-in (S .args .rows .now) (S .args .k) (S .args .d) (S .args .counts .now) (S .pre .1) (c .if1 .taken)
 
 count-rows-mul-counts : (t : ℕ) → count-rows-lts.Need-mul-counts (cs t) (count-rows-at t) count-rows.Post
@@ -80,7 +82,13 @@ count-rows-count-rows-requires-2 t c κs =
 count-rows-same-length : (t : ℕ) → count-rows-lts.Need-same-length (cs t) (count-rows-at t) count-rows.Post
 count-rows-same-length t c =
     let S = c .before .before .before .before .before .before .before .before .before .before .before .before .before .before in
-    omega (arith, c .before .before .count-rows2 .kept, c .before .before .before .before .before .before .before .count-rows .kept, length-set (S .args .counts .now) (S .args .d) (at (S .args .counts .now) (S .args .d) + 1))
+    omega (
+      arith,
+      c .before .before .count-rows2 .kept,
+      c .before .before .before .before .before .before .before .count-rows .kept,
+      length-set (S .args .counts .now) (S .args .d)
+          (at (S .args .counts .now) (S .args .d) + 1),
+    )
 
 count-rows-returns : (t : ℕ) → count-rows-lts.Need-returns (cs t) (count-rows-at t) count-rows.Post
 count-rows-returns t c =
@@ -88,7 +96,8 @@ count-rows-returns t c =
     let g = at-node t (c .before .before .before .before .before .before .before .before .before .before .before) in
     let L = c .before .before .before .before .before .before .before .count-rows in
     let R = c .before .before .count-rows2 in
-    node-counted (S .args .rows .now) (S .args .k) (S .args .d) (S .args .counts .now) (c .before .before .before .before .before .before .before .before .before .before .before .if1 .taken) (L .last .1 .1 .1 .0) (R .last .1 .1 .1 .0) (omega (arith, L .kept, length-set (S .args .counts .now) (S .args .d) (at (S .args .counts .now) (S .args .d) + 1)))
+    node-counted (S .args .rows .now) (S .args .k) (S .args .d) (S .args .counts .now) (c .before .before .before .before .before .before .before .before .before .before .before .if1 .taken)
+    (L .last .1 .1 .1 .0) (R .last .1 .1 .1 .0) (omega (arith, L .kept, length-set (S .args .counts .now) (S .args .d) (at (S .args .counts .now) (S .args .d) + 1)))
     (rw (c .before .before .before .before .before .before .before .before .before .asked .ensures) at (L .ensures)) (rw (c .before .before .before .before .asked2 .ensures) at (R .ensures))
 
 count-rows-returns-2 : (t : ℕ) → count-rows-lts.Need-returns-2 (cs t) (count-rows-at t) count-rows.Post

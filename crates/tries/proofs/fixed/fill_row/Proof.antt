@@ -86,7 +86,8 @@ loop-again c =
       omega arith,
       length-set (l .costs) (S .args .i * LEVELS + l .r) _ ∙ l .inv .1,
       length-set (l .strides) (S .args .i * LEVELS + l .r) _ ∙ l .inv .2,
-      row-next (S .args .n) (S .args .d) (S .args .i) (S .args .costs .now) (S .args .strides .now) (drop ((S .args .i + 1) * LEVELS) (S .args .costs .now)) (l .costs) (l .strides) (l .r) _ _ (omega arith) (omega (arith, S .pre .0 .0)) (omega (arith, S .pre .0 .1)) (l .inv .3)
+      row-next (S .args .n) (S .args .d) (S .args .i) (S .args .costs .now) (S .args .strides .now) (drop ((S .args .i + 1) * LEVELS) (S .args .costs .now)) (l .costs) (l .strides) (l .r) _
+          _ (omega arith) (omega (arith, S .pre .0 .0)) (omega (arith, S .pre .0 .1)) (l .inv .3)
           (C .ensures .0 ∙ ap (λ (y : List ℕ). bestCost y (S .args .n) (S .args .d) (l .r)) e) (C .ensures .1 .0 ∙ ap (λ (y : List ℕ). bestStride y (S .args .n) (S .args .d) (l .r)) e),
       drop-set-lt ((S .args .i + 1) * LEVELS) (l .costs) (S .args .i * LEVELS + l .r) _ (omega arith) ∙ l .inv .4,
     )
@@ -102,7 +103,9 @@ returns c =
     let S = c .before .before .before .before in
     let l = c .before .loop in
     let e : l .r ≡ S .args .levels = omega arith in
-    subst (λ (m : ℕ). RowFilled m (S .args .n) (S .args .d) (S .args .i) (S .args .costs .now) (S .args .strides .now) (l .costs) (l .strides) (drop ((S .args .i + 1) * LEVELS) (S .args .costs .now))) e (l .inv .3)
+    subst
+    (λ (m : ℕ). RowFilled m (S .args .n) (S .args .d) (S .args .i) (S .args .costs .now) (S .args .strides .now) (l .costs) (l .strides)
+    (drop ((S .args .i + 1) * LEVELS) (S .args .costs .now))) e (l .inv .3)
 
 pub fill-row-spec : {M : Type 1} → statement M
 fill-row-spec =

@@ -54,8 +54,13 @@ read-list-requires : tie.Need-read-list-requires
 read-list-requires c κs =
     let S = c .before .before .before .before .before .before .before .before .before .before .before in
     let g = S .pre .1 in
-    let F = c .before .before .before .fill-table .ensures in
-    (g .within .0, g .within .1, omega (arith, g .depths, g .short), F .long-strides, (at (c .before .before .before .before .before .before .before .before .count-rows .last .1 .1 .1 .0), λ j r p q. F .stride j r (omega arith) p q))
+    let F = c .before .before .before .fill-table .ensures in (
+      g .within .0,
+      g .within .1,
+      omega (arith, g .depths, g .short),
+      F .long-strides,
+      (at (c .before .before .before .before .before .before .before .before .count-rows .last .1 .1 .1 .0), λ j r p q. F .stride j r (omega arith) p q),
+    )
 
 returns : tie.Need-returns
 returns c t g =

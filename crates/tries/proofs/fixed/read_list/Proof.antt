@@ -80,7 +80,8 @@ returns c =
     let S = c .before .before in
     let l = c .before .loop in
     let e : l .p ≡ S .args .levels = omega arith in
-    λ nodes f. reading-done nodes (S .args .levels) (S .args .depth) (l .i) (l .list) (S .pre .1) (l .inv .2) (subst (λ (x : ℕ). Reading nodes (S .args .levels) (S .args .depth) (l .i) x (l .list)) e (l .inv .3 nodes f))
+    λ nodes f. reading-done nodes (S .args .levels) (S .args .depth) (l .i) (l .list) (S .pre .1) (l .inv .2)
+    (subst (λ (x : ℕ). Reading nodes (S .args .levels) (S .args .depth) (l .i) x (l .list)) e (l .inv .3 nodes f))
 
 pub read-list-spec : {M : Type 1} → statement M
 read-list-spec =

@@ -53,7 +53,8 @@ add-requires : tie.Need-add-requires Inv-loop μ-loop
 add-requires c κs =
     let S = c .before .before .before .before .before .before .before .before .before .before in
     let l = c .before .before .before .before .before .loop in
-    make-add (S .args .width) (S .args .vals .now) (S .args .lens .now) (S .args .hops .now) (S .pre .prefixes) (l .rows) (l .i) _ (omega (arith, S .pre .room, l .inv .1)) (c .before .before .before .before .loop-test .taken) (l .inv .2 .0) (l .inv .2 .1)
+    make-add (S .args .width) (S .args .vals .now) (S .args .lens .now) (S .args .hops .now) (S .pre .prefixes) (l .rows) (l .i) _ (omega (arith, S .pre .room, l .inv .1))
+    (c .before .before .before .before .loop-test .taken) (l .inv .2 .0) (l .inv .2 .1)
 
 add-i : tie.Need-add-i Inv-loop μ-loop
 add-i c = search needs
@@ -78,7 +79,8 @@ returns : tie.Need-returns Inv-loop μ-loop
 returns c =
     let S = c .before .before .before .before .before .before .before in
     let l = c .before .before .loop in
-    make-done (S .args .width) (S .args .vals .now) (S .args .lens .now) (S .args .hops .now) _ (l .i) (l .used) _ (omega arith) (l .inv .2 .0) (l .inv .2 .1) (c .root-link .ensures .0) (c .root-link .ensures .1)
+    make-done (S .args .width) (S .args .vals .now) (S .args .lens .now) (S .args .hops .now) _ (l .i) (l .used) _ (omega arith) (l .inv .2 .0) (l .inv .2 .1) (c .root-link .ensures .0)
+    (c .root-link .ensures .1)
 
 pub make-rows-spec : {M : Type 1} → statement M
 make-rows-spec =

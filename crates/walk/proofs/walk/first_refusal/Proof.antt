@@ -53,12 +53,24 @@ is-unfit-requires c κs = search needs
 returns-4 : tie.Need-returns-4
 unfolding refusalOf
 returns-4 c =
-    simp (width-in (c .before .before .before .before .before .before .before), levels-in (c .before .before .before .before .before), address-in (c .before .before .before), sym (c .before .is-unfit .ensures) ∙ c .if4 .taken)
+    simp (
+      width-in (c .before .before .before .before .before .before .before),
+      levels-in (c .before .before .before .before .before),
+      address-in (c .before .before .before),
+      sym
+          (c .before .is-unfit .ensures) ∙ c .if4 .taken,
+    )
 
 returns-5 : tie.Need-returns-5
 unfolding refusalOf
 returns-5 c =
-    simp (width-in (c .before .before .before .before .before .before .before), levels-in (c .before .before .before .before .before), address-in (c .before .before .before), sym (c .before .is-unfit .ensures) ∙ c .if4 .left)
+    simp (
+      width-in (c .before .before .before .before .before .before .before),
+      levels-in (c .before .before .before .before .before),
+      address-in (c .before .before .before),
+      sym
+          (c .before .is-unfit .ensures) ∙ c .if4 .left,
+    )
 
 pub first-refusal-spec : {M : Type 1} → statement M
 first-refusal-spec =
