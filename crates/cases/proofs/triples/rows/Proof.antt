@@ -56,7 +56,10 @@ held16-requires : tie.Need-held16-requires Inv-loop μ-loop
 held16-requires c κs = search needs
 
 mul-third : tie.Need-mul-third Inv-loop μ-loop
-mul-third c = let start = c .before .before .before .before .before .before .before .before .before .before .before .before .before .before .before .before in record { fits = omega (arith, start .good .1 .1 .0) }
+mul-third c =
+    let c16 = c .before .before .before .before .before .before .before .before .before .before .before .before .before .before .before .before in
+    let start = c16 in
+    record { fits = omega (arith, start .good .1 .1 .0) }
 
 slice-write-third : tie.Need-slice-write-third Inv-loop μ-loop
 slice-write-third c = search needs

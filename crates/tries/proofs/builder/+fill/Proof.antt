@@ -126,19 +126,27 @@ fill-sub-fill-2 t c = omega arith
 
 fill-add-fill : (t : ℕ) → fill-lts.Need-add-fill (cs t) (fill-at t) fill.Post
 fill-add-fill t c =
-    let b = half-bounds (c .before .before .before .before .before .before .before .before .before .before .before .before .before .before .before .before .before .before .before .before .before .before .pre .1 .2) in
-    let p = power-most (c .before .before .before .before .before .before .before .before .before .before .power2 .ensures) (omega arith) in
+    let c10 = c .before .before .before .before .before .before .before .before .before .before in
+    let c22 = c10 .before .before .before .before .before .before .before .before .before .before .before .before in
+    let b = half-bounds (c22 .pre .1 .2) in
+    let p = power-most (c10 .power2 .ensures) (omega arith) in
     omega arith
 
 fill-fill-requires-2 : (t : ℕ) → fill-lts.Need-fill-requires-2 (cs t) (fill-at t) fill.Post
 fill-fill-requires-2 t c κs =
-    let S = c .before .before .before .before .before .before .before .before .before .before .before .before .before .before .before .before .before .before .before .before .before .before .before .before .before in
-    let F = c .before .before .before .before .before .before .before .before .before .fill in
-    let ne = c .before .before .before .before .before .before .before .before .before .before .before .before .before .before .before .before .before .before .if2 .left in
+    let c9 = c .before .before .before .before .before .before .before .before .before in
+    let c13 = c9 .before .before .before .before in
+    let c14 = c13 .before in
+    let c15 = c14 .before in
+    let c18 = c15 .before .before .before in
+    let c25 = c18 .before .before .before .before .before .before .before in
+    let S = c25 in
+    let F = c9 .fill in
+    let ne = c18 .if2 .left in
     let e : S .args .c ≡ suc (S .args .c - 1) = omega (arith, ne) in
-    let o = F .ensures (S .pre .1 .0) (left (S .pre .1 .1)) (left-asks (S .pre .1 .2) e (c .before .before .before .before .before .before .before .before .before .before .before .before .before .before .before .asked .ensures)) in (
+    let o = F .ensures (S .pre .1 .0) (left (S .pre .1 .1)) (left-asks (S .pre .1 .2) e (c15 .asked .ensures)) in (
       omega (arith, ne, S .pre .0),
-      (S .pre .1 .0, right (S .pre .1 .1), right-asks (S .pre .1 .2) e (omega arith) o (c .before .before .before .before .before .before .before .before .before .before .before .before .before .power2 .ensures) (c .before .before .before .before .before .before .before .before .before .before .before .before .before .before .asked2 .ensures)),
+      (S .pre .1 .0, right (S .pre .1 .1), right-asks (S .pre .1 .2) e (omega (arith, F .kept)) o (c13 .power2 .ensures) (c14 .asked2 .ensures)),
     )
 
 fill-same-length-7 : (t : ℕ) → fill-lts.Need-same-length-7 (cs t) (fill-at t) fill.Post
@@ -152,20 +160,27 @@ fill-same-length-9 t c = search needs
 
 fill-returns-3 : (t : ℕ) → fill-lts.Need-returns-3 (cs t) (fill-at t) fill.Post
 fill-returns-3 t c =
-    let S = c .before .before .before .before .before .before .before .before .before .before .before .before .before .before .before .before .before .before .before .before .before .before .before .before .before .before .before .before .before .before .before .before in
-    let F = c .before .before .before .before .before .before .before .before .before .before .before .before .before .before .before .before .fill in
-    let P = c .before .before .before .before .before .before .before .before .before .before .before .before .before .before .before .before .before .before .before .before .power2 .ensures in
-    let e : S .args .c ≡ suc (S .args .c - 1) = omega (arith, c .before .before .before .before .before .before .before .before .before .before .before .before .before .before .before .before .before .before .before .before .before .before .before .before .before .if2 .left) in
+    let c6 = c .before .before .before .before .before .before in
+    let c16 = c6 .before .before .before .before .before .before .before .before .before .before in
+    let c20 = c16 .before .before .before .before in
+    let c21 = c20 .before in
+    let c22 = c21 .before in
+    let c23 = c22 .before in
+    let c25 = c23 .before .before in
+    let c32 = c25 .before .before .before .before .before .before .before in
+    let S = c32 in
+    let F = c16 .fill in
+    let P = c20 .power2 .ensures in
+    let e : S .args .c ≡ suc (S .args .c - 1) = omega (arith, c25 .if2 .left) in
     λ σ u g.
-    let o = F .ensures σ (left u) (left-asks g e (c .before .before .before .before .before .before .before .before .before .before .before .before .before .before .before .before .before .before .before .before .before .before .asked .ensures)) in
+    let o = F .ensures σ (left u) (left-asks g e (c22 .asked .ensures)) in
     halves-give g e (omega (arith, F .kept)) o P
-    (c .before .before .before .before .before .before .before .before .before .before .before .before .before .before .before .before .before .before .before .before .before .before .before
-    .before .best-below .ensures)
-    (c .before .before .before .before .before .before .before .before .before .before .before .before .before .before .before .before .before .before .before .before .before .before .before
+    (c23 .before .best-below .ensures)
+    (c23
     .best-below2 .ensures)
-    (c .before .before .before .before .before .before .fill2 .ensures σ (right u)
+    (c6 .fill2 .ensures σ (right u)
     (right-asks g e (omega (arith, F .kept)) o P
-    (c .before .before .before .before .before .before .before .before .before .before .before .before .before .before .before .before .before .before .before .before .before .asked2
+    (c21 .asked2
     .ensures)))
 
 pub +fill-spec : {M : Type 1} → statement M

@@ -128,14 +128,20 @@ level-sub-level-6 t c = omega arith
 
 level-level-requires-3 : (t : ℕ) → level-lts.Need-level-requires-3 (cs t) (level-at t) level.Post
 level-level-requires-3 t c κs =
-    let S = c .before .before .before .before .before .before .before .before .before .before .before .before .before .before .before .before .before .before .before .before .before .before in
-    let F = c .before .before .before .before .before .before .before .before .before .level2 in
-    let ne = c .before .before .before .before .before .before .before .before .before .before .before .before .before .before .before .if2 .left in
-    let b = side-bounds (S .pre .1 .2) (omega (arith, c .before .before .before .before .before .before .before .before .before .before .before .before .before .before .before .before .if1 .left)) in
+    let c9 = c .before .before .before .before .before .before .before .before .before in
+    let c13 = c9 .before .before .before .before in
+    let c14 = c13 .before in
+    let c15 = c14 .before in
+    let c16 = c15 .before in
+    let c22 = c16 .before .before .before .before .before .before in
+    let S = c22 in
+    let F = c9 .level2 in
+    let ne = c15 .if2 .left in
+    let b = side-bounds (S .pre .1 .2) (omega (arith, c16 .if1 .left)) in
     let e : S .args .c ≡ suc (S .args .c - 1) = omega (arith, ne) in
-    let o = F .ensures (S .pre .1 .0) (left (S .pre .1 .1)) (first-asks (S .pre .1 .2) e (c .before .before .before .before .before .before .before .before .before .before .before .before .before .before .asked .ensures)) in (
+    let o = F .ensures (S .pre .1 .0) (left (S .pre .1 .1)) (first-asks (S .pre .1 .2) e (c14 .asked .ensures)) in (
       omega (arith, ne, b, S .pre .0),
-      (S .pre .1 .0, right (S .pre .1 .1), second-asks (S .pre .1 .2) e (omega (arith, F .kept)) o (c .before .before .before .before .before .before .before .before .before .before .before .before .before .asked2 .ensures)),
+      (S .pre .1 .0, right (S .pre .1 .1), second-asks (S .pre .1 .2) e (omega (arith, F .kept)) o (c13 .asked2 .ensures)),
     )
 
 level-same-length-7 : (t : ℕ) → level-lts.Need-same-length-7 (cs t) (level-at t) level.Post
@@ -149,15 +155,21 @@ level-same-length-9 t c = search needs
 
 level-returns-4 : (t : ℕ) → level-lts.Need-returns-4 (cs t) (level-at t) level.Post
 level-returns-4 t c =
-    let S = c .before .before .before .before .before .before .before .before .before .before .before .before .before .before .before .before .before .before .before .before .before .before .before .before .before .before .before .before .before in
-    let F = c .before .before .before .before .before .before .before .before .before .before .before .before .before .before .before .before .level2 in
-    let e : S .args .c ≡ suc (S .args .c - 1) = omega (arith, c .before .before .before .before .before .before .before .before .before .before .before .before .before .before .before .before .before .before .before .before .before .before .if2 .left) in
+    let c6 = c .before .before .before .before .before .before in
+    let c16 = c6 .before .before .before .before .before .before .before .before .before .before in
+    let c20 = c16 .before .before .before .before in
+    let c21 = c20 .before in
+    let c22 = c21 .before in
+    let c29 = c22 .before .before .before .before .before .before .before in
+    let S = c29 in
+    let F = c16 .level2 in
+    let e : S .args .c ≡ suc (S .args .c - 1) = omega (arith, c22 .if2 .left) in
     λ σ u g.
-    let o = F .ensures σ (left u) (first-asks g e (c .before .before .before .before .before .before .before .before .before .before .before .before .before .before .before .before .before .before .before .before .before .asked .ensures)) in
+    let o = F .ensures σ (left u) (first-asks g e (c21 .asked .ensures)) in
     sides-give g e (omega (arith, F .kept)) o
-    (c .before .before .before .before .before .before .level3 .ensures σ (right u)
+    (c6 .level3 .ensures σ (right u)
     (second-asks g e (omega (arith, F .kept)) o
-    (c .before .before .before .before .before .before .before .before .before .before .before .before .before .before .before .before .before .before .before .before .asked2 .ensures)))
+    (c20 .asked2 .ensures)))
 
 pub +level-spec : {M : Type 1} → statement M
 +level-spec = close μ-level λ t. level-lts.spec (cs t)

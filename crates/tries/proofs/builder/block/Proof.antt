@@ -17,9 +17,11 @@ sub-fill c = block-bounds (c .before .before .before .before .before .before .pr
 
 fill-requires : tie.Need-fill-requires
 fill-requires c κs =
-    let S = c .before .before .before .before .before .before .before .before .before in
-    let b = block-bounds (c .before .before .before .before .before .before .before .before .before .pre .1 .1 .2) (c .before .before .before .before .before .before .before .before .before .pre .0) in
-    (S .pre .1 .1 .0, S .pre .1 .1 .1, own-asks (S .pre .1 .1 .2) (S .pre .0) (c .before .before .before .stride-at .ensures) (omega arith) refl)
+    let c3 = c .before .before .before in
+    let c9 = c3 .before .before .before .before .before .before in
+    let S = c9 in
+    let b = block-bounds (c9 .pre .1 .1 .2) (c9 .pre .0) in
+    (S .pre .1 .1 .0, S .pre .1 .1 .1, own-asks (S .pre .1 .1 .2) (S .pre .0) (c3 .stride-at .ensures) (omega arith) refl)
 
 power-requires : tie.Need-power-requires
 power-requires c κs =
@@ -27,14 +29,15 @@ power-requires c κs =
       arith,
       block-bounds (c .before .before .before .before .before .before .before .before .before .before .before .before .before .before .before .before .pre .1 .1 .2)
           (c .before .before .before .before .before .before .before .before .before .before .before .before .before .before .before .before .pre .0) .stride,
-      c .before .before .before .before
-          .before .before .before .before .before .before .stride-at .ensures,
+      c .before .before .before .before .before .before .before .before .before .before .stride-at .ensures,
     )
 
 add-t20 : tie.Need-add-t20
 add-t20 c =
-    let b = block-bounds (c .before .before .before .before .before .before .before .before .before .before .before .before .before .before .before .before .before .pre .1 .1 .2) (c .before .before .before .before .before .before .before .before .before .before .before .before .before .before .before .before .before .pre .0) in
-    let p = power-most (c .power .ensures) (omega (arith, c .before .before .before .before .before .before .before .before .before .before .before .stride-at .ensures)) in
+    let c11 = c .before .before .before .before .before .before .before .before .before .before .before in
+    let c17 = c11 .before .before .before .before .before .before in
+    let b = block-bounds (c17 .pre .1 .1 .2) (c17 .pre .0) in
+    let p = power-most (c .power .ensures) (omega (arith, c11 .stride-at .ensures)) in
     omega arith
 
 same-length : tie.Need-same-length
@@ -48,11 +51,14 @@ same-length-3 c = search needs
 
 returns : tie.Need-returns
 returns c =
-    let S = c .before .before .before .before .before .before .before .before .before .before .before .before .before .before .before .before .before in
-    let b = block-bounds (c .before .before .before .before .before .before .before .before .before .before .before .before .before .before .before .before .before .pre .1 .1 .2) (c .before .before .before .before .before .before .before .before .before .before .before .before .before .before .before .before .before .pre .0) in
+    let c7 = c .before .before .before .before .before .before .before in
+    let c11 = c7 .before .before .before .before in
+    let c17 = c11 .before .before .before .before .before .before in
+    let S = c17 in
+    let b = block-bounds (c17 .pre .1 .1 .2) (c17 .pre .0) in
     let e : S .args .r ≡ suc (S .args .r - 1) = omega arith in
-    let q = c .before .before .before .before .before .before .before .before .before .before .before .stride-at .ensures in
-    λ w σ t g. own-gives g (S .pre .0) q e refl (c .power .ensures) (c .before .before .before .before .before .before .before .fill .ensures σ t (own-asks g (S .pre .0) q e refl))
+    let q = c11 .stride-at .ensures in
+    λ w σ t g. own-gives g (S .pre .0) q e refl (c .power .ensures) (c7 .fill .ensures σ t (own-asks g (S .pre .0) q e refl))
 
 pub block-spec : {M : Type 1} → statement M
 block-spec =

@@ -19,8 +19,7 @@ power-requires c κs =
     omega (
       arith,
       leaf-bounds (c .before .before .before .before .before .before .before .before .before .before .before .before .before .before .before .before .pre .1 .2) .stride,
-      c .before
-          .before .before .before .before .before .before .before .before .before .stride-at .ensures,
+      c .before .before .before .before .before .before .before .before .before .before .stride-at .ensures,
     )
 
 add-result : tie.Need-add-result

@@ -20,8 +20,12 @@ refused-requires c κs = search needs
 
 returns : tie.Need-returns
 returns c =
-    let S = c .before .before .before .before .before .before .before .before .before .before .before .before in
-    let b = early-is _ (S .args .width) (S .args .levels) (S .args .value .now) (S .args .length .now) (S .args .hop .now) (S .args .scratch .now) (lists (S .args .hops .now) (S .args .links .now) (S .args .strides .now)) (c .before .before .before .before .tested .ensures) (c .before .before .outcome .given .1) (c .refused .ensures .0) (c .refused .ensures .1) in
+    let c4 = c .before .before .before .before in
+    let c12 = c4 .before .before .before .before .before .before .before .before in
+    let S = c12 in
+    let b = early-is _ (S .args .width) (S .args .levels) (S .args .value .now) (S .args .length .now) (S .args .hop .now) (S .args .scratch .now)
+    (lists (S .args .hops .now) (S .args .links .now) (S .args .strides .now)) (c4 .tested .ensures) (c .before .before .outcome .given .1) (c .refused .ensures .0) (c .refused .ensures .1)
+    in
     (b, build-means b)
 
 enum-told : tie.Need-enum-told
@@ -51,9 +55,15 @@ same-length-4 c = search needs
 
 returns-2 : tie.Need-returns-2
 returns-2 c =
-    let S = c .before .before .before .before .before .before .before .before .before .before .before .before .before .before .before .before .before .before .before .before .before .before .before .before .before .before .before in
-    let e : length (c .before .before .before .before .before .before .before .before .before .before .before .before .build-rows .last .1 .1 .1 .1 .1 .1 .0) ≡ length (S .args .scratch .now) = omega arith in
-    let b = past-is _ (S .args .width) (S .args .levels) (S .args .value .now) (S .args .length .now) (S .args .hop .now) (S .args .scratch .now) (lists (S .args .hops .now) (S .args .links .now) (S .args .strides .now)) (sym (c .before .before .before .before .before .before .before .before .before .before .before .before .before .before .before .before .before .before .before .tested .ensures) ∙ c .before .before .before .before .before .before .before .before .before .before .before .before .before .before .before .before .before .enum-told .given .1) (c .before .before .before .before .before .before .before .before .before .before .before .before .build-rows .ensures) (c .before .before .zero .ensures ∙ ap (λ (n : ℕ). replicate n 0) e) in
+    let c12 = c .before .before .before .before .before .before .before .before .before .before .before .before in
+    let c17 = c12 .before .before .before .before .before in
+    let c19 = c17 .before .before in
+    let c27 = c19 .before .before .before .before .before .before .before .before in
+    let S = c27 in
+    let e : length (c12 .build-rows .last .1 .1 .1 .1 .1 .1 .0) ≡ length (S .args .scratch .now) = omega (arith, c12 .build-rows .kept) in
+    let b = past-is _ (S .args .width) (S .args .levels) (S .args .value .now) (S .args .length .now) (S .args .hop .now) (S .args .scratch .now)
+    (lists (S .args .hops .now) (S .args .links .now) (S .args .strides .now)) (sym (c19 .tested .ensures) ∙ c17 .enum-told .given .1) (c12 .build-rows .ensures)
+    (c .before .before .zero .ensures ∙ ap (λ (n : ℕ). replicate n 0) e) in
     (b, build-means b)
 
 pub build-spec : {M : Type 1} → statement M

@@ -50,12 +50,14 @@ lay-requires c κs = (
 
 cast-t33 : tie.Need-cast-t33
 cast-t33 c =
+    let c14 = c .before .before .before .before .before .before .before .before .before .before .before .before .before .before in
+    let c15 = c14 .before in
+    let c18 = c15 .before .before .before in
     omega (
       arith,
       few-rows _
-          (c .before .before .before .before .before .before .before .before .before .before .before .before .before .before .before .before .before .before .planned .result .cost)
-          (sym (c .before .before .before .before .before .before .before .before .before .before .before .before .before .before .before .is-crowded .ensures) ∙ c .before .before .before .before
-          .before .before .before .before .before .before .before .before .before .before .if1 .left),
+          (c18 .planned .result .cost)
+          (sym (c15 .is-crowded .ensures) ∙ c14 .if1 .left),
     )
 
 floor-hop-requires : tie.Need-floor-hop-requires
@@ -75,12 +77,18 @@ same-length-5 c = search needs
 
 returns-2 : tie.Need-returns-2
 returns-2 c =
-    let S = c .before .before .before .before .before .before .before .before .before .before .before .before .before .before .before .before .before .before .before .before .before .before .before .before .before .before .before .before in
+    let c3 = c .before .before .before in
+    let c8 = c3 .before .before .before .before .before in
+    let c15 = c8 .before .before .before .before .before .before .before in
+    let c16 = c15 .before in
+    let c19 = c16 .before .before .before in
+    let c28 = c19 .before .before .before .before .before .before .before .before .before in
+    let S = c28 in
+    let kept = c8 .lay .kept in
     built-is _ (S .pre) (lists (S .args .hops .now) (S .args .links .now) (S .args .strides .now))
-    (c .before .before .before .before .before .before .before .before .before .before .before .before .before .before .before .before .before .before .before .planned .ensures) _
-    (sym (c .before .before .before .before .before .before .before .before .before .before .before .before .before .before .before .before .is-crowded .ensures) ∙ c .before .before .before
-    .before .before .before .before .before .before .before .before .before .before .before .before .if1 .left)
-    (c .before .before .before .before .before .before .before .before .lay .ensures) (omega arith) (omega arith) (omega arith) refl refl refl (c .floor-hop .ensures _ _ (S .pre .table))
+    (c19 .planned .ensures) _
+    (sym (c16 .is-crowded .ensures) ∙ c15 .if1 .left)
+    (c8 .lay .ensures) (omega (arith, kept)) (omega (arith, kept)) (omega (arith, kept)) refl refl refl (c .floor-hop .ensures _ _ (S .pre .table))
     refl refl
 
 pub build-rows-spec : {M : Type 1} → statement M

@@ -36,11 +36,15 @@ same-length c = search needs
 
 returns-2 : tie.Need-returns-2
 returns-2 c =
-    let S = c .before .before .before .before .before .before .before .before .before .before .before .before .before .before .before .before in
-    let e : length (c .before .before .before .before .before .before .before .planned .last .1 .1 .1 .1 .1 .1 .0) ≡ length (S .args .scratch .now) = omega arith in
+    let c3 = c .before .before .before in
+    let c7 = c3 .before .before .before .before in
+    let c9 = c7 .before .before in
+    let c11 = c9 .before .before in
+    let c16 = c11 .before .before .before .before .before in
+    let S = c16 in
+    let e : length (c7 .planned .last .1 .1 .1 .1 .1 .1 .0) ≡ length (S .args .scratch .now) = omega (arith, c7 .planned .kept) in
     chosen-is _ (S .args .width) (S .args .levels) (S .args .value .now) (S .args .length .now) (S .args .hop .now) (S .args .scratch .now)
-    (sym (c .before .before .before .before .before .before .before .before .before .before .before .tested .ensures) ∙ c .before .before .before .before .before .before .before .before
-    .before .enum-told .given .1) (c .before .before .before .before .before .before .before .planned .ensures) (c .before .before .before .zero .ensures ∙ ap (λ (n : ℕ). replicate n 0) e)
+    (sym (c11 .tested .ensures) ∙ c9 .enum-told .given .1) (c7 .planned .ensures) (c3 .zero .ensures ∙ ap (λ (n : ℕ). replicate n 0) e)
 
 pub choose-spec : {M : Type 1} → statement M
 choose-spec =

@@ -37,7 +37,10 @@ array-write-strides : tie.Need-array-write-strides
 array-write-strides c = search needs
 
 add-asked-2 : tie.Need-add-asked-2
-add-asked-2 c = let S = c .before .before .before .before .before .before .before .before .before .before .before .before .before .before .before .before .before .before .before in omega (arith, S .pre .levels .1)
+add-asked-2 c =
+    let c19 = c .before .before .before .before .before .before .before .before .before .before .before .before .before .before .before .before .before .before .before in
+    let S = c19 in
+    omega (arith, S .pre .levels .1)
 
 asked-requires-2 : tie.Need-asked-requires-2
 asked-requires-2 c κs =

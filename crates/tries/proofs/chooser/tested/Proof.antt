@@ -9,13 +9,22 @@ is-outside-requires : tie.Need-is-outside-requires
 is-outside-requires c κs = search needs
 
 returns : tie.Need-returns
-returns c = let S = c .before .before .before .before .before in sym (tests-width (S .args .width) (S .args .levels) (S .args .value .now) (S .args .length .now) (S .args .hop .now) (S .args .words) (sym (c .before .is-outside .ensures) ∙ c .if1 .taken))
+returns c =
+    let c5 = c .before .before .before .before .before in
+    let S = c5 in
+    sym (tests-width (S .args .width) (S .args .levels) (S .args .value .now) (S .args .length .now) (S .args .hop .now) (S .args .words) (sym (c .before .is-outside .ensures) ∙ c .if1 .taken))
 
 is-outside-requires-2 : tie.Need-is-outside-requires-2
 is-outside-requires-2 c κs = search needs
 
 returns-2 : tie.Need-returns-2
-returns-2 c = let S = c .before .before .before .before .before .before .before in sym (tests-levels (S .args .width) (S .args .levels) (S .args .value .now) (S .args .length .now) (S .args .hop .now) (S .args .words) (sym (c .before .before .before .is-outside .ensures) ∙ c .before .before .if1 .left) (sym (c .before .is-outside2 .ensures) ∙ c .if2 .taken))
+returns-2 c =
+    let c3 = c .before .before .before in
+    let c7 = c3 .before .before .before .before in
+    let S = c7 in
+    sym
+    (tests-levels (S .args .width) (S .args .levels) (S .args .value .now) (S .args .length .now) (S .args .hop .now) (S .args .words)
+    (sym (c3 .is-outside .ensures) ∙ c .before .before .if1 .left) (sym (c .before .is-outside2 .ensures) ∙ c .if2 .taken))
 
 check-table-requires : tie.Need-check-table-requires
 check-table-requires c κs = search needs
@@ -24,7 +33,17 @@ enum-known-checked : tie.Need-enum-known-checked
 enum-known-checked c = search needs
 
 returns-3 : tie.Need-returns-3
-returns-3 c = let S = c .before .before .before .before .before .before .before .before .before .before .before in sym (tests-table (S .args .width) (S .args .levels) (S .args .value .now) (S .args .length .now) (S .args .hop .now) (S .args .words) (sym (c .before .before .before .before .before .before .before .is-outside .ensures) ∙ c .before .before .before .before .before .before .if1 .left) (sym (c .before .before .before .before .before .is-outside2 .ensures) ∙ c .before .before .before .before .if2 .left) (sym (c .before .before .before .check-table .ensures .0) ∙ c .before .checked .given .1))
+returns-3 c =
+    let c3 = c .before .before .before in
+    let c4 = c3 .before in
+    let c5 = c4 .before in
+    let c6 = c5 .before in
+    let c7 = c6 .before in
+    let c11 = c7 .before .before .before .before in
+    let S = c11 in
+    sym
+    (tests-table (S .args .width) (S .args .levels) (S .args .value .now) (S .args .length .now) (S .args .hop .now) (S .args .words) (sym (c7 .is-outside .ensures) ∙ c6 .if1 .left)
+    (sym (c5 .is-outside2 .ensures) ∙ c4 .if2 .left) (sym (c3 .check-table .ensures .0) ∙ c .before .checked .given .1))
 
 enum-told : tie.Need-enum-told
 enum-told c = search needs
@@ -37,23 +56,37 @@ node-count-requires c κs =
 
 returns-4 : tie.Need-returns-4
 returns-4 c =
-    let S = c .before .before .before .before .before .before .before .before .before .before .before .before in
-    let e = sym (c .before .before .before .before .check-table .ensures .0) ∙ c .before .before .enum-told .given .1 in
-    let n = count-size (S .args .width) (S .args .levels) (S .args .value .now) (S .args .length .now) (S .args .hop .now) (S .args .words) (sym (c .before .before .before .before .before .before .before .before .is-outside .ensures) ∙ c .before .before .before .before .before .before .before .if1 .left) (sym (c .before .before .before .before .before .before .is-outside2 .ensures) ∙ c .before .before .before .before .before .if2 .left) (accepted-table _ _ _ _ e) _ (c .before .node-count .ensures) in
+    let c4 = c .before .before .before .before in
+    let c5 = c4 .before in
+    let c6 = c5 .before in
+    let c7 = c6 .before in
+    let c8 = c7 .before in
+    let c12 = c8 .before .before .before .before in
+    let S = c12 in
+    let e = sym (c4 .check-table .ensures .0) ∙ c .before .before .enum-told .given .1 in
+    let n = count-size (S .args .width) (S .args .levels) (S .args .value .now) (S .args .length .now) (S .args .hop .now) (S .args .words) (sym (c8 .is-outside .ensures) ∙ c7 .if1 .left)
+    (sym (c6 .is-outside2 .ensures) ∙ c5 .if2 .left) (accepted-table _ _ _ _ e) _ (c .before .node-count .ensures) in
     sym
     (tests-scratch (S .args .width) (S .args .levels) (S .args .value .now) (S .args .length .now) (S .args .hop .now) (S .args .words)
-    (sym (c .before .before .before .before .before .before .before .before .is-outside .ensures) ∙ c .before .before .before .before .before .before .before .if1 .left)
-    (sym (c .before .before .before .before .before .before .is-outside2 .ensures) ∙ c .before .before .before .before .before .if2 .left) e _ n (c .if3 .taken))
+    (sym (c8 .is-outside .ensures) ∙ c7 .if1 .left)
+    (sym (c6 .is-outside2 .ensures) ∙ c5 .if2 .left) e _ n (c .if3 .taken))
 
 returns-5 : tie.Need-returns-5
 returns-5 c =
-    let S = c .before .before .before .before .before .before .before .before .before .before .before .before in
-    let e = sym (c .before .before .before .before .check-table .ensures .0) ∙ c .before .before .enum-told .given .1 in
-    let n = count-size (S .args .width) (S .args .levels) (S .args .value .now) (S .args .length .now) (S .args .hop .now) (S .args .words) (sym (c .before .before .before .before .before .before .before .before .is-outside .ensures) ∙ c .before .before .before .before .before .before .before .if1 .left) (sym (c .before .before .before .before .before .before .is-outside2 .ensures) ∙ c .before .before .before .before .before .if2 .left) (accepted-table _ _ _ _ e) _ (c .before .node-count .ensures) in
+    let c4 = c .before .before .before .before in
+    let c5 = c4 .before in
+    let c6 = c5 .before in
+    let c7 = c6 .before in
+    let c8 = c7 .before in
+    let c12 = c8 .before .before .before .before in
+    let S = c12 in
+    let e = sym (c4 .check-table .ensures .0) ∙ c .before .before .enum-told .given .1 in
+    let n = count-size (S .args .width) (S .args .levels) (S .args .value .now) (S .args .length .now) (S .args .hop .now) (S .args .words) (sym (c8 .is-outside .ensures) ∙ c7 .if1 .left)
+    (sym (c6 .is-outside2 .ensures) ∙ c5 .if2 .left) (accepted-table _ _ _ _ e) _ (c .before .node-count .ensures) in
     sym
     (tests-pass (S .args .width) (S .args .levels) (S .args .value .now) (S .args .length .now) (S .args .hop .now) (S .args .words)
-    (sym (c .before .before .before .before .before .before .before .before .is-outside .ensures) ∙ c .before .before .before .before .before .before .before .if1 .left)
-    (sym (c .before .before .before .before .before .before .is-outside2 .ensures) ∙ c .before .before .before .before .before .if2 .left) e _ n (c .if3 .left))
+    (sym (c8 .is-outside .ensures) ∙ c7 .if1 .left)
+    (sym (c6 .is-outside2 .ensures) ∙ c5 .if2 .left) e _ n (c .if3 .left))
 
 pub tested-spec : {M : Type 1} → statement M
 tested-spec =

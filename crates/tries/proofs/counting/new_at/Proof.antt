@@ -50,7 +50,11 @@ new-nodes-requires c κs =
     ((p .some-width, p .width), (p .prefix (i - 1) (omega arith), p .prefix i (S .pre .1)))
 
 returns-2 : tie.Need-returns-2
-returns-2 c = let S = c .before .before .before .before .before .before .before .before in c .new-nodes .ensures ∙ new-next (S .args .width) (at (S .args .vals .now)) (at (S .args .lens .now)) (S .args .i) (c .before .before .before .before .before .if1 .left)
+returns-2 c =
+    let c5 = c .before .before .before .before .before in
+    let c8 = c5 .before .before .before in
+    let S = c8 in
+    c .new-nodes .ensures ∙ new-next (S .args .width) (at (S .args .vals .now)) (at (S .args .lens .now)) (S .args .i) (c5 .if1 .left)
 
 pub new-at-spec : {M : Type 1} → statement M
 new-at-spec =

@@ -26,10 +26,12 @@ new-at-requires c κs = let S = c .before .before .before .before in (S .pre .0,
 
 add-count : tie.Need-add-count Inv-loop μ-loop
 add-count c =
-    let S = c .before .before .before .before .before in
+    let c5 = c .before .before .before .before .before in
+    let S = c5 in
     let p = S .pre .0 in
     let l = c .before .before .loop in
-    let s = count-small (S .args .width) (at (S .args .vals .now)) (at (S .args .lens .now)) (length (S .args .vals .now)) (λ i h. le-trans (p .prefix i h .short) (p .width)) (l .i + 1) (omega arith) in
+    let s = count-small (S .args .width) (at (S .args .vals .now)) (at (S .args .lens .now)) (length (S .args .vals .now)) (λ i h. le-trans (p .prefix i h .short) (p .width)) (l .i + 1)
+    (omega arith) in
     omega (arith, c .new-at .ensures, count-next (S .args .width) (at (S .args .vals .now)) (at (S .args .lens .now)) (l .i), S .pre .1)
 
 add-i : tie.Need-add-i Inv-loop μ-loop

@@ -71,12 +71,17 @@ count-rows-add-count-rows-2 t c = let g = at-node t (c .before .before .before .
 
 count-rows-count-rows-requires-2 : (t : ℕ) → count-rows-lts.Need-count-rows-requires-2 (cs t) (count-rows-at t) count-rows.Post
 count-rows-count-rows-requires-2 t c κs =
-    let S = c .before .before .before .before .before .before .before .before .before .before .before in
-    let g = at-node t (c .before .before .before .before .before .before .before .before) in
-    let L = c .before .before .before .before .count-rows in (
+    let c4 = c .before .before .before .before in
+    let c6 = c4 .before .before in
+    let c8 = c6 .before .before in
+    let c11 = c8 .before .before .before in
+    let S = c11 in
+    let g = at-node t (c8) in
+    let L = c4 .count-rows in (
       omega arith,
       rw (c .before .asked2 .ensures)
-          (right-in (S .args .rows .now) (S .args .k) (S .args .d) (S .args .counts .now) (S .pre .1) (c .before .before .before .before .before .before .before .before .if1 .taken) (L .last .1 .1 .1 .0) (omega (arith, L .kept, length-set (S .args .counts .now) (S .args .d) (at (S .args .counts .now) (S .args .d) + 1))) (rw (c .before .before .before .before .before .before .asked .ensures) at (L .ensures))),
+          (right-in (S .args .rows .now) (S .args .k) (S .args .d) (S .args .counts .now) (S .pre .1) (c8 .if1 .taken) (L .last .1 .1 .1 .0)
+          (omega (arith, L .kept, length-set (S .args .counts .now) (S .args .d) (at (S .args .counts .now) (S .args .d) + 1))) (rw (c6 .asked .ensures) at (L .ensures))),
     )
 
 count-rows-same-length : (t : ℕ) → count-rows-lts.Need-same-length (cs t) (count-rows-at t) count-rows.Post

@@ -23,7 +23,15 @@ abbrev μ-loop : tie.MeasureT-loop
 μ-loop n i d levels costs₀ strides₀ r₀ costs strides r = levels - r
 
 loop-holds : tie.Need-loop-holds Inv-loop μ-loop
-loop-holds c = let S = c .before .before in (omega arith, S .pre .0 .0, S .pre .0 .1, row-start (S .args .n) (S .args .d) (S .args .i) (S .args .costs .now) (S .args .strides .now) (drop ((S .args .i + 1) * LEVELS) (S .args .costs .now)), refl)
+loop-holds c =
+    let S = c .before .before in (
+      omega arith,
+      S .pre .0 .0,
+      S .pre .0 .1,
+      row-start (S .args .n) (S .args .d) (S .args .i) (S .args .costs .now) (S .args .strides .now)
+          (drop ((S .args .i + 1) * LEVELS) (S .args .costs .now)),
+      refl,
+    )
 
 add-from : tie.Need-add-from Inv-loop μ-loop
 add-from c = search needs

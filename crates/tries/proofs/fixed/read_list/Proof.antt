@@ -63,16 +63,20 @@ loop-less c = search needs
 
 loop-again : tie.Need-loop-again Inv-loop μ-loop
 loop-again c =
-    let S = c .before .before .before in
+    let c3 = c .before .before .before in
+    let S = c3 in
     let l = c .before .before .loop in
     let N = S .pre .4 in
     let e = N .1 (l .i) (S .args .levels - 1 - l .p) (l .inv .0) (omega arith) in
     let w = pick-within (N .0) (S .args .levels - 1 - l .p) (l .i) (S .args .depth - l .i) in
-    let d : getD (S .args .strides .now) (l .i * LEVELS + (S .args .levels - 1 - l .p)) 0 % 256 ≡ getD (S .args .strides .now) (l .i * LEVELS + (S .args .levels - 1 - l .p)) 0 = mod-eq-of-lt (omega arith) in (
+    let d : getD (S .args .strides .now) (l .i * LEVELS + (S .args .levels - 1 - l .p)) 0 % 256 ≡ getD (S .args .strides .now) (l .i * LEVELS + (S .args .levels - 1 - l .p)) 0 = mod-eq-of-lt
+    (omega arith) in (
       omega arith,
       omega arith,
       length-set (l .list) (l .p) _ ∙ l .inv .2,
-      λ nodes f. rw d (reading-next nodes (S .args .levels) (S .args .depth) (l .i) (l .p) _ (l .list) (omega arith) (omega (arith, l .inv .2)) (l .inv .3 nodes f) (f (l .i) (S .args .levels - 1 - l .p) (l .inv .0) (omega arith))),
+      λ nodes f. rw d
+          (reading-next nodes (S .args .levels) (S .args .depth) (l .i) (l .p) _ (l .list) (omega arith) (omega (arith, l .inv .2)) (l .inv .3 nodes f)
+          (f (l .i) (S .args .levels - 1 - l .p) (l .inv .0) (omega arith))),
     )
 
 returns : tie.Need-returns Inv-loop μ-loop

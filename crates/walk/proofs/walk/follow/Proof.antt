@@ -112,13 +112,18 @@ loop-less c = omega arith
 
 loop-again : tie.Need-loop-again Inv-loop μ-loop
 loop-again c =
-    let l = c .before .before .before .before .before .before .before .before .before .before .loop in
-    let a = c .before .before .before .before .before .before .before .before .before .before .before .before .before .before .args in (
+    let c3 = c .before .before .before in
+    let c5 = c3 .before .before in
+    let c6 = c5 .before in
+    let c10 = c6 .before .before .before .before in
+    let c14 = c10 .before .before .before .before in
+    let l = c10 .loop in
+    let a = c14 .args in (
       omega arith,
       omega arith,
-      omega (arith, c .before .before .shared-slice-known5 .given (l .base + c .before .before .before .before .before .before .cut .result)),
+      omega (arith, c .before .before .shared-slice-known5 .given (l .base + c6 .cut .result)),
       sym (walk-goes _ _ (rowAt (lists (a .hop .now) (a .link .now) (a .stride .now))) _ _ _ _ _ _ (omega arith)
-          (can-read (c .before .before .before .before .before)) (row-is (c .before .before .before .before .before .before)) (c .before .before .before .newer .ensures) (c .before .if4 .left)) ∙ l .inv .3,
+          (can-read (c5)) (row-is (c6)) (c3 .newer .ensures) (c .before .if4 .left)) ∙ l .inv .3,
     )
 
 returns-5 : tie.Need-returns-5 Inv-loop μ-loop
