@@ -21,7 +21,7 @@ use Rattle.layout.specs.Laid.{tableTrie}
 use Rattle.tries.specs.Chooser.{chooseTests}
 use Rattle.tries.specs.Build.{buildTests}
 use Rattle.walk.specs.Meaning.{Tested, Looked}
-use Rattle.tries.proofs.Choosing.{numbered-choose}
+use Rattle.tries.proofs.ChooseTests.{numbered-choose}
 use Rattle.tries.proofs.Builds.{numbered-build}
 use Rattle.walk.specs.declared.record.Record.{Record}
 use Rattle.table.specs.Refusals.{outcomeNumber, outcomeDetail}

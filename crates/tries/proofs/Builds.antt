@@ -43,7 +43,8 @@ use Rattle.layout.proofs.Cost.{count-cost}
 use Rattle.layout.proofs.Agreeing.{same-agree, laid-agree}
 use Rattle.tries.proofs.Laying.{lays-built}
 use Rattle.tries.proofs.FixedChoice.{padded-read}
-use Rattle.tries.proofs.Choosing.{numbered-choose, accepted-plan, accepted-levels, below-cap, plan-depth-width}
+use Rattle.tries.proofs.ChooseTests.{numbered-choose, accepted-plan, accepted-levels}
+use Rattle.tries.proofs.Plans.{below-cap, plan-depth-width}
 
 -- ---- the floor: an entry of length 0 can only be the first
 

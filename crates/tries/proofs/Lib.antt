@@ -11,6 +11,9 @@ pub mod Pricing
 pub mod Settling
 pub mod LevelCounts
 pub mod FixedChoice
+pub mod ChooseTests
+pub mod PlanRows
+pub mod Plans
 pub mod Choosing
 pub mod Builds
 pub mod OneBuild

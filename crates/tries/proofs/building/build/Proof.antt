@@ -3,7 +3,7 @@ use mathlib.Core.Path.{_≡_, sym, ap, _∙_}
 use lib.ListN.{length, replicate}
 use native.Mathlib.Omega.{arith}
 use Rattle.walk.specs.Rows.{lists}
-use Rattle.tries.proofs.Choosing.{accepted-plan}
+use Rattle.tries.proofs.ChooseTests.{accepted-plan}
 use Rattle.tries.proofs.Builds.{early-is, past-is, build-means}
 use borrow.Author.Needs.{needs}
 use Rattle.tries.proofs.building.build.Statement.{statement}

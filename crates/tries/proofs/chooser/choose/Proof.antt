@@ -2,7 +2,8 @@ use Prim.Native.Nat.{ℕ}
 use mathlib.Core.Path.{_≡_, sym, ap, _∙_}
 use lib.ListN.{length, replicate}
 use native.Mathlib.Omega.{arith}
-use Rattle.tries.proofs.Choosing.{accepted-plan, refused-is, chosen-is}
+use Rattle.tries.proofs.ChooseTests.{accepted-plan}
+use Rattle.tries.proofs.Choosing.{refused-is, chosen-is}
 use borrow.Author.Needs.{needs}
 use Rattle.tries.proofs.chooser.choose.Statement.{statement}
 use Rattle.tries.proofs.chooser.choose.Tie as tie

@@ -1,5 +1,5 @@
 use native.Mathlib.Omega.{arith}
-use Rattle.tries.proofs.Choosing.{make-in, fixed-in, plan-fixed}
+use Rattle.tries.proofs.Plans.{make-in, fixed-in, plan-fixed}
 use borrow.Author.Needs.{needs}
 use Rattle.tries.proofs.chooser.plan_fixed.Statement.{statement}
 use Rattle.tries.proofs.chooser.plan_fixed.Tie as tie

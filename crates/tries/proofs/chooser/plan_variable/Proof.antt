@@ -1,5 +1,5 @@
 use native.Mathlib.Omega.{arith}
-use Rattle.tries.proofs.Choosing.{make-in, settle-in, root-fits, plan-variable}
+use Rattle.tries.proofs.Plans.{make-in, settle-in, root-fits, plan-variable}
 use borrow.Author.Needs.{needs}
 use Rattle.tries.proofs.chooser.plan_variable.Statement.{statement}
 use Rattle.tries.proofs.chooser.plan_variable.Tie as tie

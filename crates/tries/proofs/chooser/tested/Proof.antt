@@ -1,6 +1,6 @@
 use mathlib.Core.Path.{_≡_, sym, _∙_}
 use Rattle.table.proofs.Table.{accepted-table}
-use Rattle.tries.proofs.Choosing.{table-prefixes, tests-width, tests-levels, tests-table, count-size, tests-scratch, tests-pass}
+use Rattle.tries.proofs.ChooseTests.{table-prefixes, tests-width, tests-levels, tests-table, count-size, tests-scratch, tests-pass}
 use borrow.Author.Needs.{needs}
 use Rattle.tries.proofs.chooser.tested.Statement.{statement}
 use Rattle.tries.proofs.chooser.tested.Tie as tie
