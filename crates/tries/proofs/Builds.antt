@@ -36,8 +36,9 @@ use Rattle.layout.specs.Blocks.{Strides, strideOf, rowCount}
 use Rattle.layout.specs.Laid.{tableTrie, tableFloor, Laid}
 use Rattle.tries.specs.Filling.{Trunk, Room, LayAsks, LayGives, Lays, CanLay}
 use Rattle.tries.specs.Costs.{held}
-use Rattle.tries.specs.FixedChoice.{padded}
-use Rattle.tries.specs.Chooser.{chooseTests, ifAccepted, PlanIn, Planned}
+use Rattle.tries.specs.Chooser.{padded}
+use Rattle.tries.specs.Chooser.{chooseTests, ifAccepted}
+use Rattle.tries.specs.Plans.{PlanIn, Planned}
 use Rattle.tries.specs.Build.{roomTest, buildTests, NoRecord, Keeps, RowsAre, RowsBuilt, BuildIs, Builds}
 use Rattle.layout.proofs.Cost.{count-cost}
 use Rattle.layout.proofs.Agreeing.{same-agree, laid-agree}

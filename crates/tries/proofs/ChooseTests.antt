@@ -23,7 +23,8 @@ use Rattle.walk.specs.Limits.{WIDTH, LEVELS, Within}
 use Rattle.tries.specs.Scratch.{ROW, MARKS}
 use Rattle.layout.specs.Laid.{tableTrie}
 use Rattle.tries.specs.Making.{Prefixes}
-use Rattle.tries.specs.Chooser.{levelsTest, scratchTest, chooseTests, PlanIn}
+use Rattle.tries.specs.Chooser.{levelsTest, scratchTest, chooseTests}
+use Rattle.tries.specs.Plans.{PlanIn}
 
 -- ---- the tests
 

@@ -14,8 +14,9 @@ use Rattle.strides.specs.Recurrence.{plain, stridesBy}
 use Rattle.strides.proofs.Cheapest.{least-cheapest, strides-named, cheapest-unique, named-unique}
 use Rattle.walk.specs.Limits.{LEVELS}
 use Rattle.layout.specs.Laid.{tableTrie}
-use Rattle.tries.specs.FixedChoice.{padded}
-use Rattle.tries.specs.Chooser.{chooseTests, ifAccepted, ChosenIs, Chooses, Planned}
+use Rattle.tries.specs.Chooser.{padded}
+use Rattle.tries.specs.Chooser.{chooseTests, ifAccepted, ChosenIs, Chooses}
+use Rattle.tries.specs.Plans.{Planned}
 use Rattle.tries.proofs.ChooseTests.{accepted-levels}
 
 -- ---- the exact answer

@@ -41,7 +41,7 @@ use Rattle.walk.specs.Rows.{Lists, shortest, rowAt}
 use Rattle.walk.specs.Answers.{numberOf, hopOf, readsOf}
 use Rattle.walk.specs.Lookup.{pathRows, lookupOf}
 use Rattle.walk.specs.Meaning.{OnPath, Tested, Looked}
-use Rattle.tries.specs.FixedChoice.{padded}
+use Rattle.tries.specs.Chooser.{padded}
 use Rattle.layout.specs.Blocks.{linkTo, strideOf, blockRow, rowsAlong, Begun, blocksAlong}
 use Rattle.layout.specs.PathBlocks.{nodeOn, BlockAt, rowPath}
 use Rattle.layout.specs.Laid.{tableTrie, NoPrefix, LongestHop}

@@ -20,7 +20,8 @@ use Rattle.walk.specs.Limits.{WIDTH, LEVELS, Within}
 use Rattle.tries.specs.Limits.{ENTRIES}
 use Rattle.tries.specs.Costs.{held, slot, price, bestCost, bestStride}
 use Rattle.tries.specs.LevelCounts.{Counted}
-use Rattle.tries.specs.FixedChoice.{LEVEL-CELLS, Filled, RowFilled, padded, StridesFilled, Reading, FixedIn}
+use Rattle.tries.specs.FixedChoice.{LEVEL-CELLS, Filled, RowFilled, StridesFilled, Reading, FixedIn}
+use Rattle.tries.specs.Chooser.{padded}
 use Rattle.tries.proofs.Zeroes.{zeros-read}
 use Rattle.tries.proofs.Gathering.{same?}
 use Rattle.tries.proofs.LevelCounts.{nodes-from, count-start}

@@ -22,7 +22,7 @@ use Rattle.walk.specs.Rows.{Lists, shortest, rowAt}
 use Rattle.layout.specs.Blocks.{Strides, rowsOf, rowCount, Hold}
 use Rattle.layout.specs.Laid.{tableTrie, Laid}
 use Rattle.tries.specs.Filling.{LayGives}
-use Rattle.tries.specs.FixedChoice.{padded}
+use Rattle.tries.specs.Chooser.{padded}
 use Rattle.tries.specs.Chooser.{chooseTests}
 use Rattle.tries.specs.Build.{buildTests, NoRecord, Keeps, Builds}
 use Rattle.layout.proofs.Agreeing.{Agree, same-agree, good-agree, rows-same, count-same}

@@ -19,7 +19,7 @@ use Rattle.walk.specs.Limits.{WIDTH, LEVELS}
 use Rattle.tries.specs.Scratch.{ROW, ask, strideAt, Stands, BEFORE-STRIDES, COST, MARKS, STRIDE}
 use Rattle.tries.specs.Trees.{Tree, nil, fork, shape, linkOf, Stand, Has, lt, rt, lmark, rmark, rowFor, next, side, setSide, setMark, insertR, addEntry, treeOf}
 use Rattle.tries.specs.Costs.{held, Costed, AllPriced}
-use Rattle.tries.specs.FixedChoice.{padded}
+use Rattle.tries.specs.Chooser.{padded}
 use Rattle.tries.proofs.Settling.{ask-col}
 use Rattle.tries.proofs.FixedChoice.{list-head}
 

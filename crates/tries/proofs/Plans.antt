@@ -23,13 +23,14 @@ use Rattle.tries.specs.Trees.{Tree, nil, fork, shape, linkOf, Has, treeO
 use Rattle.tries.specs.Making.{Prefixes, MakeIn, MakeOut}
 use Rattle.tries.specs.Costs.{held, Costed, TreeIn, TreeAsk, TreeDone}
 use Rattle.tries.specs.LevelCounts.{Linked}
-use Rattle.tries.specs.FixedChoice.{padded, FixedIn, FixedOut}
+use Rattle.tries.specs.FixedChoice.{FixedIn, FixedOut}
+use Rattle.tries.specs.Chooser.{padded}
 use Rattle.tries.proofs.Zeroes.{zeros-read}
 use Rattle.tries.proofs.Making.{tree-shape}
 use Rattle.tries.proofs.Settling.{tree-costed}
 use Rattle.tries.proofs.LevelCounts.{tree-linked}
 use Rattle.tries.proofs.FixedChoice.{padded-read, padded-length}
-use Rattle.tries.specs.Chooser.{PlanIn, Planned}
+use Rattle.tries.specs.Plans.{PlanIn, Planned}
 use Rattle.tries.proofs.ChooseTests.{table-prefixes}
 use Rattle.tries.proofs.PlanRows.{small-tree, tree-stands, strides-own, costed-cost, costed-stride, least-variable, root-stride, fixed-strides}
 

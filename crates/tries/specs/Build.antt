@@ -17,7 +17,7 @@ use Rattle.tries.specs.Limits.{ELEMENTS}
 use Rattle.walk.specs.Rows.{Lists, shortest, rowAt}
 use Rattle.layout.specs.Blocks.{Strides}
 use Rattle.layout.specs.Laid.{tableTrie, Laid}
-use Rattle.tries.specs.FixedChoice.{padded}
+use Rattle.tries.specs.Chooser.{padded}
 use Rattle.tries.specs.Chooser.{chooseTests, ifAccepted}
 
 -- ---- the tests, in order

@@ -2,24 +2,21 @@
 -- and all scratch zero; refused, cost 0, zero strides and nothing changed.
 use mathlib.Core.Path.{_≡_}
 use mathlib.Core.List.{List, [], _∷_, _++_}
-use Prim.Native.Nat.{ℕ, _*_, _/_, _≤_, _<_}
+use Prim.Native.Nat.{ℕ, zero, suc, _/_}
 use lib.Dec.{ltb}
-use lib.ListN.{length, replicate, take}
+use lib.ListN.{length, replicate}
 use Rattle.table.specs.Entry.{hopBad}
 use Rattle.table.specs.Refusals.{Test, test, outcome, Gives}
-use Rattle.table.specs.Table.{at, widthTest, listTests, Table}
+use Rattle.table.specs.Table.{widthTest, listTests}
 use Rattle.table.specs.declared.entry.Outcome.{Outcome}
 use Rattle.table.specs.declared.entry.Outcome.the-variants.{Accepted, Refused}
-use Rattle.strides.specs.Trie.{Trie, size}
-use Rattle.strides.specs.Cheapest.{Kind, fixed, variable, Cheapest, Named}
+use Rattle.strides.specs.Trie.{size}
+use Rattle.strides.specs.Cheapest.{Kind, Cheapest, Named}
 use Rattle.strides.specs.Recurrence.{plain, leastBy, stridesBy}
-use Rattle.strides.specs.Strides.{chosenBy}
-use Rattle.walk.specs.Limits.{LEVELS, Within}
+use Rattle.walk.specs.Limits.{LEVELS}
 use Rattle.table.specs.Limits.{outside}
-use Rattle.tries.specs.Scratch.{ROW, MARKS, Stands}
+use Rattle.tries.specs.Scratch.{ROW}
 use Rattle.layout.specs.Laid.{tableTrie}
-use Rattle.tries.specs.Costs.{held}
-use Rattle.tries.specs.FixedChoice.{padded}
 
 -- ---- the tests, in order
 
@@ -36,6 +33,12 @@ unfoldable pub chooseTests : ℕ → ℕ → List ℕ → List ℕ → List ℕ 
 chooseTests W k vs ls hs words = widthTest W ∷ levelsTest k ∷ (listTests hopBad W vs ls hs ++ (scratchTest W vs ls hs words ∷ []))
 
 -- ---- the answer
+
+-- the record's strides, a list of n places, the first ones those of ss: unused places 0
+unfoldable pub padded : ℕ → List ℕ → List ℕ
+padded zero ss = []
+padded (suc n) [] = 0 ∷ padded n []
+padded (suc n) (s ∷ ss) = s ∷ padded n ss
 
 -- x where the outcome accepts, else y
 unfoldable pub ifAccepted : {A : Type 0} → Outcome → A → A → A
@@ -57,18 +60,3 @@ pub record Chooses (kind : Kind) (W k : ℕ) (vs ls hs scratch : List ℕ) (out 
   pub named : out ≡ Accepted → (ss : List ℕ) × Named kind k (tableTrie W vs ls hs) ss × (strides ≡ padded LEVELS ss)
   pub zeroed : out ≡ Accepted → scratch′ ≡ replicate (length scratch) 0
   pub refused : (out ≡ Accepted → ⊥) → (cost ≡ 0) × (strides ≡ padded LEVELS []) × (scratch′ ≡ scratch)
-
--- ---- between the tests and the answer: the trie in the rows, with its strides
-
-pub record PlanIn (W k : ℕ) (vs ls hs scratch : List ℕ) : Type 0 where
-  pub table : Table W vs ls hs
-  pub levels : Within k LEVELS
-  pub room : size (tableTrie W vs ls hs) * ROW ≤ length scratch
-  pub marks : (i : ℕ) → at hs i < MARKS
-
--- the least cost, the record's strides, and rows from which the builder can read every block's stride by the plan
-pub record Planned (kind : Kind) (W k : ℕ) (vs ls hs : List ℕ) (cost : ℕ) (strides plan : List ℕ) (root : ℕ) (rows : List ℕ) : Type 0 where
-  pub least : cost ≡ leastBy plain kind k (tableTrie W vs ls hs)
-  pub named : strides ≡ padded LEVELS (stridesBy plain kind k (tableTrie W vs ls hs))
-  pub places : length plan ≡ LEVELS
-  pub stands : Stands (chosenBy held kind k (tableTrie W vs ls hs)) rows (take k plan) root (tableTrie W vs ls hs)

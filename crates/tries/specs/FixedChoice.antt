@@ -1,14 +1,15 @@
 -- The table of fixed strides, from the last level up: place i * LEVELS + r is for the levels from i on, with r + 1 levels
 -- left. And what the fixed choice asks of the rows and gives.
 use mathlib.Core.Path.{_≡_}
-use mathlib.Core.List.{List, [], _∷_}
-use Prim.Native.Nat.{ℕ, zero, suc, _+_, _-_, _*_, _≤_, _<_}
+use mathlib.Core.List.{List}
+use Prim.Native.Nat.{ℕ, _+_, _-_, _*_, _≤_, _<_}
 use lib.ListN.{length, getD}
 use Rattle.strides.specs.Trie.{Trie, depth, nodesAt}
 use Rattle.strides.specs.Cheapest.{fixed}
 use Rattle.strides.specs.Recurrence.{fixBy, pickFixedBy, listBy, leastBy, stridesBy}
 use Rattle.walk.specs.Limits.{WIDTH, LEVELS, Within}
 use Rattle.tries.specs.Limits.{ENTRIES}
+use Rattle.tries.specs.Chooser.{padded}
 use Rattle.tries.specs.Costs.{held, slot, bestCost, bestStride}
 use Rattle.tries.specs.LevelCounts.{Linked}
 
@@ -31,12 +32,6 @@ pub record RowFilled (levels n d i : ℕ) (costs strides costs' strides' : List 
   pub stride : (r : ℕ) → r < levels → slot strides' i r ≡ bestStride sums n d r
   pub costs-below : (x : ℕ) → (i + 1) * LEVELS ≤ x → getD costs' x 0 ≡ getD costs x 0
   pub strides-below : (x : ℕ) → (i + 1) * LEVELS ≤ x → getD strides' x 0 ≡ getD strides x 0
-
--- a list of n places, the first ones those of ss: unused places 0
-unfoldable pub padded : ℕ → List ℕ → List ℕ
-padded zero ss = []
-padded (suc n) [] = 0 ∷ padded n []
-padded (suc n) (s ∷ ss) = s ∷ padded n ss
 
 -- the strides of the table, for some counts of nodes
 abbrev pub StridesFilled : (ℕ → ℕ) → ℕ → ℕ → List ℕ → Type 0

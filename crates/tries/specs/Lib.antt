@@ -4,7 +4,7 @@ pub mod Kinds
 pub mod Chooser
 pub mod Build
 -- What only the inside needs: the scratch rows and their columns, the trie in them (a tree that names its rows, one entry more, a
--- whole table), costs and levels, and what the functions that write element rows ask and give.
+-- whole table), costs and levels, plans, and what the functions that write element rows ask and give.
 pub mod Scratch
 pub mod Trees
 pub mod Inserting
@@ -12,4 +12,5 @@ pub mod Making
 pub mod Costs
 pub mod LevelCounts
 pub mod FixedChoice
+pub mod Plans
 pub mod Filling

@@ -10,7 +10,7 @@ ghost use Rattle.tries.specs.Limits.{ELEMENTS};
 ghost use Rattle.tries.specs.Kinds.{kindOf};
 ghost use Rattle.walk.specs.Rows.{lists};
 ghost use Rattle.layout.specs.Laid.{tableFloor};
-ghost use Rattle.tries.specs.Chooser.{PlanIn};
+ghost use Rattle.tries.specs.Plans.{PlanIn};
 ghost use Rattle.tries.specs.Build.{NoRecord, RowsBuilt, BuildIs, Builds};
 use crate::builder::lay;
 use crate::chooser::Kind;
