@@ -15,11 +15,11 @@ const HEADER: &str = include_str!("../../../include/hongsamuk.h");
 const NAMES: [(&str, &str); 7] = [
     ("hongsamuk_record", "Record"),
     ("hongsamuk_checked", "Checked"),
-    ("hongsamuk_shared", "SharedBits"),
-    ("hongsamuk_span", "ZoneSpan"),
-    ("hongsamuk_chosen", "Choice"),
-    ("hongsamuk_built", "BuiltRows"),
-    ("hongsamuk_answer", "Found"),
+    ("hongsamuk_shared", "SharedNumbers"),
+    ("hongsamuk_span", "SpanNumbers"),
+    ("hongsamuk_chosen", "ChosenNumbers"),
+    ("hongsamuk_built", "BuiltNumbers"),
+    ("hongsamuk_answer", "AnswerNumbers"),
 ];
 
 fn place(word: &str) -> (String, usize) {

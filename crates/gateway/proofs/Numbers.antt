@@ -28,11 +28,11 @@ use Rattle.table.specs.Refusals.{outcomeNumber, outcomeDetail}
 use Rattle.gateway.specs.Numbers.{Told, outcomeNumbers, sharedNumbers, spanNumbers, choiceNumbers, buildNumbers, answerNumbers}
 use Rattle.gateway.specs.Allowed.{AllowedChoice, AllowedBuild}
 use Rattle.gateway.specs.declared.entries.Checked.{Checked}
-use Rattle.gateway.specs.declared.entries.SharedBits.{SharedBits}
-use Rattle.gateway.specs.declared.entries.ZoneSpan.{ZoneSpan}
-use Rattle.gateway.specs.declared.choosing.Choice.{Choice}
-use Rattle.gateway.specs.declared.making.BuiltRows.{BuiltRows}
-use Rattle.gateway.specs.declared.looking.Found.{Found}
+use Rattle.gateway.specs.declared.entries.SharedNumbers.{SharedNumbers}
+use Rattle.gateway.specs.declared.entries.SpanNumbers.{SpanNumbers}
+use Rattle.gateway.specs.declared.choosing.ChosenNumbers.{ChosenNumbers}
+use Rattle.gateway.specs.declared.making.BuiltNumbers.{BuiltNumbers}
+use Rattle.gateway.specs.declared.looking.AnswerNumbers.{AnswerNumbers}
 
 -- the tests accept where the number is 0; else the test of that number is the first to fail, with that detail
 pub record Tells (ts : List Test) (number detail : ℕ) : Type 0 where
@@ -63,25 +63,25 @@ shared-detail W a l b m o (inr (f, inl g)) = ap outcomeDetail (g .1)
 shared-detail W a l b m o (inr (f, inr (h, inl g))) = ap outcomeDetail (g .1)
 shared-detail W a l b m o (inr (f, inr (h, inr (j, g)))) = ap outcomeDetail g
 
-pub shared-bits-tells : (W a l b m : ℕ) {r : SharedBits} → Told (Shares W a l b m) sharedNumbers r → Tells (sharedTests W a l b m) (r .number) 0
+pub shared-bits-tells : (W a l b m : ℕ) {r : SharedNumbers} → Told (Shares W a l b m) sharedNumbers r → Tells (sharedTests W a l b m) (r .number) 0
 shared-bits-tells W a l b m t =
     let o = sharedOutcome (t .0) in
     let g = t .1 .tested in
     rw (t .2) (subst (Tells (sharedTests W a l b m) (outcomeNumber o)) (shared-detail W a l b m o g) (outcome-tells 10 (sharedTests W a l b m) (numbered-shared W a l b m) o g))
 
-pub zone-span-tells : (W : ℕ) (vs ls hs : List ℕ) (p b : ℕ) {r : ZoneSpan} → Told (Spans W vs ls hs p b) spanNumbers r
+pub zone-span-tells : (W : ℕ) (vs ls hs : List ℕ) (p b : ℕ) {r : SpanNumbers} → Told (Spans W vs ls hs p b) spanNumbers r
     → Tells (zoneTests W vs ls hs p b) (r .number) (r .detail)
 zone-span-tells W vs ls hs p b t =
     rw (t .2) (outcome-tells 10 (zoneTests W vs ls hs p b) (numbered-zone W vs ls hs p b) (spanOutcome (t .0)) (t .1 .tested))
 
 module _ (kind : Kind) (W k : ℕ) (vs ls hs scratch : List ℕ) where
-  pub choice-tells : {s : List ℕ} {r : Choice} → Told (AllowedChoice kind W k vs ls hs scratch s) choiceNumbers r
+  pub choice-tells : {s : List ℕ} {r : ChosenNumbers} → Told (AllowedChoice kind W k vs ls hs scratch s) choiceNumbers r
       → Tells (chooseTests W k vs ls hs (length scratch)) (r .number) (r .detail)
   choice-tells t =
       rw (t .2) (outcome-tells 6 (chooseTests W k vs ls hs (length scratch)) (numbered-choose 6 (omega arith) W k vs ls hs (length scratch)) (t .0 .outcome) (t .1 .tested))
 
   -- where the cheapest choice costs `least`
-  pub built-tells : {rows rows′ : Lists} {s : List ℕ} {r : BuiltRows} → Told (AllowedBuild kind W k vs ls hs scratch rows s rows′) buildNumbers r
+  pub built-tells : {rows rows′ : Lists} {s : List ℕ} {r : BuiltNumbers} → Told (AllowedBuild kind W k vs ls hs scratch rows s rows′) buildNumbers r
       → (least : ℕ) → (1 ≤ k → Cheapest kind k (tableTrie W vs ls hs) least)
       → Tells (buildTests W k vs ls hs (length scratch) (shortest rows) least) (r .number) (r .detail)
   built-tells {rows} t least c =
@@ -91,6 +91,6 @@ module _ (kind : Kind) (W k : ℕ) (vs ls hs scratch : List ℕ) where
 -- ---- a lookup's number
 
 -- its tests are passed where it is 0; else the test of that number is the first to fail
-pub found-tells : (rec : Record) (ls : Lists) (address : ℕ) {r : Found} → Told (Looked WIDTH rec ls address) answerNumbers r
+pub found-tells : (rec : Record) (ls : Lists) (address : ℕ) {r : AnswerNumbers} → Told (Looked WIDTH rec ls address) answerNumbers r
     → Tested WIDTH rec ls address (r .number)
 found-tells rec ls address t = rw (t .2) (t .1 .tested)

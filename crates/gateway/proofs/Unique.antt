@@ -23,11 +23,11 @@ use Rattle.gateway.specs.Numbers.{Told, outcomeNumbers, sharedNumbers, s
 use Rattle.gateway.specs.Allowed.{AllowedChoice, AllowedBuild}
 use Rattle.gateway.specs.Batch.{Columns, columns, foundAt, Written, Answered}
 use Rattle.gateway.specs.declared.entries.Checked.{Checked}
-use Rattle.gateway.specs.declared.entries.SharedBits.{SharedBits}
-use Rattle.gateway.specs.declared.entries.ZoneSpan.{ZoneSpan}
-use Rattle.gateway.specs.declared.choosing.Choice.{Choice}
-use Rattle.gateway.specs.declared.making.BuiltRows.{BuiltRows}
-use Rattle.gateway.specs.declared.looking.Found.{Found}
+use Rattle.gateway.specs.declared.entries.SharedNumbers.{SharedNumbers}
+use Rattle.gateway.specs.declared.entries.SpanNumbers.{SpanNumbers}
+use Rattle.gateway.specs.declared.choosing.ChosenNumbers.{ChosenNumbers}
+use Rattle.gateway.specs.declared.making.BuiltNumbers.{BuiltNumbers}
+use Rattle.gateway.specs.declared.looking.AnswerNumbers.{AnswerNumbers}
 
 -- one answer is allowed, so one answer is told
 told-unique : {A B : Type 0} {Allows : A → Type 0} {numbers : A → B} → ((a b : A) → Allows a → Allows b → a ≡ b) → {r r′ : B}
@@ -38,14 +38,14 @@ pub checked-unique : (W : ℕ) (vs ls hs : List ℕ) {r r′ : Checked}
     → Told (Gives (tableTests W vs ls hs)) outcomeNumbers r → Told (Gives (tableTests W vs ls hs)) outcomeNumbers r′ → r ≡ r′
 checked-unique W vs ls hs = told-unique (check-unique W vs ls hs)
 
-pub shared-bits-unique : (W a l b m : ℕ) {r r′ : SharedBits} → Told (Shares W a l b m) sharedNumbers r → Told (Shares W a l b m) sharedNumbers r′ → r ≡ r′
+pub shared-bits-unique : (W a l b m : ℕ) {r r′ : SharedNumbers} → Told (Shares W a l b m) sharedNumbers r → Told (Shares W a l b m) sharedNumbers r′ → r ≡ r′
 shared-bits-unique W a l b m = told-unique (shares-unique W a l b m)
 
-pub zone-span-unique : (W : ℕ) (vs ls hs : List ℕ) (p b : ℕ) {r r′ : ZoneSpan}
+pub zone-span-unique : (W : ℕ) (vs ls hs : List ℕ) (p b : ℕ) {r r′ : SpanNumbers}
     → Told (Spans W vs ls hs p b) spanNumbers r → Told (Spans W vs ls hs p b) spanNumbers r′ → r ≡ r′
 zone-span-unique W vs ls hs p b = told-unique (spans-unique W vs ls hs p b)
 
-pub found-unique : (rec : Record) (ls : Lists) (address : ℕ) {r r′ : Found}
+pub found-unique : (rec : Record) (ls : Lists) (address : ℕ) {r r′ : AnswerNumbers}
     → Told (Looked WIDTH rec ls address) answerNumbers r → Told (Looked WIDTH rec ls address) answerNumbers r′ → r ≡ r′
 found-unique rec ls address = told-unique (λ a b p q. looked-unique p q)
 
@@ -58,13 +58,13 @@ build-same : {b b′ : Built} → b .outcome ≡ b′ .outcome → b .record ≡
 build-same p q = rw (p, q)
 
 module _ (kind : Kind) (W k : ℕ) (vs ls hs scratch : List ℕ) where
-  pub choice-unique : {s s′ : List ℕ} {r r′ : Choice} → Told (AllowedChoice kind W k vs ls hs scratch s) choiceNumbers r
+  pub choice-unique : {s s′ : List ℕ} {r r′ : ChosenNumbers} → Told (AllowedChoice kind W k vs ls hs scratch s) choiceNumbers r
       → Told (AllowedChoice kind W k vs ls hs scratch s′) choiceNumbers r′ → (r ≡ r′) × (s ≡ s′)
   choice-unique t t′ =
       let u = chooses-unique kind W k vs ls hs scratch (t .1) (t′ .1) in
       (t .2 ∙ choice-same {c = t .0} {c′ = t′ .0} (u .0) (u .1) (u .2) ∙ sym (t′ .2), u .3)
 
-  pub built-unique : {rows rows1 rows2 : Lists} {s s′ : List ℕ} {r r′ : BuiltRows} → Told (AllowedBuild kind W k vs ls hs scratch rows s rows1) buildNumbers r
+  pub built-unique : {rows rows1 rows2 : Lists} {s s′ : List ℕ} {r r′ : BuiltNumbers} → Told (AllowedBuild kind W k vs ls hs scratch rows s rows1) buildNumbers r
       → Told (AllowedBuild kind W k vs ls hs scratch rows s′ rows2) buildNumbers r′ → (r ≡ r′) × (s ≡ s′) × (rows1 ≡ rows2)
   built-unique {rows} t t′ =
       let u = builds-unique kind W k vs ls hs scratch rows (t .1) (t′ .1) in
@@ -91,7 +91,7 @@ module _ (rec : Record) (ls : Lists) (xs : List ℕ) (cs : Columns) where
       let one = places-one w w′ in (
         e,
         columns-same
-            (ext-getD 0 (cs1 .number) (cs2 .number) (w .numbers ∙ sym (w′ .numbers)) (λ i h. ap (λ (f : Found). f .number) (one i)))
-            (ext-getD 0 (cs1 .hop) (cs2 .hop) (w .hops ∙ sym (w′ .hops)) (λ i h. ap (λ (f : Found). f .hop) (one i)))
-            (ext-getD 0 (cs1 .reads) (cs2 .reads) (w .counts ∙ sym (w′ .counts)) (λ i h. ap (λ (f : Found). f .reads) (one i))),
+            (ext-getD 0 (cs1 .number) (cs2 .number) (w .numbers ∙ sym (w′ .numbers)) (λ i h. ap (λ (f : AnswerNumbers). f .number) (one i)))
+            (ext-getD 0 (cs1 .hop) (cs2 .hop) (w .hops ∙ sym (w′ .hops)) (λ i h. ap (λ (f : AnswerNumbers). f .hop) (one i)))
+            (ext-getD 0 (cs1 .reads) (cs2 .reads) (w .counts ∙ sym (w′ .counts)) (λ i h. ap (λ (f : AnswerNumbers). f .reads) (one i))),
       )

@@ -14,24 +14,24 @@ use Rattle.walk.specs.declared.record.Record.{Record}
 use Rattle.walk.specs.declared.walk.Answer.{Answer}
 use Rattle.gateway.specs.Numbers.{Told, answerNumbers}
 use Rattle.gateway.specs.Batch.{Columns, columns, foundAt, Exactly, Written}
-use Rattle.gateway.specs.declared.looking.Found.{Found}
+use Rattle.gateway.specs.declared.looking.AnswerNumbers.{AnswerNumbers}
 
 -- both clauses of the lookup's promise
 abbrev pub Promised : Record → Lists → (address : ℕ) → Answer → Type 0
 Promised rec ls address a = Exactly rec ls address a × Looked WIDTH rec ls address a
 
 -- an answer put at index i of the lists
-abbrev pub put : Columns → ℕ → Found → Columns
+abbrev pub put : Columns → ℕ → AnswerNumbers → Columns
 put cs i f = columns (set (cs .number) i (f .number)) (set (cs .hop) i (f .hop)) (set (cs .reads) i (f .reads))
 
-found-same : {a a′ b b′ c c′ : ℕ} → a ≡ a′ → b ≡ b′ → c ≡ c′ → _≡_ {A = Found} (record { number = a; hop = b; reads = c }) (record { number = a′; hop = b′; reads = c′ })
+found-same : {a a′ b b′ c c′ : ℕ} → a ≡ a′ → b ≡ b′ → c ≡ c′ → _≡_ {A = AnswerNumbers} (record { number = a; hop = b; reads = c }) (record { number = a′; hop = b′; reads = c′ })
 found-same p q r = rw (p, q, r)
 
-put-here : (cs : Columns) (i : ℕ) (f : Found) → i < length (cs .number) → i < length (cs .hop) → i < length (cs .reads) → foundAt (put cs i f) i ≡ f
+put-here : (cs : Columns) (i : ℕ) (f : AnswerNumbers) → i < length (cs .number) → i < length (cs .hop) → i < length (cs .reads) → foundAt (put cs i f) i ≡ f
 put-here cs i f a b c =
     found-same (getD-set-same (cs .number) i (f .number) 0 a) (getD-set-same (cs .hop) i (f .hop) 0 b) (getD-set-same (cs .reads) i (f .reads) 0 c)
 
-put-elsewhere : (cs : Columns) (i k : ℕ) (f : Found) → (k ≡ i → ⊥) → foundAt (put cs i f) k ≡ foundAt cs k
+put-elsewhere : (cs : Columns) (i k : ℕ) (f : AnswerNumbers) → (k ≡ i → ⊥) → foundAt (put cs i f) k ≡ foundAt cs k
 put-elsewhere cs i k f ne =
     found-same
     (getD-set-other (cs .number) i k (f .number) 0 ne)
@@ -42,7 +42,7 @@ module _ {Allows : (address : ℕ) → Answer → Type 0} {xs : List ℕ} {cs : 
   pub written-none : Written Allows xs cs cs 0
   written-none = record { told = λ i h. absurd (omega arith); later = λ i h. refl; numbers = refl; hops = refl; counts = refl }
 
-  pub written-more : {now : Columns} {i : ℕ} {f : Found} → Written Allows xs cs now i
+  pub written-more : {now : Columns} {i : ℕ} {f : AnswerNumbers} → Written Allows xs cs now i
       → i < length (now .number) → i < length (now .hop) → i < length (now .reads)
       → Told (Allows (at xs i)) answerNumbers f → Written Allows xs cs (put now i f) (i + 1)
   written-more {now} {i} {f} w a b c t = record {

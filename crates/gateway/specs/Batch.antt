@@ -10,7 +10,7 @@ use Rattle.walk.specs.Lookup.{lookupOf}
 use Rattle.walk.specs.declared.record.Record.{Record}
 use Rattle.walk.specs.declared.walk.Answer.{Answer}
 use Rattle.gateway.specs.Numbers.{Told, answerNumbers}
-use Rattle.gateway.specs.declared.looking.Found.{Found}
+use Rattle.gateway.specs.declared.looking.AnswerNumbers.{AnswerNumbers}
 
 -- the answer lists
 pub record Columns : Type 0 where
@@ -22,7 +22,7 @@ abbrev pub columns : (number hop reads : List ℕ) → Columns
 columns number hop reads = record { number = number; hop = hop; reads = reads }
 
 -- what stands at an index of them
-abbrev pub foundAt : Columns → ℕ → Found
+abbrev pub foundAt : Columns → ℕ → AnswerNumbers
 foundAt cs i = record { number = at (cs .number) i; hop = at (cs .hop) i; reads = at (cs .reads) i }
 
 -- the answer of a lookup, as a function

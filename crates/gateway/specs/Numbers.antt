@@ -12,11 +12,11 @@ use Rattle.tries.specs.declared.chooser.Chosen.{Chosen}
 use Rattle.tries.specs.declared.building.Built.{Built}
 use Rattle.walk.specs.declared.walk.Answer.{Answer}
 use Rattle.gateway.specs.declared.entries.Checked.{Checked}
-use Rattle.gateway.specs.declared.entries.SharedBits.{SharedBits}
-use Rattle.gateway.specs.declared.entries.ZoneSpan.{ZoneSpan}
-use Rattle.gateway.specs.declared.choosing.Choice.{Choice}
-use Rattle.gateway.specs.declared.making.BuiltRows.{BuiltRows}
-use Rattle.gateway.specs.declared.looking.Found.{Found}
+use Rattle.gateway.specs.declared.entries.SharedNumbers.{SharedNumbers}
+use Rattle.gateway.specs.declared.entries.SpanNumbers.{SpanNumbers}
+use Rattle.gateway.specs.declared.choosing.ChosenNumbers.{ChosenNumbers}
+use Rattle.gateway.specs.declared.making.BuiltNumbers.{BuiltNumbers}
+use Rattle.gateway.specs.declared.looking.AnswerNumbers.{AnswerNumbers}
 
 -- r is the numbers of an answer that the promise allows
 abbrev pub Told : {A B : Type 0} → (Allows : A → Type 0) (numbers : A → B) → B → Type 0
@@ -26,19 +26,19 @@ abbrev pub outcomeNumbers : Outcome → Checked
 outcomeNumbers o = record { number = outcomeNumber o; detail = outcomeDetail o }
 
 -- a refused shared length has detail 0 (proofs/Numbers), so none is told
-abbrev pub sharedNumbers : Shared → SharedBits
+abbrev pub sharedNumbers : Shared → SharedNumbers
 sharedNumbers s = record { number = outcomeNumber (sharedOutcome s); bits = sharedBits s }
 
-abbrev pub spanNumbers : Span → ZoneSpan
+abbrev pub spanNumbers : Span → SpanNumbers
 spanNumbers s =
     record { number = outcomeNumber (spanOutcome s); detail = outcomeDetail (spanOutcome s); index = spanIndex s; count = spanCount s }
 
-abbrev pub choiceNumbers : Chosen → Choice
+abbrev pub choiceNumbers : Chosen → ChosenNumbers
 choiceNumbers c =
     record { number = outcomeNumber (c .outcome); detail = outcomeDetail (c .outcome); cost = c .cost; strides = c .strides }
 
-abbrev pub buildNumbers : Built → BuiltRows
+abbrev pub buildNumbers : Built → BuiltNumbers
 buildNumbers b = record { number = outcomeNumber (b .outcome); detail = outcomeDetail (b .outcome); «record» = b .record }
 
-abbrev pub answerNumbers : Answer → Found
+abbrev pub answerNumbers : Answer → AnswerNumbers
 answerNumbers a = record { number = numberOf a; hop = hopOf a; reads = readsOf a }

@@ -7,20 +7,20 @@ use crate::entries::outcome_numbers;
 use tries::Chosen;
 
 #[repr(C)]
-pub struct Choice {
+pub struct ChosenNumbers {
     pub number: u32,
     pub detail: u64,
     pub cost: u64,
     pub strides: [u8; tries::LEVELS as usize],
 }
 
-fn choice_numbers(chosen: Chosen) -> Choice
+fn choice_numbers(chosen: Chosen) -> ChosenNumbers
     ensures { λ r. ⌜ r ≡ choiceNumbers chosen ⌝ }
 {
     let outcome = chosen.outcome;
     let told = outcome_numbers(outcome);
     let strides = chosen.strides;
-    Choice {
+    ChosenNumbers {
         number: told.number,
         detail: told.detail,
         cost: chosen.cost,
@@ -38,7 +38,7 @@ pub extern "C" fn hongsamuk_choose_fixed(
     length: &[u8],
     hop: &[u16],
     scratch: &mut [u64],
-) -> Choice
+) -> ChosenNumbers
     ensures exact { λ r. ⌜
         Told
         (ExactChoice fixed width levels (now (value .entry)) (now (length .entry)) (now (hop .entry)) (now (scratch .entry)) (now (scratch .exit)))
@@ -60,7 +60,7 @@ pub extern "C" fn hongsamuk_choose_variable(
     length: &[u8],
     hop: &[u16],
     scratch: &mut [u64],
-) -> Choice
+) -> ChosenNumbers
     ensures exact { λ r. ⌜
         Told
         (ExactChoice variable width levels (now (value .entry)) (now (length .entry)) (now (hop .entry)) (now (scratch .entry)) (now (scratch .exit)))

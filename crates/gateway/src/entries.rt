@@ -15,13 +15,13 @@ pub struct Checked {
 }
 
 #[repr(C)]
-pub struct SharedBits {
+pub struct SharedNumbers {
     pub number: u32,
     pub bits: u32,
 }
 
 #[repr(C)]
-pub struct ZoneSpan {
+pub struct SpanNumbers {
     pub number: u32,
     pub detail: u64,
     pub index: u32,
@@ -42,26 +42,26 @@ pub(crate) fn outcome_numbers(outcome: Outcome) -> Checked
 }
 
 // The detail of a refused shared length is 0, so it has no place.
-fn shared_numbers(shared: Shared) -> SharedBits
+fn shared_numbers(shared: Shared) -> SharedNumbers
     ensures { λ r. ⌜ r ≡ sharedNumbers shared ⌝ }
 {
     match shared {
-        Shared::Length(bits) => SharedBits { number: 0, bits },
-        Shared::Refused { number, detail: _ } => SharedBits { number, bits: 0 },
+        Shared::Length(bits) => SharedNumbers { number: 0, bits },
+        Shared::Refused { number, detail: _ } => SharedNumbers { number, bits: 0 },
     }
 }
 
-fn span_numbers(span: Span) -> ZoneSpan
+fn span_numbers(span: Span) -> SpanNumbers
     ensures { λ r. ⌜ r ≡ spanNumbers span ⌝ }
 {
     match span {
-        Span::Part { index, count } => ZoneSpan {
+        Span::Part { index, count } => SpanNumbers {
             number: 0,
             detail: 0,
             index,
             count,
         },
-        Span::Refused { number, detail } => ZoneSpan {
+        Span::Refused { number, detail } => SpanNumbers {
             number,
             detail,
             index: 0,
@@ -87,7 +87,7 @@ pub extern "C" fn hongsamuk_shared_length(
     alen: u8,
     b: u32,
     blen: u8,
-) -> SharedBits
+) -> SharedNumbers
     ensures exact { λ r. ⌜ r ≡ sharedNumbers (sharedOf width a alen b blen) ⌝ }
     ensures meaning { λ r. ⌜ Told (Shares width a alen b blen) sharedNumbers r ⌝ }
 {
@@ -104,7 +104,7 @@ pub extern "C" fn hongsamuk_zone_span(
     hop: &[u16],
     prefix: u32,
     bits: u8,
-) -> ZoneSpan
+) -> SpanNumbers
     ensures exact { λ r. ⌜ r ≡ spanNumbers (spanOf width (now (value .entry)) (now (length .entry)) (now (hop .entry)) prefix bits) ⌝ }
     ensures meaning { λ r. ⌜ Told (Spans width (now (value .entry)) (now (length .entry)) (now (hop .entry)) prefix bits) spanNumbers r ⌝ }
 {

@@ -1,6 +1,5 @@
 // The lookup for C, one address or many (01, "The element rows").
 ghost use mathlib.Core.Path.{_≡_};
-ghost use Prim.Native.Nat.{min};
 ghost use Rattle.walk.specs.Limits.{WIDTH};
 ghost use Rattle.walk.specs.Rows.{lists};
 ghost use Rattle.walk.specs.Answers.{hopOf};
@@ -8,31 +7,32 @@ ghost use Rattle.walk.specs.Lookup.{lookupOf};
 ghost use Rattle.walk.specs.Meaning.{Looked};
 ghost use Rattle.gateway.specs.Numbers.{Told, answerNumbers};
 ghost use Rattle.gateway.specs.Batch.{columns, Exactly, Answered};
+use table::smaller;
 use tries::Answer;
 use tries::Record;
 
 #[repr(C)]
-pub struct Found {
+pub struct AnswerNumbers {
     pub number: u32,
     pub hop: u16,
     pub reads: u32,
 }
 
-fn answer_numbers(answer: Answer) -> Found
+fn answer_numbers(answer: Answer) -> AnswerNumbers
     ensures { λ r. ⌜ r ≡ answerNumbers answer ⌝ }
 {
     match answer {
-        Answer::Match { hop, reads } => Found {
+        Answer::Match { hop, reads } => AnswerNumbers {
             number: 0,
             hop,
             reads,
         },
-        Answer::NoRoute { reads } => Found {
+        Answer::NoRoute { reads } => AnswerNumbers {
             number: 0,
             hop: 0,
             reads,
         },
-        Answer::Refused { number } => Found {
+        Answer::Refused { number } => AnswerNumbers {
             number,
             hop: 0,
             reads: 0,
@@ -51,7 +51,8 @@ fn hop_of(answer: Answer) -> u16
     }
 }
 
-// The hop of the longest prefix that begins the address, or none: tests 1, 2, 8, 9. No list changes.
+// Looks the address up: tests 1, 2, 8, 9. Over the record and lists that one accepted build left together it is the hop of the longest
+// prefix that begins the address, or none. No list changes.
 #[no_mangle]
 pub extern "C" fn hongsamuk_lookup(
     rec: Record,
@@ -59,24 +60,18 @@ pub extern "C" fn hongsamuk_lookup(
     links: &[u32],
     strides: &[u8],
     address: u32,
-) -> Found
+) -> AnswerNumbers
     ensures exact { λ r. ⌜ r ≡ answerNumbers (lookupOf WIDTH rec (lists (now (hops .entry)) (now (links .entry)) (now (strides .entry))) address) ⌝ }
     ensures meaning { λ r. ⌜
         Told (Looked WIDTH rec (lists (now (hops .entry)) (now (links .entry)) (now (strides .entry))) address) answerNumbers r ⌝ }
 {
     let answer = tries::lookup(rec, hops, links, strides, address);
     let found = answer_numbers(answer);
-    Found {
+    AnswerNumbers {
         number: found.number,
         hop: hop_of(answer),
         reads: found.reads,
     }
-}
-
-fn least(a: usize, b: usize) -> usize
-    ensures { λ r. ⌜ r ≡ min a b ⌝ }
-{
-    if a < b { a } else { b }
 }
 
 // Lookups one after the other: as many as the shortest of the address list and the three answer lists has. Number, hop and reads
@@ -101,9 +96,9 @@ pub extern "C" fn hongsamuk_lookup_batch(
         (columns (now (number .entry)) (now (hop .entry)) (now (reads .entry)))
         (columns (now (number .exit)) (now (hop .exit)) (now (reads .exit))) r ⌝ }
 {
-    let n = least(
+    let n = smaller(
         address.len(),
-        least(number.len(), least(hop.len(), reads.len())),
+        smaller(number.len(), smaller(hop.len(), reads.len())),
     );
     let mut i = 0;
     while i < n {

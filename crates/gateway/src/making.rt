@@ -10,19 +10,19 @@ use tries::Kind;
 use tries::Record;
 
 #[repr(C)]
-pub struct BuiltRows {
+pub struct BuiltNumbers {
     pub number: u32,
     pub detail: u64,
     pub record: Record,
 }
 
-fn build_numbers(built: Built) -> BuiltRows
+fn build_numbers(built: Built) -> BuiltNumbers
     ensures { λ r. ⌜ r ≡ buildNumbers built ⌝ }
 {
     let outcome = built.outcome;
     let told = outcome_numbers(outcome);
     let rec = built.record;
-    BuiltRows {
+    BuiltNumbers {
         number: told.number,
         detail: told.detail,
         record: rec,
@@ -42,7 +42,7 @@ pub extern "C" fn hongsamuk_build_fixed(
     hops: &mut [u16],
     links: &mut [u32],
     strides: &mut [u8],
-) -> BuiltRows
+) -> BuiltNumbers
     ensures exact { λ r. ⌜
         Told
         (ExactBuild fixed width levels (now (value .entry)) (now (length .entry)) (now (hop .entry)) (now (scratch .entry))
@@ -80,7 +80,7 @@ pub extern "C" fn hongsamuk_build_variable(
     hops: &mut [u16],
     links: &mut [u32],
     strides: &mut [u8],
-) -> BuiltRows
+) -> BuiltNumbers
     ensures exact { λ r. ⌜
         Told
         (ExactBuild variable width levels (now (value .entry)) (now (length .entry)) (now (hop .entry)) (now (scratch .entry))

@@ -16,10 +16,10 @@ use crate::builder::lay;
 use crate::chooser::Kind;
 use crate::chooser::planned;
 use crate::chooser::tested;
-use crate::counting::smaller;
 use crate::limits::ELEMENTS;
 use crate::scratch::zero;
 use table::Outcome;
+use table::smaller;
 use walk::LEVELS;
 use walk::Record;
 

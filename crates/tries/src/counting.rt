@@ -1,7 +1,7 @@
 // How many nodes a table's 1-bit trie has, counted without touching any list: in a sorted table an entry shares with the
 // one before all the proper starts that it shares with any (01, refusal 6).
 ghost use mathlib.Core.Path.{_≡_};
-ghost use Prim.Native.Nat.{_<_, _≤_, min};
+ghost use Prim.Native.Nat.{_<_, _≤_};
 ghost use lib.ListN.{length};
 ghost use Rattle.table.specs.Prefix.{IsPrefix};
 ghost use Rattle.table.specs.Table.{at};
@@ -10,12 +10,7 @@ ghost use Rattle.walk.specs.Limits.{WIDTH};
 ghost use Rattle.tries.specs.Limits.{ENTRIES};
 ghost use Rattle.tries.specs.Making.{Prefixes};
 use table::Shared;
-
-pub(crate) fn smaller(a: usize, b: usize) -> usize
-    ensures { λ r. ⌜ r ≡ min a b ⌝ }
-{
-    if a < b { a } else { b }
-}
+use table::smaller;
 
 // The nodes that the entry (b, l) adds after its neighbour (a, k).
 fn new_nodes(width: u32, a: u32, k: u8, b: u32, l: u8) -> usize

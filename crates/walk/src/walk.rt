@@ -2,7 +2,7 @@
 // read and counted, a nonzero hop is the new best, a nonzero link is followed. The tests that read no
 // row stand in a function of their own, so that nothing but they comes before the loop over the rows.
 ghost use mathlib.Core.Path.{_≡_};
-ghost use Prim.Native.Nat.{min, _≤_};
+ghost use Prim.Native.Nat.{_≤_};
 ghost use Rattle.walk.specs.Limits.{WIDTH};
 ghost use Rattle.walk.specs.Rows.{lists, shortest, rowAt};
 ghost use Rattle.walk.specs.Answers.{better, answer};
@@ -14,6 +14,7 @@ use crate::limits::LEVELS;
 use crate::record::Record;
 use table::WIDTH;
 use table::is_outside;
+use table::smaller;
 
 pub enum Answer {
     Match { hop: u16, reads: u32 },
@@ -40,12 +41,6 @@ pub fn finish(best: u16, reads: u32) -> Answer
             reads: reads,
         }
     }
-}
-
-fn least(a: usize, b: usize) -> usize
-    ensures { λ r. ⌜ r ≡ min a b ⌝ }
-{
-    if a < b { a } else { b }
 }
 
 // The rows from the root's block on: at most `levels` blocks, over rows below `elements`. Row numbers
@@ -132,7 +127,7 @@ pub fn lookup(rec: Record, hop: &[u16], link: &[u32], stride: &[u8], address: u3
     ensures exact { λ r. ⌜ r ≡ lookupOf WIDTH rec (lists (now (hop .entry)) (now (link .entry)) (now (stride .entry))) address ⌝ }
     ensures meaning { λ r. ⌜ Looked WIDTH rec (lists (now (hop .entry)) (now (link .entry)) (now (stride .entry))) address r ⌝ }
 {
-    let rows = least(hop.len(), least(link.len(), stride.len()));
+    let rows = smaller(hop.len(), smaller(link.len(), stride.len()));
     let refusal = first_refusal(rec, rows, address);
     if refusal != 0 {
         return Answer::Refused { number: refusal };

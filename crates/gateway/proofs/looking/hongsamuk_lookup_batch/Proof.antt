@@ -16,14 +16,14 @@ Inv-loop rec hops links strides address number₀ hop₀ reads₀ n i₀ number 
 abbrev μ-loop : tie.MeasureT-loop
 μ-loop rec hops links strides address number₀ hop₀ reads₀ n i₀ number hop reads i = n - i
 
-least-requires : tie.Need-least-requires Inv-loop μ-loop
-least-requires c κs = search needs
+smaller-requires : tie.Need-smaller-requires Inv-loop μ-loop
+smaller-requires c κs = search needs
 
-least-requires-2 : tie.Need-least-requires-2 Inv-loop μ-loop
-least-requires-2 c κs = search needs
+smaller-requires-2 : tie.Need-smaller-requires-2 Inv-loop μ-loop
+smaller-requires-2 c κs = search needs
 
-least-requires-3 : tie.Need-least-requires-3 Inv-loop μ-loop
-least-requires-3 c κs = search needs
+smaller-requires-3 : tie.Need-smaller-requires-3 Inv-loop μ-loop
+smaller-requires-3 c κs = search needs
 
 loop-holds : tie.Need-loop-holds Inv-loop μ-loop
 loop-holds c = (omega arith, written-none)
@@ -81,7 +81,7 @@ same-length-3 c = c .before .loop .inv .1 .counts
 returns : tie.Need-returns Inv-loop μ-loop
 returns c =
     let l = c .before .loop in
-    let n = c .before .before .least3 .result in
+    let n = c .before .before .smaller3 .result in
     let e : l .i ≡ n = omega arith in
     let w = rw e at (l .inv .1) in
     (record { count = omega arith; written = written-by (λ x a p. p .0) w }, record { count = omega arith; written = written-by (λ x a p. p .1) w })
@@ -92,9 +92,9 @@ hongsamuk-lookup-batch-spec =
     (tie.spec
     Inv-loop
     μ-loop
-    least-requires
-    least-requires-2
-    least-requires-3
+    smaller-requires
+    smaller-requires-2
+    smaller-requires-3
     loop-holds
     mul-lookup
     shared-slice-read-lookup

@@ -12,18 +12,18 @@ use Rattle.walk.proofs.walk.lookup.Tie as tie
 -- the number that the tests gave is that of the shortest list
 number : (c : tie.After-first-refusal) → let a = c .before .before .before .before .before .before .args in
     c .first-refusal .result ≡ refusalOf WIDTH (a .t1) (shortest (lists (a .hop .now) (a .link .now) (a .stride .now))) (a .address)
-number c = rw (c .before .least2 .ensures, c .before .before .least .ensures) at (c .first-refusal .ensures)
+number c = rw (c .before .smaller2 .ensures, c .before .before .smaller .ensures) at (c .first-refusal .ensures)
 
 -- no test failed
 zero-number : (c : tie.Else1) → let a = c .before .before .before .before .before .before .before .args in
     refusalOf WIDTH (a .t1) (shortest (lists (a .hop .now) (a .link .now) (a .stride .now))) (a .address) ≡ 0
 zero-number c = sym (number (c .before)) ∙ c .if1 .left
 
-least-requires : tie.Need-least-requires
-least-requires c κs = search needs
+smaller-requires : tie.Need-smaller-requires
+smaller-requires c κs = search needs
 
-least-requires-2 : tie.Need-least-requires-2
-least-requires-2 c κs = search needs
+smaller-requires-2 : tie.Need-smaller-requires-2
+smaller-requires-2 c κs = search needs
 
 first-refusal-requires : tie.Need-first-refusal-requires
 first-refusal-requires c κs = search needs
@@ -56,8 +56,8 @@ pub lookup-spec : {M : Type 1} → statement M
 lookup-spec =
     tie.close
     (tie.spec
-    least-requires
-    least-requires-2
+    smaller-requires
+    smaller-requires-2
     first-refusal-requires
     returns
     element-copy-out-root
