@@ -19,11 +19,13 @@ use Rattle.sheet.specs.Limits.{COUNT, NUMBER-DIGITS, NUMBER, HOP, BITS, 
 use Rattle.sheet.specs.Keys.{widthKey, fixedKey, variableKey, levelsKey, entriesKey, bitsKey, hopKey, queriesKey, addressKey}
 use Rattle.sheet.specs.Lines.{byteAt, keyAt, countAt, valueAt, digitsAt, close, numberLine, bitsLine, kindLine}
 use Rattle.sheet.specs.Entries.{entryFrom, addressFrom, afterEntries, afterQueries}
-use Rattle.sheet.specs.Sheet.{good, bad, start, widthItem, kindItem, levelsItem, entriesItem, queriesItem, lastSpot, sheetOf, textOf}
+use Rattle.sheet.specs.Sheet.{Sheet, good, bad, start, widthItem, kindItem, levelsItem, entriesItem, queriesItem, lastSpot, sheetOf, textOf}
+use Rattle.sheet.specs.Spelling.{sheetText, Sound}
 use Rattle.sheet.proofs.Digits.{count-most, read-most}
 use Rattle.sheet.proofs.Steps.{bits-is}
 use Rattle.sheet.proofs.Listing.{entries-step, queries-step}
 use Rattle.sheet.proofs.Whole.{width-line, kind-line, levels-line, entries-line, queries-line, to-entries, to-queries, to-last, after-entries}
+use Rattle.sheet.proofs.Sound.{spelled-is-good}
 
 -- two texts with the same bytes before place B
 module _ (s t : List ℕ) (B : ℕ) (same : (p : ℕ) → p < B → byteAt s p ≡ byteAt t p) where
@@ -162,6 +164,16 @@ long-is-bad s h =
     go : (t : Bool) → cond (t && false) (good (sheetOf s)) (bad (lastSpot s .line)) ≡ bad (lastSpot s .line)
     go true = refl
     go false = refl
+
+-- no good text is longer
+pub sound-short : (sh : Sheet) → Sound sh → length (sheetText sh) ≤ LONGEST
+sound-short sh sound =
+    elim (decLe (length (sheetText sh)) LONGEST) [
+      | yes p ↦ p
+      | no p ↦
+          let e : good sh ≡ bad (lastSpot (sheetText sh) .line) = sym (spelled-is-good sh sound) ∙ long-is-bad (sheetText sh) (omega arith) in
+          absurd (let z : _≡_ {A = ℕ} 0 1 = cc in omega arith)
+    ]
 
 -- the first B bytes of a text say what the whole says
 pub first-bytes : (B : ℕ) → LONGEST < B → (s : List ℕ) → textOf (take B s) ≡ textOf s

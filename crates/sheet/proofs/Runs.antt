@@ -1,24 +1,27 @@
 -- Laws of the whole run, in the code's own terms: t is what reading the text handed back, with the lists that it filled.
-use mathlib.Core.Path.{_≡_, sym, subst, _∙_}
+use mathlib.Core.Path.{_≡_, sym, ap, subst, _∙_}
 use mathlib.Core.Bool.{true, false}
 use mathlib.Core.List.{List}
 use Prim.Native.Nat.{ℕ, _+_, _-_, _≤_, _<_}
 use native.Mathlib.Omega.{arith}
 use native.Mathlib.Nat.{sub-zero, zero-add}
-use lib.ListN.{length, take, drop}
-use lib.Seq.{sets-eq, take-append-seam, length-take-le, getD-take}
-use lib.Dec.{leb}
+use lib.ListN.{length, take, drop, length-take}
+use lib.Seq.{sets-eq, take-append-seam, length-take-le, getD-take, take-all}
+use lib.Dec.{leb, lit<}
 use borrow.Author.Tests.{le-leb, lt-leb}
 use Rattle.io.specs.Counts.{Counts}
 use Rattle.table.specs.Table.{at}
 use Rattle.sheet.specs.declared.parsing.Parsed.{Parsed}
 use Rattle.sheet.specs.declared.running.Report.{Report}
-use Rattle.sheet.specs.Limits.{COUNT}
+use Rattle.sheet.specs.Limits.{COUNT, LONGEST, PAGE}
 use Rattle.sheet.specs.Lent.{LentEntries, LentQueries}
 use Rattle.sheet.specs.Report.{refusalLines, written, Wrote}
 use Rattle.sheet.specs.Sheet.{textOf, parsedText, Small}
 use Rattle.sheet.specs.Solved.{solved}
-use Rattle.sheet.specs.Tablet.{textReport, reportOf, answerFor, leftFor, Ran}
+use Rattle.sheet.specs.Tablet.{textReport, reportOf, answerFor, leftFor, Ran, Begins, PageRan}
+use Rattle.sheet.specs.Meaning.{PageReports}
+use Rattle.sheet.proofs.FirstBytes.{first-bytes}
+use Rattle.sheet.proofs.Meaning.{ran-reports, reports-unique}
 use Rattle.sheet.proofs.Writing.{wrote-length}
 
 module _ (s vs ls hs xs ds : List ℕ) {t : Parsed} (read : parsedText t vs ls hs xs ds ≡ textOf s) where
@@ -93,8 +96,47 @@ module _ (s : List ℕ) {page page′ : List ℕ} {n : ℕ} (put : Wrote page 0 
         left = rw (e, w .text, page-start, sets-eq (reportOf s) out 0 (omega (arith, count-is)), zero-add);
       }
 
+  -- written where it is to stand
+  pub ran-there : Ran s page page′ (Report.Written n)
+  unfolding answerFor leftFor written
+  ran-there =
+      let e : leb (length (reportOf s)) (length page) ≡ true = le-leb (length (reportOf s)) (length page) (omega (arith, count-is, put .room)) in
+      record {
+        answer = rw (e, count-is);
+        left = rw (e, put .text, sets-eq (reportOf s) page 0 (omega (arith, put .next, put .room)), zero-add);
+      }
+
 -- as many bytes as were written
 pub wrote-counts : {out bytes out′ : List ℕ} {r n : ℕ} → Wrote out 0 bytes out′ r → n ≤ length out → Counts n out′
 wrote-counts {out′ = out′} {n = n} w h =
     let k : n ≤ length out′ = omega (arith, wrote-length w) in
     (k, sym (length-take-le n out′ k))
+
+-- ---- a text that was read to a page
+
+-- no good text is longer than a page
+page-long : LONGEST < PAGE
+page-long = lit< tt
+
+module _ (page : List ℕ) (n : ℕ) {text out out′ : List ℕ} {r : ℕ} (is : text ≡ take n page) (put : Wrote out 0 (reportOf text) out′ r) where
+  pub page-ran : PageRan page n out out′ r
+  unfolding reportOf
+  page-ran s b =
+      let e : reportOf text ≡ reportOf s = ap reportOf (is ∙ sym b) ∙ ap textReport (first-bytes PAGE page-long s) in
+      ran-there s (subst (λ (x : List ℕ). Wrote out 0 x out′ r) e put)
+
+  pub page-reports : PageReports page n out out′ r
+  page-reports s b = ran-reports (page-ran s b)
+
+-- one answer, and one thing left
+pub page-unique : (page : List ℕ) (n : ℕ) → length page ≤ PAGE → {out o₁ o₂ : List ℕ} {r₁ r₂ : ℕ}
+    → PageReports page n out o₁ r₁ → PageReports page n out o₂ r₂ → (r₁ ≡ r₂) × (o₁ ≡ o₂)
+page-unique page n h {r₁ = r₁} {r₂ = r₂} a b =
+    let e : Begins (take n page) page n = take-all PAGE (take n page) (omega (arith, length-take n page)) in
+    let w = reports-unique (a (take n page) e) (b (take n page) e) in
+    let z : r₁ ≡ r₂ = ap count (w .0) in
+    (z, w .1)
+  where
+    count : Report → ℕ
+    count (Report.Written k) = k
+    count (Report.Room k) = k

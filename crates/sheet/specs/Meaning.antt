@@ -20,7 +20,7 @@ use Rattle.sheet.specs.Report.{refusalLines}
 use Rattle.sheet.specs.Values.{valuesOf}
 use Rattle.sheet.specs.Sheet.{Text, good, bad, textOf}
 use Rattle.sheet.specs.Solved.{kindNamed, reportBy}
-use Rattle.sheet.specs.Tablet.{answerFor, leftFor}
+use Rattle.sheet.specs.Tablet.{answerFor, leftFor, Begins}
 
 -- the report of a table and its queries
 pub record Solves (kind : Kind) (W k : ℕ) (vs ls hs xs ds bytes : List ℕ) : Type 0 where
@@ -42,3 +42,7 @@ pub record Reports (s out out′ : List ℕ) (r : Report) : Type 0 where
   pub says : Says (textOf s) bytes
   pub answer : r ≡ answerFor bytes out
   pub left : out′ ≡ leftFor bytes out
+
+-- what a call of `run_page` answers and leaves: such a report of every text that begins with what stands on the page
+abbrev pub PageReports : (page : List ℕ) (n : ℕ) (out out′ : List ℕ) (r : ℕ) → Type 0
+PageReports page n out out′ r = (s : List ℕ) → Begins s page n → Reports s out out′ (Report.Written r)

@@ -4,10 +4,11 @@ use mathlib.Core.Path.{_≡_}
 use mathlib.Core.Bool.{cond}
 use mathlib.Core.List.{List, _++_}
 use Prim.Native.Nat.{ℕ}
-use lib.ListN.{length, drop}
+use lib.ListN.{length, take, drop}
 use lib.Dec.{leb}
 use Rattle.io.specs.Counts.{Counts}
 use Rattle.sheet.specs.declared.running.Report.{Report}
+use Rattle.sheet.specs.Limits.{PAGE}
 use Rattle.sheet.specs.Report.{refusalLines}
 use Rattle.sheet.specs.Sheet.{Text, good, bad, textOf}
 use Rattle.sheet.specs.Solved.{solved}
@@ -39,3 +40,13 @@ pub record Ran (s out out′ : List ℕ) (r : Report) : Type 0 where
 abbrev pub Fits : Report → List ℕ → Type 0
 Fits (Report.Written n) out = Counts n out
 Fits (Report.Room n) out = Unit {0}
+
+-- ---- a text that was read to a page
+
+-- what n bytes of the page hold is the text s as far as a page goes: all of it, or the page is full
+abbrev pub Begins : (s page : List ℕ) (n : ℕ) → Type 0
+Begins s page n = take PAGE s ≡ take n page
+
+-- what a call of `run_page` answers and leaves: the report of every such text, all r bytes of it
+abbrev pub PageRan : (page : List ℕ) (n : ℕ) (out out′ : List ℕ) (r : ℕ) → Type 0
+PageRan page n out out′ r = (s : List ℕ) → Begins s page n → Ran s out out′ (Report.Written r)

@@ -14,6 +14,8 @@ mod running;
 mod solving;
 mod values;
 
+pub use limits::PAGE;
 pub use running::Report;
 pub use running::buffer;
 pub use running::run;
+pub use running::run_page;

@@ -2,10 +2,11 @@
 ghost use mathlib.Core.Path.{_≡_};
 ghost use Prim.Native.Nat.{_≤_};
 ghost use lib.ListN.{length, replicate};
+ghost use Rattle.io.specs.Counts.{Counts};
 ghost use Rattle.sheet.specs.Limits.{PAGE};
 ghost use Rattle.sheet.specs.Report.{Wrote};
-ghost use Rattle.sheet.specs.Tablet.{reportOf, Ran, Fits};
-ghost use Rattle.sheet.specs.Meaning.{Reports};
+ghost use Rattle.sheet.specs.Tablet.{reportOf, Ran, PageRan, Fits};
+ghost use Rattle.sheet.specs.Meaning.{Reports, PageReports};
 use crate::limits::COUNT;
 use crate::limits::PAGE;
 use crate::parsing::Parsed;
@@ -75,4 +76,18 @@ pub fn run(text: &[u8], out: &mut [u8]) -> Report
     }
     put(out, 0, &page[0..n]);
     Report::Written(n)
+}
+
+// The program's own run: n bytes of the text were read to the page, all of it, or its beginning where the page is full. No good text is
+// longer than a page, so what is promised holds of the whole text, however long; and a page holds every report.
+pub fn run_page(page: &[u8; PAGE], n: usize, out: &mut [u8; PAGE]) -> usize
+    ensures exact { λ r. ⌜ PageRan (now (page .entry)) n (now (out .entry)) (now (out .exit)) r ⌝ }
+    ensures meaning { λ r. ⌜ PageReports (now (page .entry)) n (now (out .entry)) (now (out .exit)) r ⌝ }
+    ensures fits { λ r. ⌜ Counts r (now (out .exit)) ⌝ }
+{
+    let text = &page[..];
+    if n < PAGE {
+        return put_run(out, &text[0..n]);
+    }
+    put_run(out, text)
 }

@@ -1,0 +1,2 @@
+-- Laws of what a read answers.
+pub mod Answers

@@ -1,0 +1,2 @@
+-- What the reading of the program's text promises.
+pub mod Stopping
