@@ -5,6 +5,7 @@ use super::Vectors;
 use crate::random::Random;
 use crate::table::bits;
 use crate::tablet;
+use std::collections::BTreeSet;
 
 const WANTED: &[&str] = &[
     "refusal 0",
@@ -293,6 +294,95 @@ fn fault(random: &mut Random, made: &mut Draft, kind: u64) {
     }
 }
 
+/// A text of these entries' bits, each with a hop of five digits, and these addresses.
+fn text_of(head: [&str; 3], bits: &[String], addresses: &[String]) -> String {
+    let [width, kind, levels] = head;
+    let mut lines = format!("width={width}\nkind={kind}\nlevels={levels}\nentries={}\n", bits.len());
+    for (i, b) in bits.iter().enumerate() {
+        lines += &format!("bits={b}\nhop={}\n", 65534 - i);
+    }
+    lines += &format!("queries={}\n", addresses.len());
+    for a in addresses {
+        lines += &format!("address={a}\n");
+    }
+    lines
+}
+
+/// Entries of at most 32 bits, in order, with so many nodes: paths that part in their first four bits, the last cut off.
+fn with_nodes(nodes: usize) -> Vec<String> {
+    let mut starts = BTreeSet::new();
+    let mut entries = vec![];
+    while starts.len() < nodes {
+        let path = format!("{:04b}{}", entries.len(), "1".repeat(28));
+        let mut end = 0;
+        while end < 32 && (starts.len() < nodes || starts.contains(&path[..end])) {
+            starts.insert(path[..end].to_string());
+            end += 1;
+        }
+        entries.push(path[..end].to_string());
+    }
+    entries
+}
+
+/// 01: "the program lends 320 scratch rows and 8,192 elements". E is even, so that after 8,192 comes 8,194.
+fn lent(vectors: &mut Vectors) {
+    let zeros = |n: usize| "0".repeat(n);
+    for kind in ["fst", "vst"] {
+        for nodes in [319, 320, 321] {
+            let entries = with_nodes(nodes);
+            let address = ["1".repeat(32), entries[3].clone()];
+            let report = lent_case(vectors, &text_of(["32", kind, "8"], &entries, &address));
+            let refused = "refusal=6\ndetail=321\n";
+            assert!(
+                if nodes <= 320 { report.starts_with("refusal=0\n") } else { report == refused },
+                "{nodes}: {report}"
+            );
+        }
+        for (width, levels) in [(13, "1"), (24, "2")] {
+            let text = text_of([&width.to_string(), kind, levels], &[zeros(width)], &[zeros(width)]);
+            assert!(lent_case(vectors, &text).contains("elements=8192\n"));
+        }
+    }
+    let two = [zeros(24), format!("1{}", zeros(12))];
+    let report = lent_case(vectors, &text_of(["24", "vst", "2"], &two, &[zeros(24)]));
+    assert!(report == "refusal=7\ndetail=8194\n", "{report}");
+}
+
+fn lent_case(vectors: &mut Vectors, given: &str) -> String {
+    text(vectors, given.as_bytes());
+    tablet::run(given.as_bytes())
+}
+
+/// 64 entries and 64 queries of 32 bits: the longest text with these first three lines.
+fn longest(head: [&str; 3]) -> String {
+    let bits: Vec<String> = (0..64).map(|i| format!("{}{i:06b}", "10".repeat(13))).collect();
+    let lead = |i| "10".repeat(if i % 4 == 3 { 12 } else { 13 });
+    let addresses: Vec<String> = (0..64).map(|i| format!("{:0<32}", format!("{}{i:06b}", lead(i)))).collect();
+    text_of(head, &bits, &addresses)
+}
+
+/// Every text under examples/: its report there is what the reference prints.
+fn shown(vectors: &mut Vectors, top: &str) {
+    let folder = std::fs::read_dir(format!("{top}/examples")).expect("examples/ can be read");
+    let mut paths: Vec<_> = folder.map(|f| f.expect("examples/ can be read").path()).collect();
+    paths.sort();
+    for path in paths.iter().filter(|p| p.extension().is_some_and(|e| e == "txt")) {
+        let given = std::fs::read(path).expect("an example can be read");
+        let report = std::fs::read_to_string(path.with_extension("report")).expect("an example has a report");
+        assert!(report == tablet::run(&given), "{}: its report is another", path.display());
+        text(vectors, &given);
+    }
+}
+
+/// The tablet's own run in the gate: the longest text that is accepted.
+fn write_tablet(top: &str) {
+    let given = longest(["32", "vst", "8"]);
+    let report = tablet::run(given.as_bytes());
+    assert!(report.starts_with("refusal=0\n") && report.matches("address=").count() == 64, "{report}");
+    std::fs::write(format!("{top}/crates/tablet/stdin"), &given).expect("stdin can be written");
+    std::fs::write(format!("{top}/crates/tablet/stdout"), &report).expect("stdout can be written");
+}
+
 pub fn write(top: &str) {
     let mut vectors = Vectors::default();
     let mut random = Random::new(6);
@@ -303,5 +393,10 @@ pub fn write(top: &str) {
     malformed(&mut vectors, &mut random);
     order(&mut vectors, &mut random);
     faults(&mut vectors, &mut random);
+    lent(&mut vectors);
+    shown(&mut vectors, top);
+    text(&mut vectors, longest(["99999", "fst", "99999"]).as_bytes());
+    text(&mut vectors, longest(["32", "fst", "8"]).as_bytes());
+    write_tablet(top);
     vectors.write(top, "sheet_cases", WANTED);
 }
