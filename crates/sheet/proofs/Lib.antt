@@ -11,6 +11,9 @@ pub mod Writing
 pub mod Spelled
 pub mod ReadBack
 pub mod Sound
+pub mod FirstLines
+pub mod Following
+pub mod FirstBad
 pub mod Placing
 pub mod Queries
 pub mod Solutions

@@ -1,6 +1,7 @@
 -- A run's report has its meaning, and the meaning leaves one report.
 use mathlib.Core.Path.{_≡_, refl, sym, ap, subst, _∙_, fun-ext}
 use mathlib.Core.List.{List}
+use mathlib.Core.Logic.{inl, inr}
 use Prim.Native.Nat.{ℕ, _*_, _≤_, _<_}
 use native.Mathlib.Omega.{arith}
 use lib.ListN.{length}
@@ -28,10 +29,13 @@ use Rattle.sheet.specs.declared.running.Report.{Report}
 use Rattle.sheet.specs.Limits.{LENT-ROWS, LENT-ELEMENTS}
 use Rattle.sheet.specs.Report.{refusalLines}
 use Rattle.sheet.specs.Answers.{answersReport}
-use Rattle.sheet.specs.Sheet.{Text, good, bad, textOf}
+use Rattle.sheet.specs.Sheet.{Sheet, Text, good, bad, textOf}
 use Rattle.sheet.specs.Solved.{hopOf, reportBy, buildOutcome, chosen, tableReport, reportFor, solved}
 use Rattle.sheet.specs.Tablet.{textReport, reportOf, answerFor, leftFor, Ran}
-use Rattle.sheet.specs.Meaning.{Solves, Says, Reports}
+use Rattle.sheet.specs.Meaning.{Solves, SheetSolves, Says, Reports}
+use Rattle.sheet.proofs.Spelled.{good-is-spelled}
+use Rattle.sheet.proofs.Sound.{good-is-sound, sheet-of-text}
+use Rattle.sheet.proofs.FirstBad.{bad-is-first, first-bad-unique}
 
 -- ---- the meaning of the definition
 
@@ -61,14 +65,16 @@ module _ (kind : Kind) (W k : ℕ) (vs ls hs xs ds : List ℕ) where
   pub solved-means : Solves kind W k vs ls hs xs ds (reportFor (buildOutcome kind W k vs ls hs) (tableReport kind W k vs ls hs xs ds))
   solved-means = solved-out (buildOutcome kind W k vs ls hs) refl
 
-text-says : (t : Text) → Says t (textReport t)
-unfolding textReport solved
-text-says (bad line) = refl
-text-says (good sh) = solved-means _ _ _ _ _ _ _ _
+text-says : (s : List ℕ) → Says s (reportOf s)
+unfolding reportOf textReport solved
+text-says s = go (textOf s) refl
+  where
+    go : (t : Text) → textOf s ≡ t → Says s (textReport t)
+    go (bad line) e = inr (line, bad-is-first s line e, refl)
+    go (good sh) e = inl (sh, good-is-sound s sh e, good-is-spelled s sh e, solved-means _ _ _ _ _ _ _ _)
 
 pub ran-reports : {s out out′ : List ℕ} {r : Report} → Ran s out out′ r → Reports s out out′ r
-unfolding reportOf
-ran-reports {s} ran = record { bytes = reportOf s; says = text-says (textOf s); answer = ran .answer; left = ran .left }
+ran-reports {s} ran = record { bytes = reportOf s; says = text-says s; answer = ran .answer; left = ran .left }
 
 -- ---- and it leaves one report: nothing here knows how the least cost or the strides are found, but that there are some
 
@@ -111,12 +117,16 @@ solves-unique kind W k vs ls hs xs ds {bytes} {bytes′} c d = go (c .out) refl
         let agree = same-agree (a .0) (a′ .0) t W 0 k fine (follows-unique kind k t (a .0) (a′ .0) (a .1) (a′ .1)) in
         a .2 ∙ report-one W k vs ls hs (a .0) (a′ .0) agree xs ds ∙ sym (a′ .2)
 
-says-unique : (t : Text) {bytes bytes′ : List ℕ} → Says t bytes → Says t bytes′ → bytes ≡ bytes′
-says-unique (bad line) p q = p ∙ sym q
-says-unique (good sh) p q = solves-unique _ _ _ _ _ _ _ _ p q
+says-unique : (s : List ℕ) {bytes bytes′ : List ℕ} → Says s bytes → Says s bytes′ → bytes ≡ bytes′
+says-unique s {bytes} (inl a) (inl b) =
+    let one : a .0 ≡ b .0 = sheet-of-text (a .1) (b .1) (sym (a .2) ∙ b .2) in
+    solves-unique _ _ _ _ _ _ _ _ (subst (λ (sh : Sheet). SheetSolves sh bytes) one (a .3)) (b .3)
+says-unique s (inl a) (inr b) = absurd (b .1 .no-sheet (a .0) (a .1) (a .2))
+says-unique s (inr a) (inl b) = absurd (a .1 .no-sheet (b .0) (b .1) (b .2))
+says-unique s (inr a) (inr b) = a .2 ∙ ap (refusalLines 11) (first-bad-unique (a .1) (b .1)) ∙ sym (b .2)
 
 -- one answer, and one thing left
 pub reports-unique : {s out o₁ o₂ : List ℕ} {r₁ r₂ : Report} → Reports s out o₁ r₁ → Reports s out o₂ r₂ → (r₁ ≡ r₂) × (o₁ ≡ o₂)
 reports-unique {s} {out} a b =
-    let e : a .bytes ≡ b .bytes = says-unique (textOf s) (a .says) (b .says) in
+    let e : a .bytes ≡ b .bytes = says-unique s (a .says) (b .says) in
     (a .answer ∙ ap (λ (x : List ℕ). answerFor x out) e ∙ sym (b .answer), a .left ∙ ap (λ (x : List ℕ). leftFor x out) e ∙ sym (b .left))

@@ -213,7 +213,7 @@ module _ (key s : List ℕ) (p : Spot) (rest : List ℕ) where
       (line-close 10 n v (lit< tt) (lit≤ tt) (w .1) h)
 
   -- the line of n bits is read as those bits
-  bits-read : (least v n : ℕ) → least ≤ n → n ≤ BITS → v < 2 ^ n → Ahead s p (bitsLineOf key v n ++ rest) → ReadAs s rest v n (bitsLine least key s p)
+  pub bits-read : (least v n : ℕ) → least ≤ n → n ≤ BITS → v < 2 ^ n → Ahead s p (bitsLineOf key v n ++ rest) → ReadAs s rest v n (bitsLine least key s p)
   unfolding bitsLine bitsLineOf binary
   bits-read least v n o few fits h =
       rw (line-key 2 n v (lit< tt) (lit≤ tt) fits h, line-read 2 n v (lit< tt) (lit≤ tt) fits h BITS few, le-leb least n o)

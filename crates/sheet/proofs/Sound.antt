@@ -27,19 +27,20 @@ use Rattle.sheet.proofs.ReadBack.{Ahead, ReadAs, number-read, kind-read
 
 -- ---- the whole text
 
--- seven texts, from the first on
-seven : (a b c d e f g : List ℕ) → a ++ b ++ c ++ d ++ e ++ f ++ g ≡ a ++ (b ++ (c ++ (d ++ (e ++ (f ++ (g ++ []))))))
-seven a b c d e f g =
+-- eight texts, from the first on
+pub eight : (a b c d e f g h : List ℕ) → a ++ b ++ c ++ d ++ e ++ f ++ g ++ h ≡ a ++ (b ++ (c ++ (d ++ (e ++ (f ++ (g ++ h))))))
+eight a b c d e f g h =
     rw (
-      append-nil g,
-      append-assoc (a ++ b ++ c ++ d ++ e) f g,
-      append-assoc (a ++ b ++ c ++ d) e (f ++ g),
-      append-assoc (a ++ b ++ c) d (e ++ (f ++ g)),
-      append-assoc (a ++ b) c (d ++ (e ++ (f ++ g))),
-      append-assoc a b (c ++ (d ++ (e ++ (f ++ g)))),
+      append-assoc (a ++ b ++ c ++ d ++ e ++ f) g h,
+      append-assoc (a ++ b ++ c ++ d ++ e) f (g ++ h),
+      append-assoc (a ++ b ++ c ++ d) e (f ++ (g ++ h)),
+      append-assoc (a ++ b ++ c) d (e ++ (f ++ (g ++ h))),
+      append-assoc (a ++ b) c (d ++ (e ++ (f ++ (g ++ h)))),
+      append-assoc a b (c ++ (d ++ (e ++ (f ++ (g ++ h))))),
     )
 
-module _ (sh : Sheet) (sound : Sound sh) where
+-- the text of a sound sheet, and what stands after it
+module _ (sh : Sheet) (sound : Sound sh) (extra : List ℕ) where
   abbrev n : ℕ
   n = length (sh .bits)
 
@@ -54,7 +55,7 @@ module _ (sh : Sheet) (sound : Sound sh) where
 
   -- what is left after the entries, after their count, and after the kind
   abbrev entriesRest : List ℕ
-  entriesRest = lineOf queriesKey m ++ (queriesText ++ [])
+  entriesRest = lineOf queriesKey m ++ (queriesText ++ extra)
 
   abbrev countRest : List ℕ
   countRest = entriesText ++ entriesRest
@@ -62,7 +63,7 @@ module _ (sh : Sheet) (sound : Sound sh) where
   abbrev kindRest : List ℕ
   kindRest = lineOf levelsKey (sh .levels) ++ (lineOf entriesKey n ++ countRest)
 
-  module _ (s : List ℕ) (is : s ≡ sheetText sh) where
+  module _ (s : List ℕ) (is : s ≡ sheetText sh ++ extra) where
     all-ahead : Ahead s start (lineOf widthKey (sh .width) ++ (kindText (sh .kind) ++ kindRest))
     unfolding sheetText
     all-ahead =
@@ -70,8 +71,8 @@ module _ (sh : Sheet) (sound : Sound sh) where
           on = refl;
           left =
               is
-              ∙ seven (lineOf widthKey (sh .width)) (kindText (sh .kind)) (lineOf levelsKey (sh .levels)) (lineOf entriesKey n) entriesText
-              (lineOf queriesKey m) queriesText;
+              ∙ eight (lineOf widthKey (sh .width)) (kindText (sh .kind)) (lineOf levelsKey (sh .levels)) (lineOf entriesKey n) entriesText
+              (lineOf queriesKey m) queriesText extra;
         }
 
     width-said : ReadAs s (kindText (sh .kind) ++ kindRest) (sh .width) (places (sh .width)) (widthItem s)
@@ -94,16 +95,16 @@ module _ (sh : Sheet) (sound : Sound sh) where
     entries-said : EntriesAs s (entriesItem s .spot) (sh .bits) (sh .lengths) (sh .hops) entriesRest n
     entries-said = entries-read s (entriesItem s .spot) (sh .bits) (sh .lengths) (sh .hops) n entriesRest (sound .entry) (count-said .ahead)
 
-    queries-count-said : ReadAs s (queriesText ++ []) m (places m) (queriesItem s)
+    queries-count-said : ReadAs s (queriesText ++ extra) m (places m) (queriesItem s)
     unfolding queriesItem
     queries-count-said =
         rw (count-said .value)
-        (number-read queriesKey s (afterEntries s (entriesItem s .spot) n) (queriesText ++ []) COUNT m (lit≤ tt) (sound .queries-few) (entries-said .ahead))
+        (number-read queriesKey s (afterEntries s (entriesItem s .spot) n) (queriesText ++ extra) COUNT m (lit≤ tt) (sound .queries-few) (entries-said .ahead))
 
-    queries-said : QueriesAs s (queriesItem s .spot) (sh .addresses) (sh .places) [] m
-    queries-said = queries-read s (queriesItem s .spot) (sh .addresses) (sh .places) m [] (sound .query) (queries-count-said .ahead)
+    queries-said : QueriesAs s (queriesItem s .spot) (sh .addresses) (sh .places) extra m
+    queries-said = queries-read s (queriesItem s .spot) (sh .addresses) (sh .places) m extra (sound .query) (queries-count-said .ahead)
 
-    last-said : Ahead s (lastSpot s) []
+    last-said : Ahead s (lastSpot s) extra
     unfolding lastSpot
     last-said = rw (queries-count-said .value) (queries-said .ahead)
 
@@ -123,21 +124,29 @@ module _ (sh : Sheet) (sound : Sound sh) where
           queries-said .places ∙ listed-all (sh .places) m (sound .as-many-places),
         )
 
-    text-said : textOf s ≡ good sh
-    unfolding textOf
-    text-said =
-        let l : 0 ≡ length s - lastSpot s .at = sym (ap length (last-said .left)) ∙ length-drop (lastSpot s .at) s in
-        let e : lastSpot s .at ≡ length s = omega (arith, to-last s .within (omega arith)) in
-        rw (last-said .on, eq-eqb (lastSpot s .at) (length s) e, sheet-said)
+-- every line is read, and what stands after the text is left
+pub spelled-is-read : (sh : Sheet) → Sound sh → (extra : List ℕ) → Ahead (sheetText sh ++ extra) (lastSpot (sheetText sh ++ extra)) extra
+spelled-is-read sh sound extra = last-said sh sound extra (sheetText sh ++ extra) refl
 
 -- the text of a sound sheet is good, and says that sheet
 pub spelled-is-good : (sh : Sheet) → Sound sh → textOf (sheetText sh) ≡ good sh
-spelled-is-good sh sound = text-said sh sound (sheetText sh) refl
+unfolding textOf
+spelled-is-good sh sound =
+    let s = sheetText sh in
+    let is : s ≡ s ++ [] = sym (append-nil s) in
+    let last = last-said sh sound [] s is in
+    let l : 0 ≡ length s - lastSpot s .at = sym (ap length (last .left)) ∙ length-drop (lastSpot s .at) s in
+    let e : lastSpot s .at ≡ length s = omega (arith, to-last s .within (omega arith)) in
+    rw (last .on, eq-eqb (lastSpot s .at) (length s) e, sheet-said sh sound [] s is)
+
+-- two sound sheets with one text are one
+pub sheet-of-text : {a b : Sheet} → Sound a → Sound b → sheetText a ≡ sheetText b → a ≡ b
+sheet-of-text {a} {b} p q e = let w : good a ≡ good b = sym (spelled-is-good a p) ∙ ap textOf e ∙ spelled-is-good b q in cc
 
 -- ---- and the sheet of a good text is sound
 
 -- a good line of bits has as many as are asked for
-bits-enough : (least : ℕ) (key s : List ℕ) (p : Spot) → bitsLine least key s p .spot .good ≡ true → least ≤ bitsLine least key s p .count
+pub bits-enough : (least : ℕ) (key s : List ℕ) (p : Spot) → bitsLine least key s p .spot .good ≡ true → least ≤ bitsLine least key s p .count
 unfolding bitsLine digitsAt
 bits-enough least key s p e =
     let q = p .at + length key in
@@ -161,14 +170,14 @@ queries-enough s p (suc n) e i k =
     ]
 
 module _ (s : List ℕ) (p : Spot) (i : ℕ) where
-  entry-fits : (entryLength s p i ≤ BITS) × (entryBits s p i < 2 ^ entryLength s p i) × (entryHop s p i ≤ HOP)
+  pub entry-fits : (entryLength s p i ≤ BITS) × (entryBits s p i < 2 ^ entryLength s p i) × (entryHop s p i ≤ HOP)
   unfolding entryLength entryBits entryHop entryFrom
   entry-fits =
       let q = afterEntries s p i in
       let w = bits-is bitsKey s q 0 .value in
       (w .1, w .0, number-is hopKey s (bitsLine 0 bitsKey s q .spot) NUMBER-DIGITS HOP .value)
 
-  query-fits : (queryAddress s p i < 2 ^ queryPlaces s p i) × (queryPlaces s p i ≤ BITS)
+  pub query-fits : (queryAddress s p i < 2 ^ queryPlaces s p i) × (queryPlaces s p i ≤ BITS)
   unfolding queryAddress queryPlaces addressFrom
   query-fits = bits-is addressKey s (afterQueries s p i) 1 .value
 

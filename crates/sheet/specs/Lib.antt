@@ -10,6 +10,7 @@ pub mod Lent
 pub mod Values
 pub mod Report
 pub mod Spelling
+pub mod FirstBad
 pub mod Answers
 pub mod Solved
 pub mod Tablet

@@ -3,6 +3,7 @@
 -- the longest entry that matches it and the number of blocks on its path.
 use mathlib.Core.Path.{_≡_}
 use mathlib.Core.List.{List}
+use mathlib.Core.Logic.{_⊎_}
 use Prim.Native.Nat.{ℕ, _*_, _≤_}
 use lib.ListN.{length}
 use Rattle.table.specs.Refusals.{Gives}
@@ -18,7 +19,9 @@ use Rattle.sheet.specs.declared.running.Report.{Report}
 use Rattle.sheet.specs.Limits.{LENT-ROWS, LENT-ELEMENTS}
 use Rattle.sheet.specs.Report.{refusalLines}
 use Rattle.sheet.specs.Values.{valuesOf}
-use Rattle.sheet.specs.Sheet.{Text, good, bad, textOf}
+use Rattle.sheet.specs.Sheet.{Sheet}
+use Rattle.sheet.specs.Spelling.{sheetText, Sound}
+use Rattle.sheet.specs.FirstBad.{FirstBad}
 use Rattle.sheet.specs.Solved.{kindNamed, reportBy}
 use Rattle.sheet.specs.Tablet.{answerFor, leftFor, Begins}
 
@@ -30,16 +33,21 @@ pub record Solves (kind : Kind) (W k : ℕ) (vs ls hs xs ds bytes : List ℕ) : 
   pub refused : (number detail : ℕ) → out ≡ Refused number detail → bytes ≡ refusalLines number detail
   pub accepted : out ≡ Accepted → (σ : Strides) × Follows kind k (tableTrie W vs ls hs) σ × (bytes ≡ reportBy W k vs ls hs σ xs ds)
 
--- the report of a text: a bad one is refused by 11, the first bad line as detail
-abbrev pub Says : Text → (bytes : List ℕ) → Type 0
-Says (bad line) bytes = bytes ≡ refusalLines 11 line
-Says (good sh) bytes =
-    Solves (kindNamed (sh .kind)) (sh .width) (sh .levels) (valuesOf (sh .width) (sh .bits) (sh .lengths)) (sh .lengths) (sh .hops) (sh .addresses) (sh .places) bytes
+-- the report of a sheet
+abbrev pub SheetSolves : Sheet → (bytes : List ℕ) → Type 0
+SheetSolves sh bytes =
+    Solves (kindNamed (sh .kind)) (sh .width) (sh .levels) (valuesOf (sh .width) (sh .bits) (sh .lengths)) (sh .lengths) (sh .hops)
+    (sh .addresses) (sh .places) bytes
+
+-- the report of a text: that of the sound sheet whose text it is; or refusal 11, the first bad line as detail
+abbrev pub Says : (s bytes : List ℕ) → Type 0
+Says s bytes =
+    ((sh : Sheet) × Sound sh × (s ≡ sheetText sh) × SheetSolves sh bytes) ⊎ ((line : ℕ) × FirstBad s line × (bytes ≡ refusalLines 11 line))
 
 -- what a call of `run` answers and leaves: such a report, in the room that was lent
 pub record Reports (s out out′ : List ℕ) (r : Report) : Type 0 where
   pub bytes : List ℕ
-  pub says : Says (textOf s) bytes
+  pub says : Says s bytes
   pub answer : r ≡ answerFor bytes out
   pub left : out′ ≡ leftFor bytes out
 
