@@ -19,7 +19,7 @@ use Rattle.sheet.specs.Lines.{numberLine, bitsLine}
 use Rattle.sheet.specs.Entries.{entryFrom, addressFrom, afterEntries, afterQueries}
 use Rattle.sheet.specs.Sheet.{Sheet, Text, good, bad, start, widthItem, kindItem, levelsItem, entriesItem, queriesItem, lastSpot, sheetOf, textOf}
 use Rattle.sheet.specs.Spelling.{kindText, entryText, queryText, sheetText, Sound}
-use Rattle.sheet.specs.Report.{lineOf, bitsLineOf, joined}
+use Rattle.sheet.specs.Printing.{lineOf, bitsLineOf, joined}
 use Rattle.sheet.specs.FirstBad.{lineCount, firstLines, Opens, FirstBad}
 use Rattle.sheet.proofs.Spelled.{good-is-spelled}
 use Rattle.sheet.proofs.ReadBack.{Ahead, ReadAs, number-read, bits-read, kind-read}

@@ -8,7 +8,7 @@ use native.Mathlib.Nat.{zero-add}
 use lib.Dec.{eqb, ltb}
 use borrow.Author.Tests.{ne-eqb}
 use Rattle.io.specs.Digits.{digits, glyph}
-use Rattle.sheet.specs.Report.{places, decimal, binary, lineOf, bitsLineOf}
+use Rattle.sheet.specs.Printing.{places, decimal, binary, lineOf, bitsLineOf}
 use Rattle.sheet.specs.Keys.{fixedKey, variableKey}
 use Rattle.sheet.specs.Spelling.{kindText}
 use Rattle.sheet.specs.FirstBad.{lineCount, firstLines}

@@ -18,7 +18,7 @@ use Rattle.sheet.specs.Lines.{byteAt, keyAt, digitsAt, plain, badLine, c
 use Rattle.sheet.specs.Entries.{listed, entryFrom, addressFrom, afterEntries, afterQueries, entryBits, entryLength, entryHop, queryAddress, queryPlaces}
 use Rattle.sheet.specs.Sheet.{Sheet, start, widthItem, kindItem, levelsItem, entriesItem, queriesItem, lastSpot}
 use Rattle.sheet.specs.Spelling.{kindText, entryText, queryText, sheetText, Sound}
-use Rattle.sheet.specs.Report.{lineOf, bitsLineOf, joined}
+use Rattle.sheet.specs.Printing.{lineOf, bitsLineOf, joined}
 use Rattle.sheet.specs.FirstBad.{lineCount, firstLines, Opens}
 use Rattle.sheet.proofs.Listing.{listed-length, listed-at}
 use Rattle.sheet.proofs.Whole.{width-line, kind-line, levels-line, entries-line, queries-line}

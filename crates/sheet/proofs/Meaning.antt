@@ -27,10 +27,10 @@ use Rattle.tries.proofs.Choosing.{accepted-levels, accepted-tests-table}
 use Rattle.tries.proofs.Builds.{tests-least, table-follows}
 use Rattle.sheet.specs.declared.running.Report.{Report}
 use Rattle.sheet.specs.Limits.{LENT-ROWS, LENT-ELEMENTS}
-use Rattle.sheet.specs.Report.{refusalLines}
+use Rattle.sheet.specs.Printing.{refusalLines}
 use Rattle.sheet.specs.Answers.{answersReport}
 use Rattle.sheet.specs.Sheet.{Sheet, Text, good, bad, textOf}
-use Rattle.sheet.specs.Solved.{hopOf, reportBy, buildOutcome, chosen, tableReport, reportFor, solved}
+use Rattle.sheet.specs.Solved.{longestHop, reportBy, buildOutcome, chosen, tableReport, reportFor, solved}
 use Rattle.sheet.specs.Tablet.{textReport, reportOf, answerFor, leftFor, Ran}
 use Rattle.sheet.specs.Meaning.{Solves, SheetSolves, Says, Reports}
 use Rattle.sheet.proofs.Spelled.{good-is-spelled}
@@ -83,7 +83,7 @@ module _ (W k : ℕ) (vs ls hs : List ℕ) (σ τ : Strides) (g : Agree σ τ (t
   unfolding reportBy
   report-one xs ds =
       let t = tableTrie W vs ls hs in
-      same (hopOf W k vs ls hs) (fun-ext (λ (a : ℕ). ap length (blocks-same σ τ W t 0 0 k a g))) (count-same σ τ t k g) (stride-same σ τ t k g)
+      same (longestHop W k vs ls hs) (fun-ext (λ (a : ℕ). ap length (blocks-same σ τ W t 0 0 k a g))) (count-same σ τ t k g) (stride-same σ τ t k g)
     where
       same : (hop : ℕ → ℕ) {f f′ : ℕ → ℕ} {e e′ r r′ : ℕ} → f ≡ f′ → e ≡ e′ → r ≡ r′ → answersReport hop f xs ds W e r ≡ answersReport hop f′ xs ds W e′ r′
       same hop p q z = rw (p, q, z)

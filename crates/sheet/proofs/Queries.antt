@@ -16,7 +16,7 @@ use Rattle.walk.specs.Lookup.{lookupOf}
 use Rattle.walk.specs.declared.record.Record.{Record}
 use Rattle.walk.specs.declared.walk.Answer.{Answer}
 use Rattle.sheet.specs.Lent.{LentQueries}
-use Rattle.sheet.specs.Report.{refusalLines, headLines, answerLines, joined, Wrote}
+use Rattle.sheet.specs.Printing.{refusalLines, headLines, answerLines, joined, Wrote}
 use Rattle.sheet.specs.Answers.{wrong, firstWrong, queryLines, answersReport, hopIn, readsIn, lookedUp}
 use Rattle.sheet.proofs.Writing.{wrote-is, joined-more, joined-same}
 

@@ -1,6 +1,5 @@
--- The page holds every report, so that a run with that much room never asks for more; and what a run answers and leaves is
--- one thing only.
-use mathlib.Core.Path.{_≡_, sym, _∙_}
+-- The page holds every report, so that a run with that much room never asks for more.
+use mathlib.Core.Path.{_≡_, _∙_}
 use mathlib.Core.Bool.{Bool, true, false, _&&_, cond}
 use mathlib.Core.List.{List, _++_}
 use Prim.Native.Nat.{ℕ, _≤_, _<_}
@@ -12,11 +11,11 @@ use Rattle.table.specs.Table.{at}
 use Rattle.table.specs.declared.entry.Outcome.{Outcome}
 use Rattle.table.specs.declared.entry.Outcome.the-variants.{Accepted, Refused}
 use Rattle.sheet.specs.declared.running.Report.{Report}
-use Rattle.sheet.specs.Limits.{COUNT, BITS, PAGE}
+use Rattle.sheet.specs.Limits.{COUNT, BITS, ANSWER-BYTES, PAGE}
 use Rattle.sheet.specs.Entries.{listed, addressFrom, afterQueries, queryPlaces}
 use Rattle.sheet.specs.Keys.{addressKey}
 use Rattle.sheet.specs.Sheet.{queriesItem, lastSpot, sheetOf, good, bad, textOf}
-use Rattle.sheet.specs.Report.{refusalLines, headLines, joined}
+use Rattle.sheet.specs.Printing.{refusalLines, headLines, joined}
 use Rattle.sheet.specs.Answers.{firstWrong, queryLines, answersReport}
 use Rattle.sheet.specs.Solved.{reportBy, reportFor, solved}
 use Rattle.sheet.specs.Tablet.{textReport, reportOf, answerFor, Ran}
@@ -39,7 +38,7 @@ module _ (xs ds : List ℕ) (few : length ds ≤ COUNT) (short : (i : ℕ) → i
             arith,
             length-append (headLines e r) (joined (queryLines hop reads xs ds) (length ds)),
             length-head e r,
-            length-joined (queryLines hop reads xs ds) 93 (length ds)
+            length-joined (queryLines hop reads xs ds) ANSWER-BYTES (length ds)
                 (λ i h. length-answer _ _ _ _ (short i h)),
           )
 
@@ -76,7 +75,3 @@ unfolding answerFor
 run-writes {s} {out} h ran =
     let e = le-leb (length (reportOf s)) (length out) (omega (arith, report-short s)) in
     ran .answer ∙ rw e
-
--- one answer, and one thing left
-pub ran-unique : {s out o₁ o₂ : List ℕ} {r₁ r₂ : Report} → Ran s out o₁ r₁ → Ran s out o₂ r₂ → (r₁ ≡ r₂) × (o₁ ≡ o₂)
-ran-unique a b = (a .answer ∙ sym (b .answer), a .left ∙ sym (b .left))

@@ -17,9 +17,9 @@ use Rattle.walk.specs.declared.record.Record.{Record}
 use Rattle.layout.proofs.Laid.{hop-longest, reads-blocks}
 use Rattle.sheet.specs.Limits.{LENT-ROWS, LENT-ELEMENTS}
 use Rattle.sheet.specs.Lent.{LentQueries}
-use Rattle.sheet.specs.Report.{refusalLines}
+use Rattle.sheet.specs.Printing.{refusalLines}
 use Rattle.sheet.specs.Answers.{answersReport, hopIn, readsIn, lookedUp}
-use Rattle.sheet.specs.Solved.{kindNamed, chosen, buildOutcome, hopOf, readsOf, reportBy, tableReport, reportFor, solved}
+use Rattle.sheet.specs.Solved.{kindNamed, chosen, buildOutcome, longestHop, blocksRead, reportBy, tableReport, reportFor, solved}
 use Rattle.sheet.specs.Values.{valuesOf}
 use Rattle.sheet.proofs.Queries.{report-same}
 
@@ -32,7 +32,7 @@ module _ (kind : Kind) (W k : ℕ) (vs ls hs : List ℕ) {rec : Record} {rows : 
       let σ = chosen kind W k vs ls hs in
       let t = tableTrie W vs ls hs in
       named (g .width) (g .built .elements ∙ ap (λ (l : ℕ). rowCount σ l t) (g .levels)) (g .built .first ∙ ap (λ (l : ℕ). strideOf σ l t) (g .levels))
-      ∙ report-same (hopIn rec rows) (readsIn rec rows) (hopOf W k vs ls hs) (readsOf W k vs ls hs σ) W xs ds lent
+      ∙ report-same (hopIn rec rows) (readsIn rec rows) (longestHop W k vs ls hs) (blocksRead W k vs ls hs σ) W xs ds lent
       (λ a h. (hop-longest g a h, reads-blocks g a h)) (rowCount σ k t) (strideOf σ k t)
     where
       named : {w v e f r q : ℕ} → w ≡ v → e ≡ f → r ≡ q

@@ -18,7 +18,7 @@ use Rattle.sheet.specs.Lines.{keyAt, countAt, digitsAt, close, bitsLine}
 use Rattle.sheet.specs.Entries.{entryFrom, addressFrom, afterEntries, afterQueries, entryBits, entryLength, entryHop, queryAddress, queryPlaces}
 use Rattle.sheet.specs.Sheet.{Sheet, good, bad, start, widthItem, kindItem, levelsItem, entriesItem, queriesItem, lastSpot, sheetOf, textOf}
 use Rattle.sheet.specs.Spelling.{kindText, entryText, queryText, sheetText, Sound}
-use Rattle.sheet.specs.Report.{places, lineOf, joined}
+use Rattle.sheet.specs.Printing.{places, lineOf, joined}
 use Rattle.sheet.proofs.Steps.{both, number-is, bits-is}
 use Rattle.sheet.proofs.Listing.{listed-length, listed-at}
 use Rattle.sheet.proofs.Whole.{width-line, kind-line, levels-line, entries-line, queries-line, to-last}

@@ -22,7 +22,7 @@ use Rattle.sheet.specs.Lines.{byteAt, keyAt, countAt, valueAt, digitsAt,
 use Rattle.sheet.specs.Entries.{listed, entryFrom, addressFrom, afterEntries, afterQueries, entryBits, entryLength, entryHop, queryAddress, queryPlaces}
 use Rattle.sheet.specs.Sheet.{Sheet, good, bad, start, widthItem, kindItem, levelsItem, entriesItem, queriesItem, lastSpot, sheetOf, textOf}
 use Rattle.sheet.specs.Spelling.{kindText, entryText, queryText, sheetText}
-use Rattle.sheet.specs.Report.{decimal, binary, lineOf, bitsLineOf, joined}
+use Rattle.sheet.specs.Printing.{decimal, binary, lineOf, bitsLineOf, joined}
 use Rattle.sheet.proofs.Keys.{byte-inside}
 use Rattle.sheet.proofs.Digits.{is-digit, counted, value-below, count-most}
 use Rattle.sheet.proofs.Steps.{both}

@@ -2,7 +2,7 @@
 use mathlib.Core.Path.{_≡_, refl, sym, ap, subst, _∙_}
 use mathlib.Core.List.{List}
 use mathlib.Core.Bool.{Bool, true, false, _&&_, cond}
-use Prim.Native.Nat.{ℕ, _*_, _≤_, _<_}
+use Prim.Native.Nat.{ℕ, _+_, _*_, _≤_, _<_}
 use native.Mathlib.Omega.{arith}
 use lib.ListN.{length, getD, take}
 use lib.Seq.{getD-take}
@@ -11,7 +11,7 @@ use Rattle.sheet.specs.declared.lines.Spot.{Spot}
 use Rattle.sheet.specs.declared.lines.Item.{Item}
 use Rattle.sheet.specs.declared.parsing.Head.{Head}
 use Rattle.sheet.specs.declared.parsing.Parsed.{Parsed}
-use Rattle.sheet.specs.Limits.{COUNT, NUMBER-DIGITS, NUMBER, LONGEST}
+use Rattle.sheet.specs.Limits.{COUNT, NUMBER-DIGITS, NUMBER, LINES, LONGEST}
 use Rattle.sheet.specs.Keys.{widthKey, levelsKey, entriesKey, queriesKey, addressKey}
 use Rattle.sheet.specs.Lines.{numberLine, kindLine}
 use Rattle.sheet.specs.Entries.{listed, afterEntries, afterQueries, addressFrom, entryBits, entryLength, queryAddress, queryPlaces, HoldsEntries, HoldsQueries}
@@ -49,11 +49,11 @@ module _ (s : List ℕ) where
   pub to-entries : Step s start 48 4 (entriesItem s .spot)
   to-entries = step-then (step-then (step-then (width-line .step) (kind-line .step)) (levels-line .step)) (entries-line .step)
 
-  pub to-queries : Step s start 3134 133 (queriesItem s .spot)
+  pub to-queries : Step s start (62 + COUNT * 48) (5 + COUNT * 2) (queriesItem s .spot)
   to-queries =
       step-widen (step-then (step-then to-entries after-entries) (queries-line .step)) (omega (arith, entries-line .value)) (omega (arith, entries-line .value))
 
-  pub to-last : Step s start LONGEST 197 (lastSpot s)
+  pub to-last : Step s start LONGEST LINES (lastSpot s)
   unfolding lastSpot
   to-last =
       step-widen (step-then to-queries (queries-step s (queriesItem s .spot) (queriesItem s .value)))
@@ -104,7 +104,7 @@ module _ (s vs ls hs : List ℕ) {h : Head} {after : Spot} {q : Item} (h-read : 
   unfolding queriesItem
   q-is = q-read ∙ ap (numberLine NUMBER-DIGITS COUNT queriesKey s) (entries-held .spot)
 
-  pub queries-step-read : Step s start 3134 133 (q .spot)
+  pub queries-step-read : Step s start (62 + COUNT * 48) (5 + COUNT * 2) (q .spot)
   queries-step-read = rw q-is (to-queries s)
 
   pub queries-few : q .value ≤ COUNT

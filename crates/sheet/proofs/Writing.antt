@@ -13,9 +13,9 @@ use lib.Seq.{length-sets, set-comm, drop-cons}
 use lib.Dec.{ltb, lit<, lit≤}
 use borrow.Author.Tests.{lt-ltb, le-ltb}
 use Rattle.io.specs.Digits.{digits, glyph, Fewest}
-use Rattle.sheet.specs.Limits.{BITS}
+use Rattle.sheet.specs.Limits.{BITS, REFUSAL-BYTES, HEAD-BYTES, ANSWER-BYTES}
 use Rattle.sheet.specs.Keys.{addressKey, hopKey, refusalKey, detailKey, elementsKey, rootKey, readsKey}
-use Rattle.sheet.specs.Report.{placesFrom, places, decimal, binary, lineOf, bitsLineOf, addressLine, refusalLines, headLines, answerLines, joined, written, Wrote}
+use Rattle.sheet.specs.Printing.{placesFrom, places, decimal, binary, lineOf, bitsLineOf, addressLine, refusalLines, headLines, answerLines, joined, written, Wrote}
 
 -- ---- one run of bytes after another
 
@@ -164,11 +164,11 @@ unfolding bitsLineOf
 length-address v n =
     omega (arith, length-append (addressKey ++ binary n v) (10 ∷ []), length-append addressKey (binary n v), length-binary n v)
 
-pub length-refusal : (a b : ℕ) → length (refusalLines a b) ≤ 57
+pub length-refusal : (a b : ℕ) → length (refusalLines a b) ≤ REFUSAL-BYTES
 unfolding refusalLines
 length-refusal a b = omega (arith, length-append (lineOf refusalKey a) (lineOf detailKey b), length-line refusalKey a, length-line detailKey b)
 
-pub length-head : (e r : ℕ) → length (headLines e r) ≤ 113
+pub length-head : (e r : ℕ) → length (headLines e r) ≤ HEAD-BYTES
 unfolding headLines
 length-head e r =
     omega (
@@ -180,7 +180,7 @@ length-head e r =
       length-line rootKey r,
     )
 
-pub length-answer : (v n h r : ℕ) → n ≤ BITS → length (answerLines v n h r) ≤ 93
+pub length-answer : (v n h r : ℕ) → n ≤ BITS → length (answerLines v n h r) ≤ ANSWER-BYTES
 unfolding answerLines
 length-answer v n h r few =
     omega (

@@ -8,7 +8,7 @@ pub mod Entries
 pub mod Sheet
 pub mod Lent
 pub mod Values
-pub mod Report
+pub mod Printing
 pub mod Spelling
 pub mod FirstBad
 pub mod Answers

@@ -20,13 +20,30 @@ HOP = 65535
 abbrev pub BITS : ℕ
 BITS = 32
 
--- no good text has more bytes: 12 for width, 9 for kind, 13 for levels, 14 each for entries and queries, 48 for an entry,
--- 41 for a query
+-- no key has more bytes
+abbrev pub KEY : ℕ
+KEY = 16
+
+-- no good text has more lines: 5, two for an entry, one for a query
+abbrev pub LINES : ℕ
+LINES = 5 + COUNT * 3
+
+-- nor more bytes: 12 for width, 9 for kind, 13 for levels, 14 each for entries and queries, 48 for an entry, 41 for a query
 abbrev pub LONGEST : ℕ
 LONGEST = 62 + COUNT * 89
 
--- the bytes of the page that a report is printed to: at most 113 for the first four lines and 93 for a query, with a number
--- of 20 digits in every line; rounded up
+-- no report has more bytes for a refusal, for its first four lines, and for a query: the keys, BITS digits of an address, and a
+-- number of 20 digits (no u64 has more) and LF in every line
+abbrev pub REFUSAL-BYTES : ℕ
+REFUSAL-BYTES = 57
+
+abbrev pub HEAD-BYTES : ℕ
+HEAD-BYTES = 113
+
+abbrev pub ANSWER-BYTES : ℕ
+ANSWER-BYTES = 93
+
+-- the bytes of the page that a text is read to or a report printed to: LONGEST, and HEAD-BYTES + COUNT * ANSWER-BYTES, rounded up
 abbrev pub PAGE : ℕ
 PAGE = 8192
 

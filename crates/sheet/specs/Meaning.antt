@@ -17,7 +17,7 @@ use Rattle.layout.specs.Laid.{tableTrie}
 use Rattle.tries.specs.Scratch.{ROW}
 use Rattle.sheet.specs.declared.running.Report.{Report}
 use Rattle.sheet.specs.Limits.{LENT-ROWS, LENT-ELEMENTS}
-use Rattle.sheet.specs.Report.{refusalLines}
+use Rattle.sheet.specs.Printing.{refusalLines}
 use Rattle.sheet.specs.Values.{valuesOf}
 use Rattle.sheet.specs.Sheet.{Sheet}
 use Rattle.sheet.specs.Spelling.{sheetText, Sound}

@@ -18,7 +18,7 @@ use Rattle.layout.specs.Laid.{tableTrie}
 use Rattle.tries.specs.Costs.{held}
 use Rattle.tries.specs.Scratch.{ROW}
 use Rattle.sheet.specs.Limits.{LENT-ROWS, LENT-ELEMENTS}
-use Rattle.sheet.specs.Report.{refusalLines}
+use Rattle.sheet.specs.Printing.{refusalLines}
 use Rattle.sheet.specs.Answers.{answersReport}
 use Rattle.sheet.specs.Values.{valuesOf}
 
@@ -28,15 +28,15 @@ kindNamed zero = fixed
 kindNamed (suc n) = variable
 
 module _ (W k : ℕ) (vs ls hs : List ℕ) where
-  abbrev pub hopOf : ℕ → ℕ
-  hopOf = longest W (at vs) (at ls) (at hs) (length vs)
+  abbrev pub longestHop : ℕ → ℕ
+  longestHop = longest W (at vs) (at ls) (at hs) (length vs)
 
-  abbrev pub readsOf : Strides → ℕ → ℕ
-  readsOf σ a = length (blocksAlong σ W (tableTrie W vs ls hs) 0 0 k a)
+  abbrev pub blocksRead : Strides → ℕ → ℕ
+  blocksRead σ a = length (blocksAlong σ W (tableTrie W vs ls hs) 0 0 k a)
 
   -- the report where the build accepts, and has the strides σ
   unfoldable pub reportBy : Strides → (xs ds : List ℕ) → List ℕ
-  reportBy σ xs ds = answersReport hopOf (readsOf σ) xs ds W (rowCount σ k (tableTrie W vs ls hs)) (strideOf σ k (tableTrie W vs ls hs))
+  reportBy σ xs ds = answersReport longestHop (blocksRead σ) xs ds W (rowCount σ k (tableTrie W vs ls hs)) (strideOf σ k (tableTrie W vs ls hs))
 
 module _ (kind : Kind) (W k : ℕ) (vs ls hs : List ℕ) where
   -- the strides that the build chooses

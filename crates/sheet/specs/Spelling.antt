@@ -8,7 +8,7 @@ use lib.ListN.{length}
 use Rattle.table.specs.Table.{at}
 use Rattle.sheet.specs.Limits.{COUNT, NUMBER, HOP, BITS}
 use Rattle.sheet.specs.Keys.{widthKey, fixedKey, variableKey, levelsKey, entriesKey, bitsKey, hopKey, queriesKey, addressKey}
-use Rattle.sheet.specs.Report.{lineOf, bitsLineOf, joined}
+use Rattle.sheet.specs.Printing.{lineOf, bitsLineOf, joined}
 use Rattle.sheet.specs.Sheet.{Sheet}
 
 -- `kind=fst` for 0, `kind=vst` for 1

@@ -9,7 +9,7 @@ use lib.Dec.{leb}
 use Rattle.io.specs.Counts.{Counts}
 use Rattle.sheet.specs.declared.running.Report.{Report}
 use Rattle.sheet.specs.Limits.{PAGE}
-use Rattle.sheet.specs.Report.{refusalLines}
+use Rattle.sheet.specs.Printing.{refusalLines}
 use Rattle.sheet.specs.Sheet.{Text, good, bad, textOf}
 use Rattle.sheet.specs.Solved.{solved}
 

@@ -3,10 +3,10 @@ ghost use mathlib.Core.Path.{_≡_};
 ghost use Prim.Native.Nat.{_+_, _*_, _≤_};
 ghost use lib.ListN.{length};
 ghost use Rattle.walk.specs.Rows.{lists};
-ghost use Rattle.sheet.specs.Limits.{BITS, PAGE};
+ghost use Rattle.sheet.specs.Limits.{BITS, ANSWER-BYTES, PAGE};
 ghost use Rattle.sheet.specs.Lent.{LentQueries};
 ghost use Rattle.walk.specs.Answers.{hopOf, readsOf};
-ghost use Rattle.sheet.specs.Report.{Wrote, answerLines};
+ghost use Rattle.sheet.specs.Printing.{Wrote, answerLines};
 ghost use Rattle.sheet.specs.Answers.{firstWrong, answered, lookedUp};
 use crate::printing::put_answer;
 use crate::printing::put_head;
@@ -31,7 +31,7 @@ fn first_wrong(width: u32, digs: &[u8]) -> usize
 
 // Puts the lines of an answer. (A lookup of an address of the right width is not refused.)
 fn put_found(out: &mut [u8], p: usize, address: u32, n: usize, answer: Answer) -> usize
-    requires { ⌜ (p + 93 ≤ length (now out)) × (n ≤ BITS) ⌝ }
+    requires { ⌜ (p + ANSWER-BYTES ≤ length (now out)) × (n ≤ BITS) ⌝ }
     ensures { λ r. ⌜ Wrote (now (out .entry)) p (answerLines address n (hopOf answer) (readsOf answer)) (now (out .exit)) r ⌝ }
 {
     match answer {
@@ -52,7 +52,7 @@ fn put_answers(
     adds: &[u32],
     digs: &[u8],
 ) -> usize
-    requires { ⌜ (p + length (now digs) * 93 ≤ length (now out)) × LentQueries (now adds) (now digs) ⌝ }
+    requires { ⌜ (p + length (now digs) * ANSWER-BYTES ≤ length (now out)) × LentQueries (now adds) (now digs) ⌝ }
     ensures { λ r. ⌜ Wrote (now (out .entry)) p (answered rec (lists (now (hop .entry)) (now (link .entry)) (now (stride .entry))) (now (adds .entry)) (now (digs .entry))) (now (out .exit)) r ⌝ }
 {
     let mut q = p;

@@ -1,9 +1,9 @@
 // The lines of the entries, bits and hop of each, and those of the queries, an address each. After a bad line the
 // lists get zeros, and the reading stays there.
 ghost use mathlib.Core.Path.{_≡_};
-ghost use Prim.Native.Nat.{_≤_};
+ghost use Prim.Native.Nat.{_+_, _*_, _≤_, _<_};
 ghost use lib.ListN.{length};
-ghost use Rattle.sheet.specs.Limits.{COUNT};
+ghost use Rattle.sheet.specs.Limits.{COUNT, LINES};
 ghost use Rattle.sheet.specs.Entries.{entryFrom, HoldsEntries, HoldsQueries};
 use crate::limits::HOP;
 use crate::limits::NUMBER_DIGITS;
@@ -20,7 +20,7 @@ pub(crate) struct Entry {
 }
 
 fn read_entry(s: &[u8], spot: Spot) -> Entry
-    requires { ⌜ (spot .at ≤ length (now s)) × (spot .line ≤ 5000) ⌝ }
+    requires { ⌜ (spot .at ≤ length (now s)) × (spot .line < LINES) ⌝ }
     ensures { λ r. ⌜ r ≡ entryFrom (now (s .entry)) spot ⌝ }
 {
     let b = bits_line(s, spot, b"bits=", 0);
@@ -43,7 +43,7 @@ pub(crate) fn read_entries(
     lens: &mut [u8],
     hops: &mut [u16],
 ) -> Spot
-    requires { ⌜ (spot .at ≤ length (now s)) × (spot .line ≤ 1000) × (n ≤ COUNT) ⌝ }
+    requires { ⌜ (spot .at ≤ length (now s)) × (spot .line + n * 2 ≤ LINES) × (n ≤ COUNT) ⌝ }
     requires { ⌜ (n ≤ length (now bits)) × (n ≤ length (now lens)) × (n ≤ length (now hops)) ⌝ }
     ensures { λ r. ⌜ HoldsEntries (now (s .entry)) spot n (now (bits .exit)) (now (lens .exit)) (now (hops .exit)) r ⌝ }
 {
@@ -68,7 +68,7 @@ pub(crate) fn read_queries(
     adds: &mut [u32],
     digs: &mut [u8],
 ) -> Spot
-    requires { ⌜ (spot .at ≤ length (now s)) × (spot .line ≤ 1000) × (n ≤ COUNT) ⌝ }
+    requires { ⌜ (spot .at ≤ length (now s)) × (spot .line + n ≤ LINES + 1) × (n ≤ COUNT) ⌝ }
     requires { ⌜ (n ≤ length (now adds)) × (n ≤ length (now digs)) ⌝ }
     ensures { λ r. ⌜ HoldsQueries (now (s .entry)) spot n (now (adds .exit)) (now (digs .exit)) r ⌝ }
 {

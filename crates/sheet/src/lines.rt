@@ -3,6 +3,7 @@
 ghost use mathlib.Core.Path.{_≡_};
 ghost use Prim.Native.Nat.{_+_, _^_, _≤_};
 ghost use lib.ListN.{length};
+ghost use Rattle.sheet.specs.Limits.{BITS, KEY, LINES};
 ghost use Rattle.sheet.specs.Lines.{byteAt, keyAt, isDigit, digitsAt, plain, badLine, close, numberLine, bitsLine, kindLine};
 use crate::limits::BITS;
 
@@ -35,7 +36,7 @@ fn byte(s: &[u8], p: usize) -> u8
 
 // Whether the bytes of the key stand at p.
 fn key_at(s: &[u8], p: usize, key: &[u8]) -> bool
-    requires { ⌜ (p ≤ length (now s)) × (length (now key) ≤ 16) ⌝ }
+    requires { ⌜ (p ≤ length (now s)) × (length (now key) ≤ KEY) ⌝ }
     ensures { λ r. ⌜ r ≡ keyAt (now (key .entry)) (now (s .entry)) p ⌝ }
 {
     let mut i = 0;
@@ -62,7 +63,7 @@ fn is_digit(base: u64, c: u8) -> bool
 
 // The digits from p on, at most `most`.
 fn read_digits(s: &[u8], p: usize, base: u64, most: u32) -> Digits
-    requires { ⌜ (p ≤ length (now s) + 16) × (2 ≤ base) × (base ≤ 10) × (base ^ most ≤ 2 ^ 64) ⌝ }
+    requires { ⌜ (p ≤ length (now s) + KEY) × (2 ≤ base) × (base ≤ 10) × (base ^ most ≤ 2 ^ 64) ⌝ }
     ensures { λ r. ⌜ r ≡ digitsAt base most (now (s .entry)) p ⌝ }
 {
     let mut value: u64 = 0;
@@ -107,7 +108,7 @@ fn bad_line(spot: Spot) -> Item
 
 // The line whose digits were read, where LF stands after them and no line before it was bad.
 fn close_line(s: &[u8], spot: Spot, end: usize, read: Digits) -> Item
-    requires { ⌜ (end ≤ length (now s) + 80) × (spot .line ≤ 10000) ⌝ }
+    requires { ⌜ (end ≤ length (now s) + KEY + BITS) × (spot .line ≤ LINES) ⌝ }
     ensures { λ r. ⌜ r ≡ close (now (s .entry)) spot end read ⌝ }
 {
     if !spot.good {
@@ -127,9 +128,9 @@ fn close_line(s: &[u8], spot: Spot, end: usize, read: Digits) -> Item
     }
 }
 
-// A key and a number: 1 to `digits` decimal digits, no leading zero, at most `most`.
+// A key and a number: 1 to `digits` decimal digits, no leading zero, at most `most`. (19 digits fit in 64 bits.)
 pub(crate) fn number_line(s: &[u8], spot: Spot, key: &[u8], digits: u32, most: u64) -> Item
-    requires { ⌜ (spot .at ≤ length (now s)) × (spot .line ≤ 10000) × (length (now key) ≤ 16) × (digits ≤ 19) ⌝ }
+    requires { ⌜ (spot .at ≤ length (now s)) × (spot .line ≤ LINES) × (length (now key) ≤ KEY) × (digits ≤ 19) ⌝ }
     ensures { λ r. ⌜ r ≡ numberLine digits most (now (key .entry)) (now (s .entry)) spot ⌝ }
 {
     let p = spot.at;
@@ -149,7 +150,7 @@ pub(crate) fn number_line(s: &[u8], spot: Spot, key: &[u8], digits: u32, most: u
 
 // A key and binary digits, at least `least` and at most BITS.
 pub(crate) fn bits_line(s: &[u8], spot: Spot, key: &[u8], least: u32) -> Item
-    requires { ⌜ (spot .at ≤ length (now s)) × (spot .line ≤ 10000) × (length (now key) ≤ 16) ⌝ }
+    requires { ⌜ (spot .at ≤ length (now s)) × (spot .line ≤ LINES) × (length (now key) ≤ KEY) ⌝ }
     ensures { λ r. ⌜ r ≡ bitsLine least (now (key .entry)) (now (s .entry)) spot ⌝ }
 {
     let p = spot.at;
@@ -166,7 +167,7 @@ pub(crate) fn bits_line(s: &[u8], spot: Spot, key: &[u8], least: u32) -> Item
 
 // The kind's line: 0 for fst, 1 for vst.
 pub(crate) fn kind_line(s: &[u8], spot: Spot) -> Item
-    requires { ⌜ (spot .at ≤ length (now s)) × (spot .line ≤ 10000) ⌝ }
+    requires { ⌜ (spot .at ≤ length (now s)) × (spot .line ≤ LINES) ⌝ }
     ensures { λ r. ⌜ r ≡ kindLine (now (s .entry)) spot ⌝ }
 {
     let p = spot.at;

@@ -3,8 +3,8 @@
 ghost use mathlib.Core.Path.{_≡_};
 ghost use Prim.Native.Nat.{_+_, _≤_};
 ghost use lib.ListN.{length};
-ghost use Rattle.sheet.specs.Limits.{BITS};
-ghost use Rattle.sheet.specs.Report.{Wrote, decimal, binary, lineOf, addressLine, refusalLines, headLines, answerLines};
+ghost use Rattle.sheet.specs.Limits.{BITS, REFUSAL-BYTES, HEAD-BYTES, ANSWER-BYTES};
+ghost use Rattle.sheet.specs.Printing.{Wrote, decimal, binary, lineOf, addressLine, refusalLines, headLines, answerLines};
 
 // Puts the bytes of src.
 pub(crate) fn put(out: &mut [u8], p: usize, src: &[u8]) -> usize
@@ -66,7 +66,7 @@ fn put_address(out: &mut [u8], p: usize, v: u32, n: usize) -> usize
 
 // Puts the lines of a refusal: all of a refused run's report.
 pub(crate) fn put_refusal(out: &mut [u8], p: usize, number: u64, detail: u64) -> usize
-    requires { ⌜ p + 57 ≤ length (now out) ⌝ }
+    requires { ⌜ p + REFUSAL-BYTES ≤ length (now out) ⌝ }
     ensures { λ r. ⌜ Wrote (now (out .entry)) p (refusalLines number detail) (now (out .exit)) r ⌝ }
 {
     let q = put_line(out, p, b"refusal=", number);
@@ -75,7 +75,7 @@ pub(crate) fn put_refusal(out: &mut [u8], p: usize, number: u64, detail: u64) ->
 
 // Puts the first four lines of an accepted run's report.
 pub(crate) fn put_head(out: &mut [u8], elements: u32, root: u8) -> usize
-    requires { ⌜ 113 ≤ length (now out) ⌝ }
+    requires { ⌜ HEAD-BYTES ≤ length (now out) ⌝ }
     ensures { λ r. ⌜ Wrote (now (out .entry)) 0 (headLines elements root) (now (out .exit)) r ⌝ }
 {
     let p = put_refusal(out, 0, 0, 0);
@@ -92,7 +92,7 @@ pub(crate) fn put_answer(
     hop: u16,
     reads: u32,
 ) -> usize
-    requires { ⌜ (p + 93 ≤ length (now out)) × (n ≤ BITS) ⌝ }
+    requires { ⌜ (p + ANSWER-BYTES ≤ length (now out)) × (n ≤ BITS) ⌝ }
     ensures { λ r. ⌜ Wrote (now (out .entry)) p (answerLines address n hop reads) (now (out .exit)) r ⌝ }
 {
     let q = put_address(out, p, address, n);

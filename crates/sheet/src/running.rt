@@ -4,7 +4,7 @@ ghost use Prim.Native.Nat.{_≤_};
 ghost use lib.ListN.{length, replicate};
 ghost use Rattle.io.specs.Counts.{Counts};
 ghost use Rattle.sheet.specs.Limits.{PAGE};
-ghost use Rattle.sheet.specs.Report.{Wrote};
+ghost use Rattle.sheet.specs.Printing.{Wrote};
 ghost use Rattle.sheet.specs.Tablet.{reportOf, Ran, PageRan, Fits};
 ghost use Rattle.sheet.specs.Meaning.{Reports, PageReports};
 use crate::limits::COUNT;

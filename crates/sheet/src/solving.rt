@@ -5,7 +5,7 @@ ghost use lib.ListN.{length};
 ghost use Rattle.tries.specs.Kinds.{kindOf};
 ghost use Rattle.sheet.specs.Limits.{PAGE};
 ghost use Rattle.sheet.specs.Lent.{LentEntries, LentQueries};
-ghost use Rattle.sheet.specs.Report.{Wrote};
+ghost use Rattle.sheet.specs.Printing.{Wrote};
 ghost use Rattle.sheet.specs.Solved.{kindNamed, solved};
 use crate::answering::put_report;
 use crate::printing::put_refusal;

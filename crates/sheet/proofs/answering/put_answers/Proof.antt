@@ -6,16 +6,17 @@ use denote.Ref.{now}
 use lib.ListN.{length}
 use Rattle.table.specs.Table.{at}
 use Rattle.walk.specs.Rows.{lists}
-use Rattle.sheet.specs.Report.{joined, Wrote}
+use Rattle.sheet.specs.Printing.{joined, Wrote}
 use Rattle.sheet.specs.Answers.{queryLines, hopIn, readsIn}
 use Rattle.sheet.proofs.Writing.{wrote-length, wrote-up-to, length-answer, joined-none}
 use Rattle.sheet.proofs.Queries.{query-more}
+use Rattle.sheet.specs.Limits.{ANSWER-BYTES}
 use borrow.Author.Needs.{needs}
 use Rattle.sheet.proofs.answering.put_answers.Statement.{statement}
 use Rattle.sheet.proofs.answering.put_answers.Tie as tie
 
 abbrev Inv-loop : tie.InvT-loop
-Inv-loop out₀ p rec hop link stride adds digs q₀ i₀ out q i = (i ≤ length digs) × (q ≤ p + i * 93) × Wrote out₀ p (joined (queryLines (hopIn rec (lists hop link stride)) (readsIn rec (lists hop link stride)) adds digs) i) out q
+Inv-loop out₀ p rec hop link stride adds digs q₀ i₀ out q i = (i ≤ length digs) × (q ≤ p + i * ANSWER-BYTES) × Wrote out₀ p (joined (queryLines (hopIn rec (lists hop link stride)) (readsIn rec (lists hop link stride)) adds digs) i) out q
 
 abbrev μ-loop : tie.MeasureT-loop
 μ-loop out₀ p rec hop link stride adds digs q₀ i₀ out q i = length digs - i
@@ -56,7 +57,7 @@ loop-again c =
     let l = f .before .before .before .before .before .before in
     let s = l .before .before .before .before .before .before .before in (
       omega arith,
-      omega (arith, wrote-up-to 93 (length-answer _ _ _ _ (s .pre .1 .short (l .loop .i) (omega arith))) (f .put-found .ensures)),
+      omega (arith, wrote-up-to ANSWER-BYTES (length-answer _ _ _ _ (s .pre .1 .short (l .loop .i) (omega arith))) (f .put-found .ensures)),
       query-more _ _ _ _ (l .loop .i) (f .before .before .before .lookup .ensures .0) (l .loop .inv .2) (f .put-found .ensures),
     )
 

@@ -3,6 +3,7 @@ use Prim.Native.Nat.{_-_}
 use native.Mathlib.Omega.{arith}
 use Rattle.sheet.proofs.Writing.{wrote-then, wrote-is, wrote-up-to, length-head}
 use Rattle.sheet.proofs.Queries.{report-wrong, report-right}
+use Rattle.sheet.specs.Limits.{HEAD-BYTES}
 use borrow.Author.Needs.{needs}
 use Rattle.sheet.proofs.answering.put_report.Statement.{statement}
 use Rattle.sheet.proofs.answering.put_report.Tie as tie
@@ -29,7 +30,7 @@ put-answers-requires : tie.Need-put-answers-requires
 put-answers-requires c κs =
     let h = c .before .before .before in
     let s = c .before .before .before .before .before .before .before .before .before .before .before .before .before .before in
-    (omega (arith, s .pre .0, s .pre .1 .few, wrote-up-to 113 (length-head _ _) (h .put-head .ensures)), s .pre .1)
+    (omega (arith, s .pre .0, s .pre .1 .few, wrote-up-to HEAD-BYTES (length-head _ _) (h .put-head .ensures)), s .pre .1)
 
 same-length-2 : tie.Need-same-length-2
 same-length-2 c = search needs

@@ -3,7 +3,7 @@ use mathlib.Core.Path.{_≡_, refl, sym, _∙_}
 use Prim.Native.Nat.{_+_, _-_, _≤_}
 use native.Mathlib.Omega.{arith}
 use lib.ListN.{length, drop, length-set}
-use Rattle.sheet.specs.Report.{written}
+use Rattle.sheet.specs.Printing.{written}
 use Rattle.sheet.proofs.Writing.{put-start, put-go, put-end}
 use borrow.Author.Needs.{needs}
 use Rattle.sheet.proofs.printing.put.Statement.{statement}

@@ -2,7 +2,7 @@
 use Prim.Native.Nat.{_-_, _≤_}
 use native.Mathlib.Omega.{arith}
 use lib.Dec.{lit≤}
-use Rattle.sheet.specs.Report.{bitsLineOf}
+use Rattle.sheet.specs.Printing.{bitsLineOf}
 use Rattle.sheet.proofs.Writing.{wrote-then, length-binary}
 use Rattle.sheet.proofs.Writing.{wrote-up-to}
 use borrow.Author.Needs.{needs}

@@ -2,7 +2,7 @@
 use Prim.Native.Nat.{_-_}
 use native.Mathlib.Omega.{arith}
 use Rattle.sheet.specs.Keys.{hopKey}
-use Rattle.sheet.specs.Report.{answerLines}
+use Rattle.sheet.specs.Printing.{answerLines}
 use Rattle.sheet.proofs.Writing.{wrote-then, length-line, length-address}
 use Rattle.sheet.proofs.Writing.{wrote-up-to}
 use borrow.Author.Needs.{needs}

@@ -2,9 +2,10 @@
 use Prim.Native.Nat.{_-_}
 use native.Mathlib.Omega.{arith}
 use Rattle.sheet.specs.Keys.{elementsKey}
-use Rattle.sheet.specs.Report.{headLines}
+use Rattle.sheet.specs.Printing.{headLines}
 use Rattle.sheet.proofs.Writing.{wrote-then, length-line, length-refusal}
 use Rattle.sheet.proofs.Writing.{wrote-up-to}
+use Rattle.sheet.specs.Limits.{REFUSAL-BYTES}
 use borrow.Author.Needs.{needs}
 use Rattle.sheet.proofs.printing.put_head.Statement.{statement}
 use Rattle.sheet.proofs.printing.put_head.Tie as tie
@@ -16,7 +17,7 @@ slice-aggregate-put-line : tie.Need-slice-aggregate-put-line
 slice-aggregate-put-line c = search needs
 
 put-line-requires : tie.Need-put-line-requires
-put-line-requires c κs = omega (arith, wrote-up-to 57 (length-refusal 0 0) (c .before .before .before .before .put-refusal .ensures))
+put-line-requires c κs = omega (arith, wrote-up-to REFUSAL-BYTES (length-refusal 0 0) (c .before .before .before .before .put-refusal .ensures))
 
 slice-aggregate-put-line-2 : tie.Need-slice-aggregate-put-line-2
 slice-aggregate-put-line-2 c = search needs
@@ -24,7 +25,7 @@ slice-aggregate-put-line-2 c = search needs
 put-line-requires-2 : tie.Need-put-line-requires-2
 put-line-requires-2 c κs =
     let q = c .before .before .before .before in
-    omega (arith, wrote-up-to 57 (length-refusal 0 0) (q .before .before .before .before .before .put-refusal .ensures), wrote-up-to 30 (length-line elementsKey _) (q .put-line .ensures))
+    omega (arith, wrote-up-to REFUSAL-BYTES (length-refusal 0 0) (q .before .before .before .before .before .put-refusal .ensures), wrote-up-to 30 (length-line elementsKey _) (q .put-line .ensures))
 
 same-length : tie.Need-same-length
 same-length c = search needs

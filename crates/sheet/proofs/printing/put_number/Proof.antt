@@ -4,7 +4,7 @@ use Prim.Native.Nat.{_-_, _≤_}
 use native.Mathlib.Omega.{arith}
 use native.Mathlib.Nat.{sub-zero}
 use lib.ListN.{length, take}
-use Rattle.sheet.specs.Report.{decimal}
+use Rattle.sheet.specs.Printing.{decimal}
 use Rattle.sheet.proofs.Writing.{wrote-is, fewest-few, fewest-decimal}
 use borrow.Author.Needs.{needs}
 use Rattle.sheet.proofs.printing.put_number.Statement.{statement}

@@ -2,7 +2,7 @@
 use Prim.Native.Nat.{_-_}
 use native.Mathlib.Omega.{arith}
 use Rattle.sheet.specs.Keys.{refusalKey}
-use Rattle.sheet.specs.Report.{refusalLines}
+use Rattle.sheet.specs.Printing.{refusalLines}
 use Rattle.sheet.proofs.Writing.{wrote-then, length-line}
 use Rattle.sheet.proofs.Writing.{wrote-up-to}
 use borrow.Author.Needs.{needs}
