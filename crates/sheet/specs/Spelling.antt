@@ -1,5 +1,5 @@
 -- The text that says a sheet (01, "The tablet program"), line after line, each number without leading zeros. No other text
--- is good (proofs/Spelled.antt, `good-is-spelled`): "anything else, extra text or an early end is 11". And the text of
+-- is good (proofs/Following.antt, `good-is-spelled`): "anything else, extra text or an early end is 11". And the text of
 -- every sound sheet is good and says that sheet (proofs/Sound.antt, `spelled-is-good`).
 use mathlib.Core.Path.{_≡_}
 use mathlib.Core.List.{List, [], _∷_, _++_}
