@@ -225,7 +225,7 @@ module _ (s : List ℕ) (m : ℕ) (o : Opens s (suc m)) where
       let w = stage-number s ours theirs goal widthKey refl NUMBER (sh .width) (lit≤ tt) (o .sound .width-fits) start _ stage-start in
       let p = widthItem s .spot in
       let c = stage-line s ours theirs goal (Unit {0}) (kindText (sh .kind)) _ p _ (kind-line-one (sh .kind)) (kind-turn s p)
-      (λ rest h. (tt, kind-read s p rest (sh .kind) (o .sound .kind-fits) h .ahead)) w in
+      (λ rest h. (tt, kind-read s p rest (sh .kind) h .1)) w in
       stage-number s ours theirs goal levelsKey refl NUMBER (sh .levels) (lit≤ tt) (o .sound .levels-fit) (kindItem s .spot) levelsRest c
 
   stage-after : Stage s ours theirs goal (Unit {0}) (afterEntries s (entriesItem s .spot) (entriesItem s .value)) entriesRest

@@ -7,6 +7,8 @@ use native.Mathlib.Omega.{arith}
 use native.Mathlib.Nat.{zero-add}
 use lib.Dec.{eqb, ltb}
 use borrow.Author.Tests.{ne-eqb}
+use Rattle.tries.specs.declared.chooser.Kind.{Kind}
+use Rattle.tries.specs.declared.chooser.Kind.the-variants.{Fixed, Variable}
 use Rattle.io.specs.Digits.{digits, glyph}
 use Rattle.sheet.specs.Printing.{places, decimal, binary, lineOf, bitsLineOf}
 use Rattle.sheet.specs.Keys.{fixedKey, variableKey}
@@ -186,7 +188,7 @@ module _ (key : List ℕ) (clean : lineCount key ≡ 0) where
   bits-line-one v n = keyed 2 n v
 
 -- the kind's line
-pub kind-line-one : (v : ℕ) → OneLine (kindText v)
+pub kind-line-one : (k : Kind) → OneLine (kindText k)
 unfolding kindText lineCount
-kind-line-one zero = clean-line fixedKey refl
-kind-line-one (suc v) = clean-line variableKey refl
+kind-line-one Fixed = clean-line fixedKey refl
+kind-line-one Variable = clean-line variableKey refl

@@ -20,12 +20,12 @@ use Rattle.sheet.specs.Limits.{COUNT, NUMBER-DIGITS, NUMBER, HOP, BITS}
 use Rattle.sheet.specs.Keys.{widthKey, fixedKey, variableKey, levelsKey, entriesKey, bitsKey, hopKey, queriesKey, addressKey}
 use Rattle.sheet.specs.Lines.{byteAt, keyAt, digitsAt, plain, badLine, close, numberLine, bitsLine, kindLine}
 use Rattle.sheet.specs.Entries.{listed, entryFrom, addressFrom, afterEntries, afterQueries, entryBits, entryLength, entryHop, queryAddress, queryPlaces}
-use Rattle.sheet.specs.Sheet.{Sheet, good, bad, start, widthItem, kindItem, levelsItem, entriesItem, queriesItem, lastSpot, sheetOf, textOf}
+use Rattle.sheet.specs.Sheet.{Sheet, kindNamed, good, bad, start, widthItem, kindItem, levelsItem, entriesItem, queriesItem, lastSpot, sheetOf, textOf}
 use Rattle.sheet.specs.Spelling.{kindText, entryText, queryText, sheetText, Sound}
 use Rattle.sheet.specs.Printing.{lineOf, bitsLineOf, joined}
 use Rattle.sheet.specs.FirstBad.{lineCount, firstLines, Opens}
 use Rattle.sheet.proofs.Listing.{listed-length, listed-at, listed-same}
-use Rattle.sheet.proofs.Whole.{width-line, kind-line, levels-line, entries-line, queries-line}
+use Rattle.sheet.proofs.Whole.{width-line, levels-line, entries-line, queries-line}
 use Rattle.sheet.proofs.Writing.{joined-same}
 use Rattle.sheet.proofs.Spelled.{Stretch, number-spelled, bits-spelled, kind-spelled}
 use Rattle.sheet.proofs.Sound.{bits-enough, entry-fits, query-fits}
@@ -111,8 +111,8 @@ module _ (key : List ℕ) (clean : lineCount key ≡ 0) (s : List ℕ) (p : Spot
         stands = λ e. rw (same e) (bits-spelled key s p least e);
       }
 
-kind-took : (s : List ℕ) (p : Spot) → Took s p (kindText (kindLine s p .value)) (kindLine s p .spot)
-kind-took s p = record { turn = kind-turn s p; one = kind-line-one (kindLine s p .value); stands = λ e. kind-spelled s p e }
+kind-took : (s : List ℕ) (p : Spot) → Took s p (kindText (kindNamed (kindLine s p .value))) (kindLine s p .spot)
+kind-took s p = record { turn = kind-turn s p; one = kind-line-one (kindNamed (kindLine s p .value)); stands = λ e. kind-spelled s p e }
 
 -- ---- lines that were read, and what the text would go on with
 
@@ -199,7 +199,7 @@ module _ (s : List ℕ) where
   madeWhole =
       record {
         width = widthItem s .value;
-        kind = kindItem s .value;
+        kind = kindNamed (kindItem s .value);
         levels = levelsItem s .value;
         bits = listed (entryBits s (entriesItem s .spot)) (entriesItem s .value);
         lengths = listed (entryLength s (entriesItem s .spot)) (entriesItem s .value);
@@ -211,7 +211,7 @@ module _ (s : List ℕ) where
   abbrev lineBytes : List ℕ
   lineBytes =
       lineOf widthKey (widthItem s .value)
-      ++ kindText (kindItem s .value)
+      ++ kindText (kindNamed (kindItem s .value))
       ++ lineOf levelsKey (levelsItem s .value)
       ++ lineOf entriesKey (entriesItem s .value)
       ++ joined (entryBytes s (entriesItem s .spot)) (entriesItem s .value)
@@ -258,7 +258,6 @@ module _ (s : List ℕ) where
       let m = queriesItem s .value in
       record {
         width-fits = width-line s .value;
-        kind-fits = kind-line s .value;
         levels-fit = levels-line s .value;
         entries-few = rw (listed-length (entryBits s p) n) (entries-line s .value);
         as-many-lengths = listed-length (entryLength s p) n ∙ sym (listed-length (entryBits s p) n);
@@ -341,8 +340,7 @@ good-is-whole s sh e = go (lastSpot s .good) (eqb (lastSpot s .at) (length s)) r
     go : (t u : Bool) → lastSpot s .good ≡ t → eqb (lastSpot s .at) (length s) ≡ u
         → cond (t && u) (good (sheetOf s)) (bad (lastSpot s .line)) ≡ good sh → Sound sh × (s ≡ sheetText sh)
     go true true f g h =
-        let x : sheetOf s ≡ sh = cc in
-        (
+        let x : sheetOf s ≡ sh = cc in (
           subst Sound (sym (sheet-whole s f) ∙ x) (whole-sound s),
           sheet-spelled s f (eqb-true (lastSpot s .at) (length s) g) ∙ ap sheetText x,
         )

@@ -13,6 +13,8 @@ use lib.Seq.{getD-drop, drop-drop, drop-append-seam, append-snoc, ext-getD}
 use lib.Dec.{eqb, ltb, lit<, lit≤}
 use borrow.Author.Tests.{lt-ltb, le-ltb, le-leb, eq-eqb, eqb-true}
 use Rattle.table.specs.Table.{at}
+use Rattle.tries.specs.declared.chooser.Kind.{Kind}
+use Rattle.tries.specs.declared.chooser.Kind.the-variants.{Fixed, Variable}
 use Rattle.io.specs.Digits.{digits, glyph, Fewest}
 use Rattle.sheet.specs.declared.lines.Spot.{Spot}
 use Rattle.sheet.specs.declared.lines.Item.{Item}
@@ -20,6 +22,7 @@ use Rattle.sheet.specs.Limits.{NUMBER-DIGITS, NUMBER, HOP, BITS}
 use Rattle.sheet.specs.Keys.{fixedKey, variableKey, bitsKey, hopKey, addressKey}
 use Rattle.sheet.specs.Lines.{byteAt, keyAt, isDigit, countAt, valueAt, digitsAt, plain, close, numberLine, bitsLine, kindLine}
 use Rattle.sheet.specs.Entries.{listed, entryFrom, addressFrom, afterEntries, afterQueries, entryBits, entryLength, entryHop, queryAddress, queryPlaces}
+use Rattle.sheet.specs.Sheet.{kindNamed}
 use Rattle.sheet.specs.Spelling.{kindText, entryText, queryText}
 use Rattle.sheet.specs.Printing.{placesFrom, places, decimal, binary, lineOf, bitsLineOf, joined}
 use Rattle.sheet.proofs.Digits.{is-digit, value-more, digits-are}
@@ -224,15 +227,24 @@ unfolding keyAt byteAt
 not-fixed s p rest h =
     ap (keyAt fixedKey s) (sym (add-zero p)) ∙ key-moves fixedKey s p 0 ∙ ap (λ (l : List ℕ). keyAt fixedKey l 0) h
 
-pub kind-read : (s : List ℕ) (p : Spot) (rest : List ℕ) (v : ℕ) → v ≤ 1 → Ahead s p (kindText v ++ rest) → ReadAs s rest v 0 (kindLine s p)
+fixed-read : (s : List ℕ) (p : Spot) (rest : List ℕ) → Ahead s p (kindText Fixed ++ rest) → ReadAs s rest 0 0 (kindLine s p)
 unfolding kindLine kindText
-kind-read s p rest zero few h =
+fixed-read s p rest h =
     rw (key-stands fixedKey s (p .at) (10 ∷ rest) (h .left))
     (close-read s p (p .at + 8) 0 0 rest (h .on) (skip s (p .at) fixedKey (10 ∷ rest) (h .left)))
-kind-read s p rest (suc zero) few h =
+
+variable-read : (s : List ℕ) (p : Spot) (rest : List ℕ) → Ahead s p (kindText Variable ++ rest) → ReadAs s rest 1 0 (kindLine s p)
+unfolding kindLine kindText
+variable-read s p rest h =
     rw (not-fixed s (p .at) (10 ∷ rest) (h .left), key-stands variableKey s (p .at) (10 ∷ rest) (h .left))
     (close-read s p (p .at + 8) 1 0 rest (h .on) (skip s (p .at) variableKey (10 ∷ rest) (h .left)))
-kind-read s p rest (suc (suc v)) few h = absurd (omega arith)
+
+-- the kind's line is read as that kind
+pub kind-read : (s : List ℕ) (p : Spot) (rest : List ℕ) (k : Kind) → Ahead s p (kindText k ++ rest)
+    → (kindNamed (kindLine s p .value) ≡ k) × Ahead s (kindLine s p .spot) rest
+unfolding kindNamed
+kind-read s p rest Fixed h = let w = fixed-read s p rest h in (rw (w .value), w .ahead)
+kind-read s p rest Variable h = let w = variable-read s p rest h in (rw (w .value), w .ahead)
 
 -- ---- entries and queries
 

@@ -8,6 +8,7 @@ use lib.Dec.{eqb, ltb}
 use lib.ListN.{length, length-append}
 use borrow.Author.Tests.{le-leb}
 use Rattle.table.specs.Table.{at}
+use Rattle.tries.specs.declared.chooser.Kind.{Kind}
 use Rattle.table.specs.declared.entry.Outcome.{Outcome}
 use Rattle.table.specs.declared.entry.Outcome.the-variants.{Accepted, Refused}
 use Rattle.sheet.specs.declared.running.Report.{Report}
@@ -47,7 +48,7 @@ module _ (xs ds : List ℕ) (few : length ds ≤ COUNT) (short : (i : ℕ) → i
   for-short Accepted bytes h = h
   for-short (Refused n d) bytes h = omega (arith, length-refusal n d)
 
-  solved-short : (n W k : ℕ) (bits ls hs : List ℕ) → length (solved n W k bits ls hs xs ds) ≤ PAGE
+  solved-short : (n : Kind) (W k : ℕ) (bits ls hs : List ℕ) → length (solved n W k bits ls hs xs ds) ≤ PAGE
   unfolding solved reportBy
   solved-short n W k bits ls hs = for-short _ _ (answers-short _ _ W _ _)
 

@@ -11,6 +11,7 @@ use lib.Dec.{leb, lit<}
 use borrow.Author.Tests.{le-leb, lt-leb}
 use Rattle.io.specs.Counts.{Counts}
 use Rattle.table.specs.Table.{at}
+use Rattle.tries.specs.declared.chooser.Kind.{Kind}
 use Rattle.sheet.specs.declared.parsing.Parsed.{Parsed}
 use Rattle.sheet.specs.declared.running.Report.{Report}
 use Rattle.sheet.specs.Limits.{COUNT, LONGEST, PAGE}
@@ -29,7 +30,7 @@ module _ (s vs ls hs xs ds : List ℕ) {t : Parsed} (read : parsedText t vs ls h
   unfolding reportOf textReport parsedText
   report-bad is = rw (sym read, is)
 
-  pub report-good : {w k l n m : ℕ} → t ≡ Parsed.Good w k l n m
+  pub report-good : {k : Kind} {w l n m : ℕ} → t ≡ Parsed.Good w k l n m
       → solved k w l (take (n - 0) vs) (take (n - 0) ls) (take (n - 0) hs) (take (m - 0) xs) (take (m - 0) ds) ≡ reportOf s
   unfolding reportOf textReport parsedText
   report-good {n = n} {m = m} is = rw (sub-zero n, sub-zero m, sym read, is)
@@ -43,7 +44,7 @@ part-length n xs h = rw sub-zero (length-take-le n xs h)
 part-at : (n : ℕ) (xs : List ℕ) (i : ℕ) → i < n → at (take (n - 0) xs) i ≡ at xs i
 part-at n xs i h = rw sub-zero (getD-take n xs i 0 h)
 
-module _ (vs ls xs ds : List ℕ) {t : Parsed} {w k l n m : ℕ} (is : t ≡ Parsed.Good w k l n m) (small : Small t vs ls xs ds) where
+module _ (vs ls xs ds : List ℕ) {t : Parsed} {k : Kind} {w l n m : ℕ} (is : t ≡ Parsed.Good w k l n m) (small : Small t vs ls xs ds) where
   pub small-of : Small (Parsed.Good w k l n m) vs ls xs ds
   small-of = subst (λ (x : Parsed). Small x vs ls xs ds) is small
 

@@ -2,24 +2,26 @@
 -- report says.
 use mathlib.Core.Path.{_≡_, refl, sym, ap, _∙_}
 use mathlib.Core.List.{List}
-use Prim.Native.Nat.{ℕ, zero, suc, _*_}
+use Prim.Native.Nat.{ℕ, _*_}
 use lib.ListN.{length}
 use Rattle.table.specs.declared.entry.Outcome.{Outcome}
 use Rattle.table.specs.declared.entry.Outcome.the-variants.{Accepted, Refused}
-use Rattle.strides.specs.Cheapest.{Kind, fixed, variable}
+use Rattle.strides.specs.Cheapest.{Kind}
 use Rattle.walk.specs.Limits.{WIDTH}
 use Rattle.walk.specs.Rows.{Lists, shortest}
 use Rattle.layout.specs.Blocks.{rowCount, strideOf}
 use Rattle.tries.specs.Build.{BuildIs}
 use Rattle.layout.specs.Laid.{tableTrie, Laid}
 use Rattle.tries.specs.Scratch.{ROW}
+use Rattle.tries.specs.Kinds.{kindOf}
+use Rattle.tries.specs.declared.chooser.Kind as code
 use Rattle.walk.specs.declared.record.Record.{Record}
 use Rattle.layout.proofs.Laid.{hop-longest, reads-blocks}
 use Rattle.sheet.specs.Limits.{LENT-ROWS, LENT-ELEMENTS}
 use Rattle.sheet.specs.Lent.{LentQueries}
 use Rattle.sheet.specs.Printing.{refusalLines}
 use Rattle.sheet.specs.Answers.{answersReport, hopIn, readsIn, lookedUp}
-use Rattle.sheet.specs.Solved.{kindNamed, chosen, buildOutcome, longestHop, blocksRead, reportBy, tableReport, reportFor, solved}
+use Rattle.sheet.specs.Solved.{chosen, buildOutcome, longestHop, blocksRead, reportBy, tableReport, reportFor, solved}
 use Rattle.sheet.specs.Values.{valuesOf}
 use Rattle.sheet.proofs.Queries.{report-same}
 
@@ -55,28 +57,17 @@ module _ (kind : Kind) (W k : ℕ) (vs ls hs : List ℕ) {rec : Record} {rows : 
     unfolding reportFor
     built-accepted is xs ds q = rw (sym outcome-is, is) (looked-up-laid (b .written .laid is) xs ds q)
 
--- ---- the kind, as the text names it
-
-pub kind-fixed : (n : ℕ) → n ≡ 0 → fixed ≡ kindNamed n
-unfolding kindNamed
-kind-fixed n e = rw e
-
-pub kind-variable : (n : ℕ) → (n ≡ 0 → ⊥) → variable ≡ kindNamed n
-unfolding kindNamed
-kind-variable zero h = absurd (h refl)
-kind-variable (suc n) h = refl
-
 -- ---- a sheet: vs are the values that were placed, and what was lent is what the program lends
 
-module _ (n W k : ℕ) (bits ls hs : List ℕ) {kind : Kind} {vs scratch scratch′ : List ℕ} {lent rows : Lists} {out : Outcome} {rec : Record}
-    (named : kind ≡ kindNamed n) (placed : vs ≡ valuesOf W bits ls) (words : length scratch ≡ LENT-ROWS * ROW) (room : shortest lent ≡ LENT-ELEMENTS)
-    (b : BuildIs kind W k vs ls hs scratch lent out rec scratch′ rows) (xs ds : List ℕ) where
-  solved-is : reportFor (buildOutcome kind W k vs ls hs) (tableReport kind W k vs ls hs xs ds) ≡ solved n W k bits ls hs xs ds
+module _ (named : code.Kind) (W k : ℕ) (bits ls hs : List ℕ) {vs scratch scratch′ : List ℕ} {lent rows : Lists} {out : Outcome} {rec : Record}
+    (placed : vs ≡ valuesOf W bits ls) (words : length scratch ≡ LENT-ROWS * ROW) (room : shortest lent ≡ LENT-ELEMENTS)
+    (b : BuildIs (kindOf named) W k vs ls hs scratch lent out rec scratch′ rows) (xs ds : List ℕ) where
+  solved-is : reportFor (buildOutcome (kindOf named) W k vs ls hs) (tableReport (kindOf named) W k vs ls hs xs ds) ≡ solved named W k bits ls hs xs ds
   unfolding solved
-  solved-is = rw (named, placed)
+  solved-is = rw placed
 
-  pub solved-refused : {number detail : ℕ} → out ≡ Refused number detail → refusalLines number detail ≡ solved n W k bits ls hs xs ds
-  solved-refused is = built-refused kind W k vs ls hs words room b is (tableReport kind W k vs ls hs xs ds) ∙ solved-is
+  pub solved-refused : {number detail : ℕ} → out ≡ Refused number detail → refusalLines number detail ≡ solved named W k bits ls hs xs ds
+  solved-refused is = built-refused (kindOf named) W k vs ls hs words room b is (tableReport (kindOf named) W k vs ls hs xs ds) ∙ solved-is
 
-  pub solved-accepted : out ≡ Accepted → LentQueries xs ds → lookedUp rec rows xs ds ≡ solved n W k bits ls hs xs ds
-  solved-accepted is q = built-accepted kind W k vs ls hs words room b is xs ds q ∙ solved-is
+  pub solved-accepted : out ≡ Accepted → LentQueries xs ds → lookedUp rec rows xs ds ≡ solved named W k bits ls hs xs ds
+  solved-accepted is q = built-accepted (kindOf named) W k vs ls hs words room b is xs ds q ∙ solved-is

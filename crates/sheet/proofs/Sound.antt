@@ -15,7 +15,7 @@ use Rattle.sheet.specs.Limits.{COUNT, NUMBER-DIGITS, NUMBER, HOP, BITS}
 use Rattle.sheet.specs.Keys.{widthKey, levelsKey, entriesKey, bitsKey, hopKey, queriesKey, addressKey}
 use Rattle.sheet.specs.Lines.{keyAt, countAt, digitsAt, close, bitsLine}
 use Rattle.sheet.specs.Entries.{entryFrom, addressFrom, afterEntries, afterQueries, entryBits, entryLength, entryHop, queryAddress, queryPlaces}
-use Rattle.sheet.specs.Sheet.{Sheet, good, bad, start, widthItem, kindItem, levelsItem, entriesItem, queriesItem, lastSpot, sheetOf, textOf}
+use Rattle.sheet.specs.Sheet.{Sheet, kindNamed, good, bad, start, widthItem, kindItem, levelsItem, entriesItem, queriesItem, lastSpot, sheetOf, textOf}
 use Rattle.sheet.specs.Spelling.{kindText, entryText, queryText, sheetText, Sound}
 use Rattle.sheet.specs.Printing.{places, lineOf, joined}
 use Rattle.sheet.proofs.Steps.{both, number-is, bits-is}
@@ -78,14 +78,14 @@ module _ (sh : Sheet) (sound : Sound sh) (extra : List ℕ) where
     unfolding widthItem
     width-said = number-read widthKey s start (kindText (sh .kind) ++ kindRest) NUMBER (sh .width) (lit≤ tt) (sound .width-fits) all-ahead
 
-    kind-said : ReadAs s kindRest (sh .kind) 0 (kindItem s)
+    kind-said : (kindNamed (kindItem s .value) ≡ sh .kind) × Ahead s (kindItem s .spot) kindRest
     unfolding kindItem
-    kind-said = kind-read s (widthItem s .spot) kindRest (sh .kind) (sound .kind-fits) (width-said .ahead)
+    kind-said = kind-read s (widthItem s .spot) kindRest (sh .kind) (width-said .ahead)
 
     levels-said : ReadAs s (lineOf entriesKey n ++ countRest) (sh .levels) (places (sh .levels)) (levelsItem s)
     unfolding levelsItem
     levels-said =
-        number-read levelsKey s (kindItem s .spot) (lineOf entriesKey n ++ countRest) NUMBER (sh .levels) (lit≤ tt) (sound .levels-fit) (kind-said .ahead)
+        number-read levelsKey s (kindItem s .spot) (lineOf entriesKey n ++ countRest) NUMBER (sh .levels) (lit≤ tt) (sound .levels-fit) (kind-said .1)
 
     count-said : ReadAs s countRest n (places n) (entriesItem s)
     unfolding entriesItem
@@ -112,7 +112,7 @@ module _ (sh : Sheet) (sound : Sound sh) (extra : List ℕ) where
     sheet-said =
         rw (
           width-said .value,
-          kind-said .value,
+          kind-said .0,
           levels-said .value,
           count-said .value,
           queries-count-said .value,

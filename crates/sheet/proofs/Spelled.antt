@@ -20,7 +20,7 @@ use Rattle.sheet.specs.Limits.{COUNT, NUMBER-DIGITS, NUMBER, HOP, BITS}
 use Rattle.sheet.specs.Keys.{widthKey, fixedKey, variableKey, levelsKey, entriesKey, bitsKey, hopKey, queriesKey, addressKey}
 use Rattle.sheet.specs.Lines.{byteAt, keyAt, countAt, valueAt, digitsAt, plain, badLine, close, numberLine, bitsLine, kindLine}
 use Rattle.sheet.specs.Entries.{listed, entryFrom, addressFrom, afterEntries, afterQueries, entryBits, entryLength, entryHop, queryAddress, queryPlaces}
-use Rattle.sheet.specs.Sheet.{Sheet, good, bad, start, widthItem, kindItem, levelsItem, entriesItem, queriesItem, lastSpot, sheetOf, textOf}
+use Rattle.sheet.specs.Sheet.{kindNamed}
 use Rattle.sheet.specs.Spelling.{kindText, entryText, queryText, sheetText}
 use Rattle.sheet.specs.Printing.{decimal, binary, lineOf, bitsLineOf, joined}
 use Rattle.sheet.proofs.Keys.{byte-inside}
@@ -182,12 +182,12 @@ module _ (key s : List ℕ) (p : Spot) where
       R : Item → Type 0
       R l = Stretch s p (l .spot) (key ++ binary (l .count) (l .value) ++ (10 ∷ []))
 
-pub kind-spelled : (s : List ℕ) (p : Spot) → kindLine s p .spot .good ≡ true → Stretch s p (kindLine s p .spot) (kindText (kindLine s p .value))
-unfolding kindLine kindText
+pub kind-spelled : (s : List ℕ) (p : Spot) → kindLine s p .spot .good ≡ true → Stretch s p (kindLine s p .spot) (kindText (kindNamed (kindLine s p .value)))
+unfolding kindLine kindText kindNamed
 kind-spelled s p e = go (keyAt fixedKey s (p .at)) (keyAt variableKey s (p .at)) refl refl e
   where
     R : Item → Type 0
-    R l = Stretch s p (l .spot) (kindText (l .value))
+    R l = Stretch s p (l .spot) (kindText (kindNamed (l .value)))
 
     -- eight bytes, and LF
     eight : (key : List ℕ) → length key ≡ 8 → keyAt key s (p .at) ≡ true → p .good ≡ true → byteAt s (p .at + 8) ≡ 10

@@ -2,11 +2,13 @@
 use mathlib.Core.Path.{_≡_, refl, sym, ap, subst, _∙_}
 use mathlib.Core.List.{List}
 use mathlib.Core.Bool.{Bool, true, false, _&&_, cond}
-use Prim.Native.Nat.{ℕ, _+_, _*_, _≤_, _<_}
+use Prim.Native.Nat.{ℕ, zero, suc, _+_, _*_, _≤_, _<_}
 use native.Mathlib.Omega.{arith}
 use lib.ListN.{length, getD, take}
 use lib.Seq.{getD-take}
 use lib.Dec.{eqb}
+use Rattle.tries.specs.declared.chooser.Kind.{Kind}
+use Rattle.tries.specs.declared.chooser.Kind.the-variants.{Fixed, Variable}
 use Rattle.sheet.specs.declared.lines.Spot.{Spot}
 use Rattle.sheet.specs.declared.lines.Item.{Item}
 use Rattle.sheet.specs.declared.parsing.Head.{Head}
@@ -15,7 +17,7 @@ use Rattle.sheet.specs.Limits.{COUNT, NUMBER-DIGITS, NUMBER, LINES, LONG
 use Rattle.sheet.specs.Keys.{widthKey, levelsKey, entriesKey, queriesKey, addressKey}
 use Rattle.sheet.specs.Lines.{numberLine, kindLine}
 use Rattle.sheet.specs.Entries.{listed, afterEntries, afterQueries, addressFrom, entryBits, entryLength, queryAddress, queryPlaces, HoldsEntries, HoldsQueries}
-use Rattle.sheet.specs.Sheet.{good, bad, start, widthItem, kindItem, levelsItem, entriesItem, queriesItem, lastSpot, sheetOf, headOf, textOf, concluded, parsedText, Small}
+use Rattle.sheet.specs.Sheet.{kindNamed, good, bad, start, widthItem, kindItem, levelsItem, entriesItem, queriesItem, lastSpot, sheetOf, headOf, textOf, concluded, parsedText, Small}
 use Rattle.sheet.proofs.Steps.{Line, Step, step-then, step-widen, UpTo, number-is, bits-is, kind-is}
 use Rattle.sheet.proofs.Listing.{listed-at, entry-spells, entries-step, queries-step}
 
@@ -59,10 +61,21 @@ module _ (s : List ℕ) where
       step-widen (step-then to-queries (queries-step s (queriesItem s .spot) (queriesItem s .value)))
       (omega (arith, queries-line .value)) (omega (arith, queries-line .value))
 
+-- ---- the kind, as its line names it
+
+pub kind-fixed : (n : ℕ) → n ≡ 0 → Fixed ≡ kindNamed n
+unfolding kindNamed
+kind-fixed n e = rw e
+
+pub kind-variable : (n : ℕ) → (n ≡ 0 → ⊥) → Variable ≡ kindNamed n
+unfolding kindNamed
+kind-variable zero h = absurd (h refl)
+kind-variable (suc n) h = refl
+
 -- ---- the first four lines, as they were read
 
 module _ (s : List ℕ) {w k l n : Item} (w-read : w ≡ numberLine NUMBER-DIGITS NUMBER widthKey s start) (k-read : k ≡ kindLine s (w .spot))
-    (l-read : l ≡ numberLine NUMBER-DIGITS NUMBER levelsKey s (k .spot)) (n-read : n ≡ numberLine NUMBER-DIGITS COUNT entriesKey s (l .spot)) where
+    (l-read : l ≡ numberLine NUMBER-DIGITS NUMBER levelsKey s (k .spot)) (n-read : n ≡ numberLine NUMBER-DIGITS COUNT entriesKey s (l .spot)) {c : Kind} (c-read : c ≡ kindNamed (k .value)) where
   w-is : w ≡ widthItem s
   unfolding widthItem
   w-is = w-read
@@ -79,9 +92,9 @@ module _ (s : List ℕ) {w k l n : Item} (w-read : w ≡ numberLine NUMBER-DIGIT
   unfolding entriesItem
   n-is = n-read ∙ ap (λ (x : Item). numberLine NUMBER-DIGITS COUNT entriesKey s (x .spot)) l-is
 
-  pub head-read : _≡_ {A = Head} (record { width = w .value; kind = k .value; levels = l .value; entries = n .value; spot = n .spot }) (headOf s)
+  pub head-read : _≡_ {A = Head} (record { width = w .value; kind = c; levels = l .value; entries = n .value; spot = n .spot }) (headOf s)
   unfolding headOf
-  head-read = rw (w-is, k-is, l-is, n-is)
+  head-read = rw (w-is, c-read, k-is, l-is, n-is)
 
 module _ (s : List ℕ) {h : Head} (h-read : h ≡ headOf s) where
   pub head-step : Step s start 48 4 (h .spot)
@@ -129,7 +142,7 @@ module _ (s vs ls hs : List ℕ) {h : Head} {after : Spot} {q : Item} (h-read : 
         go : (t : Bool)
             → parsedText
             (cond t
-            (Parsed.Good (widthItem s .value) (kindItem s .value) (levelsItem s .value) (entriesItem s .value) (queriesItem s .value))
+            (Parsed.Good (widthItem s .value) (kindNamed (kindItem s .value)) (levelsItem s .value) (entriesItem s .value) (queriesItem s .value))
             (Parsed.Bad (lastSpot s .line)))
             vs ls hs xs ds
             ≡ cond t (good (sheetOf s)) (bad (lastSpot s .line))
@@ -146,7 +159,7 @@ module _ (s vs ls hs : List ℕ) {h : Head} {after : Spot} {q : Item} (h-read : 
         go : (t : Bool)
             → Small
             (cond t
-            (Parsed.Good (widthItem s .value) (kindItem s .value) (levelsItem s .value) (entriesItem s .value) (queriesItem s .value))
+            (Parsed.Good (widthItem s .value) (kindNamed (kindItem s .value)) (levelsItem s .value) (entriesItem s .value) (queriesItem s .value))
             (Parsed.Bad (lastSpot s .line)))
             vs ls xs ds
         go true = (

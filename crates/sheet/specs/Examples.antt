@@ -3,9 +3,10 @@ use mathlib.Core.Path.{_≡_, refl}
 use mathlib.Core.List.{List, [], _∷_, _++_}
 use Prim.Native.Nat.{ℕ}
 use lib.ListN.{take}
+use Rattle.tries.specs.declared.chooser.Kind.the-variants.{Variable}
 use Rattle.sheet.specs.Lines.{byteAt, keyAt, isDigit, countAt, valueAt, digitsAt, plain, badLine, close, numberLine, bitsLine, kindLine}
 use Rattle.sheet.specs.Entries.{listed, entryFrom, addressFrom, afterEntries, afterQueries, entryBits, entryLength, entryHop, queryAddress, queryPlaces}
-use Rattle.sheet.specs.Sheet.{Sheet, good, bad, widthItem, kindItem, levelsItem, entriesItem, queriesItem, lastSpot, sheetOf, textOf}
+use Rattle.sheet.specs.Sheet.{Sheet, good, bad, widthItem, kindItem, levelsItem, entriesItem, queriesItem, lastSpot, kindNamed, sheetOf, textOf}
 
 -- width=3, kind=vst, levels=2, entries=2, bits=1, hop=1, bits=101, hop=2, queries=3, address=101, address=111, address=011
 abbrev pub run : List ℕ
@@ -21,7 +22,7 @@ abbrev pub runSheet : Sheet
 runSheet =
     record {
       width = 3;
-      kind = 1;
+      kind = Variable;
       levels = 2;
       bits = 0b1 ∷ 0b101 ∷ [];
       lengths = 1 ∷ 3 ∷ [];
@@ -33,5 +34,5 @@ runSheet =
 -- read; cut inside line 10; cut after line 2; a byte after the end; and `width=03`
 texts : (textOf run ≡ good runSheet) × (textOf (take 83 run) ≡ bad 10) × (textOf (take 17 run) ≡ bad 3)
     × (textOf (run ++ (32 ∷ [])) ≡ bad 13) × (textOf (119 ∷ 105 ∷ 100 ∷ 116 ∷ 104 ∷ 61 ∷ 48 ∷ 51 ∷ 10 ∷ []) ≡ bad 1)
-unfolding byteAt keyAt isDigit countAt valueAt digitsAt plain badLine close numberLine bitsLine kindLine listed entryFrom addressFrom afterEntries afterQueries entryBits entryLength entryHop queryAddress queryPlaces widthItem kindItem levelsItem entriesItem queriesItem lastSpot sheetOf textOf
+unfolding byteAt keyAt isDigit countAt valueAt digitsAt plain badLine close numberLine bitsLine kindLine listed entryFrom addressFrom afterEntries afterQueries entryBits entryLength entryHop queryAddress queryPlaces widthItem kindItem levelsItem entriesItem queriesItem lastSpot kindNamed sheetOf textOf
 texts = (refl, refl, refl, refl, refl)

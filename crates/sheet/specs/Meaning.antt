@@ -13,7 +13,8 @@ use Rattle.strides.specs.Cheapest.{Kind, Cheapest}
 use Rattle.strides.specs.Strides.{Follows}
 use Rattle.layout.specs.Blocks.{Strides}
 use Rattle.tries.specs.Build.{buildTests}
-use Rattle.layout.specs.Laid.{tableTrie}
+use Rattle.layout.specs.Built.{tableTrie}
+use Rattle.tries.specs.Kinds.{kindOf}
 use Rattle.tries.specs.Scratch.{ROW}
 use Rattle.sheet.specs.declared.running.Report.{Report}
 use Rattle.sheet.specs.Limits.{LENT-ROWS, LENT-ELEMENTS}
@@ -22,7 +23,7 @@ use Rattle.sheet.specs.Values.{valuesOf}
 use Rattle.sheet.specs.Sheet.{Sheet}
 use Rattle.sheet.specs.Spelling.{sheetText, Sound}
 use Rattle.sheet.specs.FirstBad.{FirstBad}
-use Rattle.sheet.specs.Solved.{kindNamed, reportBy}
+use Rattle.sheet.specs.Solved.{reportBy}
 use Rattle.sheet.specs.Tablet.{answerFor, leftFor, Begins}
 
 -- the report of a table and its queries
@@ -36,7 +37,7 @@ pub record Solves (kind : Kind) (W k : ℕ) (vs ls hs xs ds bytes : List ℕ) : 
 -- the report of a sheet
 abbrev pub SheetSolves : Sheet → (bytes : List ℕ) → Type 0
 SheetSolves sh bytes =
-    Solves (kindNamed (sh .kind)) (sh .width) (sh .levels) (valuesOf (sh .width) (sh .bits) (sh .lengths)) (sh .lengths) (sh .hops)
+    Solves (kindOf (sh .kind)) (sh .width) (sh .levels) (valuesOf (sh .width) (sh .bits) (sh .lengths)) (sh .lengths) (sh .hops)
     (sh .addresses) (sh .places) bytes
 
 -- the report of a text: that of the sound sheet whose text it is; or refusal 11, the first bad line as detail

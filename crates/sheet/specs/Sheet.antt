@@ -3,10 +3,12 @@
 -- first bad line has a number; text after the last line is bad at the line after it.
 use mathlib.Core.List.{List}
 use mathlib.Core.Bool.{true, _&&_, cond}
-use Prim.Native.Nat.{ℕ, _^_, _≤_, _<_}
+use Prim.Native.Nat.{ℕ, zero, suc, _^_, _≤_, _<_}
 use lib.ListN.{length, take}
 use lib.Dec.{eqb}
 use Rattle.table.specs.Table.{at}
+use Rattle.tries.specs.declared.chooser.Kind.{Kind}
+use Rattle.tries.specs.declared.chooser.Kind.the-variants.{Fixed, Variable}
 use Rattle.sheet.specs.declared.lines.Spot.{Spot}
 use Rattle.sheet.specs.declared.lines.Item.{Item}
 use Rattle.sheet.specs.declared.parsing.Head.{Head}
@@ -16,11 +18,10 @@ use Rattle.sheet.specs.Keys.{widthKey, levelsKey, entriesKey, queriesKey
 use Rattle.sheet.specs.Lines.{numberLine, kindLine}
 use Rattle.sheet.specs.Entries.{listed, afterEntries, afterQueries, entryBits, entryLength, entryHop, queryAddress, queryPlaces}
 
--- what a good text says: bits and addresses as the numbers that their digits spell, with the counts of the digits; the
--- kind is 0 for fst, 1 for vst
+-- what a good text says: bits and addresses as the numbers that their digits spell, with the counts of the digits
 pub record Sheet : Type 0 where
   pub width : ℕ
-  pub kind : ℕ
+  pub kind : Kind
   pub levels : ℕ
   pub bits : List ℕ
   pub lengths : List ℕ
@@ -31,6 +32,11 @@ pub record Sheet : Type 0 where
 pub data Text : Type 0 where
   good : Sheet → Text
   bad : ℕ → Text
+
+-- the kind by the value of its line: 0 is fst, 1 is vst
+unfoldable pub kindNamed : ℕ → Kind
+kindNamed zero = Fixed
+kindNamed (suc n) = Variable
 
 -- lines are numbered from 1
 abbrev pub start : Spot
@@ -61,7 +67,7 @@ module _ (s : List ℕ) where
   sheetOf =
       record {
         width = widthItem .value;
-        kind = kindItem .value;
+        kind = kindNamed (kindItem .value);
         levels = levelsItem .value;
         bits = listed (entryBits s (entriesItem .spot)) (entriesItem .value);
         lengths = listed (entryLength s (entriesItem .spot)) (entriesItem .value);
@@ -78,7 +84,7 @@ module _ (s : List ℕ) where
   headOf =
       record {
         width = widthItem .value;
-        kind = kindItem .value;
+        kind = kindNamed (kindItem .value);
         levels = levelsItem .value;
         entries = entriesItem .value;
         spot = entriesItem .spot;

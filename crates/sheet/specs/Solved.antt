@@ -2,30 +2,27 @@
 -- values of the table; elements and root are those of its rows; the hop of an address is that of the longest entry that
 -- matches it, and its reads the number of blocks on its path.
 use mathlib.Core.List.{List}
-use Prim.Native.Nat.{ℕ, zero, suc, _*_}
+use Prim.Native.Nat.{ℕ, _*_}
 use lib.ListN.{length}
 use Rattle.table.specs.Table.{at}
 use Rattle.table.specs.Longest.{longest}
 use Rattle.table.specs.Refusals.{outcome}
 use Rattle.table.specs.declared.entry.Outcome.{Outcome}
 use Rattle.table.specs.declared.entry.Outcome.the-variants.{Accepted, Refused}
-use Rattle.strides.specs.Cheapest.{Kind, fixed, variable}
+use Rattle.strides.specs.Cheapest.{Kind}
 use Rattle.strides.specs.Recurrence.{plain, leastBy}
 use Rattle.strides.specs.Strides.{chosenBy}
 use Rattle.layout.specs.Blocks.{Strides, blocksAlong, rowCount, strideOf}
 use Rattle.tries.specs.Build.{buildTests}
 use Rattle.layout.specs.Laid.{tableTrie}
 use Rattle.tries.specs.Costs.{held}
+use Rattle.tries.specs.Kinds.{kindOf}
+use Rattle.tries.specs.declared.chooser.Kind as code
 use Rattle.tries.specs.Scratch.{ROW}
 use Rattle.sheet.specs.Limits.{LENT-ROWS, LENT-ELEMENTS}
 use Rattle.sheet.specs.Printing.{refusalLines}
 use Rattle.sheet.specs.Answers.{answersReport}
 use Rattle.sheet.specs.Values.{valuesOf}
-
--- 0 is fst, 1 is vst
-unfoldable pub kindNamed : ℕ → Kind
-kindNamed zero = fixed
-kindNamed (suc n) = variable
 
 module _ (W k : ℕ) (vs ls hs : List ℕ) where
   abbrev pub longestHop : ℕ → ℕ
@@ -55,7 +52,7 @@ unfoldable pub reportFor : Outcome → List ℕ → List ℕ
 reportFor Accepted bytes = bytes
 reportFor (Refused number detail) bytes = refusalLines number detail
 
-unfoldable pub solved : (kind W k : ℕ) (bits lengths hops addresses places : List ℕ) → List ℕ
+unfoldable pub solved : (kind : code.Kind) (W k : ℕ) (bits lengths hops addresses places : List ℕ) → List ℕ
 solved kind W k bits lengths hops addresses places =
     let vs = valuesOf W bits lengths in
-    reportFor (buildOutcome (kindNamed kind) W k vs lengths hops) (tableReport (kindNamed kind) W k vs lengths hops addresses places)
+    reportFor (buildOutcome (kindOf kind) W k vs lengths hops) (tableReport (kindOf kind) W k vs lengths hops addresses places)

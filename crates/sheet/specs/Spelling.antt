@@ -3,18 +3,20 @@
 -- every sound sheet is good and says that sheet (proofs/Sound.antt, `spelled-is-good`).
 use mathlib.Core.Path.{_≡_}
 use mathlib.Core.List.{List, [], _∷_, _++_}
-use Prim.Native.Nat.{ℕ, zero, suc, _^_, _≤_, _<_}
+use Prim.Native.Nat.{ℕ, _^_, _≤_, _<_}
 use lib.ListN.{length}
 use Rattle.table.specs.Table.{at}
+use Rattle.tries.specs.declared.chooser.Kind.{Kind}
+use Rattle.tries.specs.declared.chooser.Kind.the-variants.{Fixed, Variable}
 use Rattle.sheet.specs.Limits.{COUNT, NUMBER, HOP, BITS}
 use Rattle.sheet.specs.Keys.{widthKey, fixedKey, variableKey, levelsKey, entriesKey, bitsKey, hopKey, queriesKey, addressKey}
 use Rattle.sheet.specs.Printing.{lineOf, bitsLineOf, joined}
 use Rattle.sheet.specs.Sheet.{Sheet}
 
--- `kind=fst` for 0, `kind=vst` for 1
-unfoldable pub kindText : ℕ → List ℕ
-kindText zero = fixedKey ++ (10 ∷ [])
-kindText (suc n) = variableKey ++ (10 ∷ [])
+-- `kind=fst` or `kind=vst`
+unfoldable pub kindText : Kind → List ℕ
+kindText Fixed = fixedKey ++ (10 ∷ [])
+kindText Variable = variableKey ++ (10 ∷ [])
 
 -- entry i and query i
 unfoldable pub entryText : (bits lengths hops : List ℕ) → ℕ → List ℕ
@@ -37,7 +39,6 @@ sheetText sh =
 -- numbers within the text's limits; bits and addresses are numbers of so many binary digits, an address of one at least
 pub record Sound (sh : Sheet) : Type 0 where
   pub width-fits : sh .width ≤ NUMBER
-  pub kind-fits : sh .kind ≤ 1
   pub levels-fit : sh .levels ≤ NUMBER
   pub entries-few : length (sh .bits) ≤ COUNT
   pub as-many-lengths : length (sh .lengths) ≡ length (sh .bits)

@@ -3,7 +3,7 @@ ghost use mathlib.Core.Path.{_≡_};
 ghost use Prim.Native.Nat.{_≤_};
 ghost use lib.ListN.{length};
 ghost use Rattle.sheet.specs.Limits.{COUNT};
-ghost use Rattle.sheet.specs.Sheet.{headOf, textOf, concluded, parsedText, Small};
+ghost use Rattle.sheet.specs.Sheet.{kindNamed, headOf, textOf, concluded, parsedText, Small};
 use crate::entries::read_entries;
 use crate::entries::read_queries;
 use crate::limits::COUNT;
@@ -12,11 +12,12 @@ use crate::limits::NUMBER_DIGITS;
 use crate::lines::Spot;
 use crate::lines::kind_line;
 use crate::lines::number_line;
+use tries::Kind;
 
-// The first four lines, and where the reading stands after them. The kind is 0 for fst, 1 for vst.
+// The first four lines, and where the reading stands after them.
 pub(crate) struct Head {
     pub(crate) width: u32,
-    pub(crate) kind: u32,
+    pub(crate) kind: Kind,
     pub(crate) levels: u32,
     pub(crate) entries: usize,
     pub(crate) spot: Spot,
@@ -25,12 +26,22 @@ pub(crate) struct Head {
 pub(crate) enum Parsed {
     Good {
         width: u32,
-        kind: u32,
+        kind: Kind,
         levels: u32,
         entries: usize,
         queries: usize,
     },
     Bad(u32),
+}
+
+// The kind that its line names: 0 is fst, 1 is vst.
+fn kind_named(value: u64) -> Kind
+    ensures { λ r. ⌜ r ≡ kindNamed value ⌝ }
+{
+    if value == 0 {
+        return Kind::Fixed;
+    }
+    Kind::Variable
 }
 
 fn read_head(s: &[u8]) -> Head
@@ -43,12 +54,13 @@ fn read_head(s: &[u8]) -> Head
     };
     let w = number_line(s, start, b"width=", NUMBER_DIGITS, NUMBER);
     let k = kind_line(s, w.spot);
+    let kind = kind_named(k.value);
     let l = number_line(s, k.spot, b"levels=", NUMBER_DIGITS, NUMBER);
     let n = number_line(s, l.spot, b"entries=", NUMBER_DIGITS, COUNT);
     let spot = n.spot;
     Head {
         width: w.value as u32,
-        kind: k.value as u32,
+        kind,
         levels: l.value as u32,
         entries: n.value as usize,
         spot,
@@ -65,9 +77,10 @@ fn conclude(head: Head, queries: usize, last: Spot, end: usize) -> Parsed
     if last.at != end {
         return Parsed::Bad(last.line);
     }
+    let kind = head.kind;
     Parsed::Good {
         width: head.width,
-        kind: head.kind,
+        kind,
         levels: head.levels,
         entries: head.entries,
         queries,

@@ -2,11 +2,10 @@
 ghost use mathlib.Core.Path.{_≡_};
 ghost use Prim.Native.Nat.{_≤_};
 ghost use lib.ListN.{length};
-ghost use Rattle.tries.specs.Kinds.{kindOf};
 ghost use Rattle.sheet.specs.Limits.{PAGE};
 ghost use Rattle.sheet.specs.Lent.{LentEntries, LentQueries};
 ghost use Rattle.sheet.specs.Printing.{Wrote};
-ghost use Rattle.sheet.specs.Solved.{kindNamed, solved};
+ghost use Rattle.sheet.specs.Solved.{solved};
 use crate::answering::put_report;
 use crate::printing::put_refusal;
 use crate::rooms::hop_room;
@@ -17,20 +16,10 @@ use crate::values::place_values;
 use table::Outcome;
 use tries::Kind;
 
-// The kind that the text names: 0 is fst, 1 is vst.
-fn kind_named(kind: u32) -> Kind
-    ensures { λ r. ⌜ kindOf r ≡ kindNamed kind ⌝ }
-{
-    if kind == 0 {
-        return Kind::Fixed;
-    }
-    Kind::Variable
-}
-
 // Builds the sheet's table and puts the report. The entries' bits become values where they stand.
 pub(crate) fn solve(
     out: &mut [u8],
-    kind: u32,
+    kind: Kind,
     width: u32,
     levels: u32,
     vals: &mut [u32],
@@ -48,7 +37,7 @@ pub(crate) fn solve(
     let mut link = link_room();
     let mut stride = stride_room();
     let built = tries::build(
-        kind_named(kind),
+        kind,
         width,
         levels,
         vals,

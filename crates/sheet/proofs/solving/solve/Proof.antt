@@ -14,11 +14,15 @@ use Rattle.sheet.proofs.solving.solve.Statement.{statement}
 use Rattle.sheet.proofs.solving.solve.Tie as tie
 
 -- what is lent
-words : (b : tie.After-build) → length (b .before .before .before .before .before .before .before .before .before .before .scratch-room .result) ≡ LENT-ROWS * ROW
-words b = sym (b .before .before .before .before .before .before .before .before .before .before .scratch-room .ensures)
+words : (b : tie.After-build) → length (b .before .before .before .before .before .before .before .before .before .scratch-room .result) ≡ LENT-ROWS * ROW
+words b = sym (b .before .before .before .before .before .before .before .before .before .scratch-room .ensures)
 
-room : (b : tie.After-build) → shortest (lists (b .before .before .before .before .before .before .before .before .before .hop-room .result) (b .before .before .before .before .before .before .before .before .link-room .result) (b .before .before .before .before .before .before .before .stride-room .result)) ≡ LENT-ELEMENTS
-room b = omega (arith, b .before .before .before .before .before .before .before .before .before .hop-room .ensures, b .before .before .before .before .before .before .before .before .link-room .ensures, b .before .before .before .before .before .before .before .stride-room .ensures)
+room : (b : tie.After-build) →
+    let s = b .before .before .before .before .before .before in
+    shortest (lists (s .before .before .hop-room .result) (s .before .link-room .result) (s .stride-room .result)) ≡ LENT-ELEMENTS
+room b =
+    let s = b .before .before .before .before .before .before in
+    omega (arith, s .before .before .hop-room .ensures, s .before .link-room .ensures, s .stride-room .ensures)
 
 place-values-requires : tie.Need-place-values-requires
 place-values-requires c κs = search needs
@@ -34,9 +38,6 @@ link-room-requires c κs = search needs
 
 stride-room-requires : tie.Need-stride-room-requires
 stride-room-requires c κs = search needs
-
-kind-named-requires : tie.Need-kind-named-requires
-kind-named-requires c κs = search needs
 
 slice-aggregate-build : tie.Need-slice-aggregate-build
 slice-aggregate-build c = search needs
@@ -60,7 +61,10 @@ cast-put-refusal : tie.Need-cast-put-refusal
 cast-put-refusal c = search needs
 
 put-refusal-requires : tie.Need-put-refusal-requires
-put-refusal-requires c κs = omega (arith, c .before .before .before .before .before .before .before .before .before .before .before .before .before .before .before .before .before .before .before .before .before .before .before .before .before .before .before .before .before .before .pre .0)
+put-refusal-requires c κs =
+    let b = c .before .before .before .before .before .before .before .before .before .before in
+    let a = b .before .before .before .before .before .before .before .before .before .before .before .before .before .before .before .before .before .before .before in
+    omega (arith, a .pre .0)
 
 enum-told : tie.Need-enum-told
 enum-told c = search needs
@@ -75,34 +79,42 @@ slice-aggregate-put-report-3 : tie.Need-slice-aggregate-put-report-3
 slice-aggregate-put-report-3 c = search needs
 
 put-report-requires : tie.Need-put-report-requires
-put-report-requires c κs = (c .before .before .before .before .before .before .before .before .before .before .before .before .before .before .before .before .before .before .before .before .before .before .before .before .before .before .before .before .before .before .before .before .pre .0, c .before .before .before .before .before .before .before .before .before .before .before .before .before .before .before .before .before .before .before .before .before .before .before .before .before .before .before .before .before .before .before .before .pre .2)
+put-report-requires c κs =
+    let b = c .before .before .before .before .before .before .before .before .before .before .before .before in
+    let a = b .before .before .before .before .before .before .before .before .before .before .before .before .before .before .before .before .before .before .before in
+    (a .pre .0, a .pre .2)
 
 same-length : tie.Need-same-length
 same-length c = search needs
 
 same-length-2 : tie.Need-same-length-2
-same-length-2 c = c .before .before .before .before .before .before .before .before .before .before .before .before .before .before .before .before .before .before .before .before .before .before .before .before .before .place-values .kept .1 .0
+same-length-2 c =
+    let b = c .before .before .before .before .before .before .before .before .before .before .before .before in
+    b .before .before .before .before .before .before .before .before .before .before .before .before .place-values .kept .1 .0
 
 returns : tie.Need-returns
 returns c =
     let b = c .before .before .before .before .before .before .before .before .before .before .before .before in
+    let v = b .before .before .before .before .before .before .before .before .before .before .before .before in
     wrote-is
-    (solved-refused _ _ _ _ _ _ (b .before .before .before .before .before .before .kind-named .ensures) (b .before .before .before .before .before .before .before .before .before .before .before .before .before .place-values .ensures) (words b) (room b) (b .build .ensures .0) _ _
-    (c .before .before .before .before .before .outcome .given .1))
+    (solved-refused _ _ _ _ _ _ (v .place-values .ensures) (words b) (room b) (b .build .ensures .0) _ _ (c .before .before .before .before .before .outcome .given .1))
     (c .before .before .put-refusal .ensures)
 
 same-length-3 : tie.Need-same-length-3
 same-length-3 c = search needs
 
 same-length-4 : tie.Need-same-length-4
-same-length-4 c = c .before .before .before .before .before .before .before .before .before .before .before .before .before .before .before .before .before .before .before .before .before .before .before .before .before .before .before .place-values .kept .1 .0
+same-length-4 c =
+    let b = c .before .before .before .before .before .before .before .before .before .before .before .before .before .before in
+    b .before .before .before .before .before .before .before .before .before .before .before .before .place-values .kept .1 .0
 
 returns-2 : tie.Need-returns-2
 returns-2 c =
     let b = c .before .before .before .before .before .before .before .before .before .before .before .before .before .before in
+    let v = b .before .before .before .before .before .before .before .before .before .before .before .before in
+    let lent = v .before .before .before .before .before .before .before .before .pre .2 in
     wrote-is
-    (solved-accepted _ _ _ _ _ _ (b .before .before .before .before .before .before .kind-named .ensures) (b .before .before .before .before .before .before .before .before .before .before .before .before .before .place-values .ensures) (words b) (room b) (b .build .ensures .0) _ _
-    (c .before .before .before .before .before .before .before .enum-told .given .1) (c .before .before .before .before .before .before .before .before .before .before .before .before .before .before .before .before .before .before .before .before .before .before .before .before .before .before .before .before .before .before .before .before .before .before .before .pre .2))
+    (solved-accepted _ _ _ _ _ _ (v .place-values .ensures) (words b) (room b) (b .build .ensures .0) _ _ (c .before .before .before .before .before .before .before .enum-told .given .1) lent)
     (c .before .before .put-report .ensures)
 
 pub solve-spec : {M : Type 1} → statement M
@@ -114,7 +126,6 @@ solve-spec =
     hop-room-requires
     link-room-requires
     stride-room-requires
-    kind-named-requires
     slice-aggregate-build
     slice-aggregate-build-2
     slice-aggregate-build-3

@@ -1,8 +1,8 @@
 -- The two kinds.
 use Prim.Native.Nat.{_-_}
-use Rattle.sheet.proofs.Solutions.{kind-fixed, kind-variable}
-use Rattle.sheet.proofs.solving.kind_named.Statement.{statement}
-use Rattle.sheet.proofs.solving.kind_named.Tie as tie
+use Rattle.sheet.proofs.Whole.{kind-fixed, kind-variable}
+use Rattle.sheet.proofs.parsing.kind_named.Statement.{statement}
+use Rattle.sheet.proofs.parsing.kind_named.Tie as tie
 
 returns : tie.Need-returns
 returns c = kind-fixed _ (c .if1 .taken)
