@@ -8,23 +8,23 @@ use Prim.Native.Nat.{ℕ, zero, suc, _+_, _-_, _^_, _≤_, _<_}
 use Prim.Dec.{yes, no}
 use native.Mathlib.Omega.{arith}
 use native.Mathlib.Decide.{decLt}
-use lib.ListN.{length, take, drop, length-append, length-drop, take-append-drop}
+use lib.ListN.{length, take, drop, length-drop, take-append-drop}
 use lib.Dec.{eqb, lit≤}
 use borrow.Author.Tests.{ne-eqb}
 use Rattle.table.specs.Table.{at}
 use Rattle.sheet.specs.declared.lines.Spot.{Spot}
 use Rattle.sheet.specs.Limits.{COUNT, NUMBER-DIGITS, NUMBER, HOP, BITS}
-use Rattle.sheet.specs.Keys.{widthKey, fixedKey, variableKey, levelsKey, entriesKey, bitsKey, hopKey, queriesKey, addressKey}
+use Rattle.sheet.specs.Keys.{widthKey, levelsKey, entriesKey, bitsKey, hopKey, queriesKey, addressKey}
 use Rattle.sheet.specs.Lines.{numberLine, bitsLine}
 use Rattle.sheet.specs.Entries.{entryFrom, addressFrom, afterEntries, afterQueries}
 use Rattle.sheet.specs.Sheet.{Sheet, Text, good, bad, start, widthItem, kindItem, levelsItem, entriesItem, queriesItem, lastSpot, sheetOf, textOf}
 use Rattle.sheet.specs.Spelling.{kindText, entryText, queryText, sheetText, Sound}
 use Rattle.sheet.specs.Printing.{lineOf, bitsLineOf, joined}
 use Rattle.sheet.specs.FirstBad.{lineCount, firstLines, Opens, FirstBad}
-use Rattle.sheet.proofs.ReadBack.{Ahead, ReadAs, number-read, bits-read, kind-read}
+use Rattle.sheet.proofs.ReadBack.{Ahead, number-read, bits-read, kind-read}
 use Rattle.sheet.proofs.Sound.{eight, spelled-is-read, spelled-is-good}
 use Rattle.sheet.proofs.FirstLines.{count-append, restLines, first-rest, first-count, first-short, first-fewer, Complete, complete-then, OneLine, number-line-one, bits-line-one, kind-line-one}
-use Rattle.sheet.proofs.Following.{clash, Turn, number-turn, bits-turn, kind-turn, turn-more, ReadLines, lines-read, good-is-sound, good-is-spelled}
+use Rattle.sheet.proofs.Following.{Turn, number-turn, bits-turn, kind-turn, turn-more, lines-read, good-is-sound, good-is-spelled}
 
 -- ---- one first bad line
 
@@ -241,7 +241,9 @@ module _ (s : List ℕ) (m : ℕ) (o : Opens s (suc m)) where
 
   stage-last : Stage s ours theirs goal (Unit {0}) (lastSpot s) []
   unfolding lastSpot queriesItem lineCount
-  stage-last = go (stage-number s ours theirs goal queriesKey refl COUNT k (lit≤ tt) (o .sound .queries-few) (afterEntries s (entriesItem s .spot) (entriesItem s .value)) (queriesText ++ []) stage-after)
+  stage-last =
+      let p = afterEntries s (entriesItem s .spot) (entriesItem s .value) in
+      go (stage-number s ours theirs goal queriesKey refl COUNT k (lit≤ tt) (o .sound .queries-few) p (queriesText ++ []) stage-after)
     where
       go : Stage s ours theirs goal (queriesItem s .value ≡ k) (queriesItem s .spot) (queriesText ++ [])
           → Stage s ours theirs goal (Unit {0}) (afterQueries s (queriesItem s .spot) (queriesItem s .value)) []
@@ -288,6 +290,14 @@ bad-is-first s line e =
       no-more = λ o. omega (arith, opening-read s (lineCount (w .read)) o, w .number);
     }
 
+-- and a text with a first bad line is bad there
+pub first-is-bad : (s : List ℕ) (line : ℕ) → FirstBad s line → textOf s ≡ bad line
+first-is-bad s line f = go (textOf s) refl
+  where
+    go : (t : Text) → textOf s ≡ t → textOf s ≡ bad line
+    go (good sh) e = absurd (f .no-sheet sh (good-is-sound s sh e) (good-is-spelled s sh e))
+    go (bad found) e = e ∙ ap bad (first-bad-unique (bad-is-first s found e) f)
+
 -- ---- extra text, and an early end
 
 -- text after that of a sound sheet is bad at the line after the last
@@ -307,7 +317,7 @@ extra-text sh sound x xs =
 -- the text of a sound sheet, cut before its end, is bad at the line after the last complete one
 pub early-end : (sh : Sheet) → Sound sh → (n : ℕ) → n < length (sheetText sh)
     → textOf (take n (sheetText sh)) ≡ bad (suc (lineCount (take n (sheetText sh))))
-early-end sh sound n h = go (textOf cut) refl
+early-end sh sound n h = first-is-bad cut (suc (lineCount cut)) cut-bad
   where
     cut : List ℕ
     cut = take n (sheetText sh)
@@ -316,7 +326,8 @@ early-end sh sound n h = go (textOf cut) refl
     apart : (rest : List ℕ) → drop n (sheetText sh) ≡ rest → (other : Sheet) → Sound other → cut ≡ sheetText other → ⊥
     apart [] e other fine is = omega (arith, ap length e, length-drop n (sheetText sh))
     apart (x ∷ xs) e other fine is =
-        let j : sheetText sh ≡ sheetText other ++ (x ∷ xs) = sym (take-append-drop n (sheetText sh)) ∙ ap (λ (l : List ℕ). l ++ drop n (sheetText sh)) is ∙ ap (λ (l : List ℕ). sheetText other ++ l) e in
+        let j : sheetText sh ≡ sheetText other ++ (x ∷ xs) =
+        sym (take-append-drop n (sheetText sh)) ∙ ap (λ (l : List ℕ). l ++ drop n (sheetText sh)) is ∙ ap (λ (l : List ℕ). sheetText other ++ l) e in
         good-not-bad (spelled-is-good sh sound) (ap textOf j ∙ extra-text other fine x xs)
 
     cut-bad : FirstBad cut (suc (lineCount cut))
@@ -336,7 +347,3 @@ early-end sh sound n h = go (textOf cut) refl
               };
           no-more = λ o. omega (arith, o .complete);
         }
-
-    go : (t : Text) → textOf cut ≡ t → textOf cut ≡ bad (suc (lineCount cut))
-    go (good other) e = absurd (cut-bad .no-sheet other (good-is-sound cut other e) (good-is-spelled cut other e))
-    go (bad line) e = e ∙ ap bad (first-bad-unique (bad-is-first cut line e) cut-bad)

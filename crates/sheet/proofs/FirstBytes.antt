@@ -9,13 +9,13 @@ use native.Mathlib.Omega.{arith}
 use native.Mathlib.Decide.{decLe}
 use lib.ListN.{length, take}
 use lib.Seq.{getD-take, length-take-le, take-all}
-use lib.Dec.{eqb}
+use lib.Dec.{eqb, lit<}
 use borrow.Author.Tests.{ne-eqb}
 use Rattle.sheet.specs.declared.lines.Spot.{Spot}
 use Rattle.sheet.specs.declared.lines.Digits.{Digits}
 use Rattle.sheet.specs.declared.lines.Item.{Item}
 use Rattle.sheet.specs.declared.entries.Entry.{Entry}
-use Rattle.sheet.specs.Limits.{COUNT, NUMBER-DIGITS, NUMBER, HOP, BITS, LONGEST}
+use Rattle.sheet.specs.Limits.{COUNT, NUMBER-DIGITS, NUMBER, HOP, BITS, LONGEST, PAGE}
 use Rattle.sheet.specs.Keys.{widthKey, fixedKey, variableKey, levelsKey, entriesKey, bitsKey, hopKey, queriesKey, addressKey}
 use Rattle.sheet.specs.Lines.{byteAt, keyAt, countAt, valueAt, digitsAt, close, numberLine, bitsLine, kindLine}
 use Rattle.sheet.specs.Entries.{entryFrom, addressFrom, afterEntries, afterQueries}
@@ -186,3 +186,7 @@ first-bytes B long s =
           ∙ ap (λ (q : Spot). bad (q .line)) (last-same (take B s) s B (λ i h. getD-take B s i 0 h) long)
           ∙ sym (long-is-bad s (omega arith))
     ]
+
+-- so do those that a page holds
+pub page-says : (s : List ℕ) → textOf (take PAGE s) ≡ textOf s
+page-says s = first-bytes PAGE (lit< tt) s

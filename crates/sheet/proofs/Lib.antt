@@ -1,5 +1,6 @@
--- Laws by notion: reading (keys, digits, a line, what every line keeps, lists, the whole text; its first bytes; a good text
--- is the text of its sheet, and the text of a sound sheet is good), writing, the values, the answers, a sheet solved, and the run.
+-- Laws by notion: reading (keys, digits, a line, what every line keeps, lists, the whole text; its first bytes), writing, a text and
+-- its sheet (the text of a sound sheet is good, a good text is the text of its sheet, any other has one first bad line), the values,
+-- the answers, a sheet solved, and the run.
 pub mod Keys
 pub mod Digits
 pub mod Reading

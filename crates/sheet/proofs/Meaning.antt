@@ -2,24 +2,22 @@
 use mathlib.Core.Path.{_≡_, refl, sym, ap, subst, _∙_, fun-ext}
 use mathlib.Core.List.{List}
 use mathlib.Core.Logic.{inl, inr}
-use Prim.Native.Nat.{ℕ, _*_, _≤_, _<_}
-use native.Mathlib.Omega.{arith}
+use Prim.Native.Nat.{ℕ, _*_}
 use lib.ListN.{length}
 use Rattle.table.specs.Refusals.{Test, outcome, Gives}
-use Rattle.table.specs.Table.{at, Table}
+use Rattle.table.specs.Table.{at}
 use Rattle.table.specs.declared.entry.Outcome.{Outcome}
 use Rattle.table.specs.declared.entry.Outcome.the-variants.{Accepted, Refused}
-use Rattle.table.proofs.Refusals.{outcome-gives, gives-unique, gives-outcome, refused-not-accepted, accepted-parts}
-use Rattle.strides.specs.Cheapest.{Kind, Cheapest}
+use Rattle.table.proofs.Refusals.{outcome-gives, gives-unique, gives-outcome, accepted-parts}
+use Rattle.strides.specs.Cheapest.{Kind}
 use Rattle.strides.specs.Trie.{Trie}
 use Rattle.strides.specs.Recurrence.{plain, leastBy}
 use Rattle.strides.proofs.Insertion.{trie-depth-width}
-use Rattle.strides.specs.Strides.{Good, Follows}
 use Rattle.strides.proofs.Cheapest.{least-cheapest}
 use Rattle.strides.proofs.Follows.{follows-good, follows-unique}
-use Rattle.layout.specs.Blocks.{Strides, blocksAlong, rowCount, strideOf}
-use Rattle.tries.specs.Build.{roomTest, buildTests}
-use Rattle.layout.specs.Laid.{tableTrie}
+use Rattle.layout.specs.Blocks.{Strides}
+use Rattle.tries.specs.Build.{buildTests}
+use Rattle.layout.specs.Built.{tableTrie}
 use Rattle.tries.specs.Chooser.{chooseTests}
 use Rattle.tries.specs.Scratch.{ROW}
 use Rattle.layout.proofs.Agreeing.{Agree, same-agree, blocks-same, count-same, stride-same}

@@ -7,21 +7,21 @@ use native.Mathlib.Omega.{arith}
 use native.Mathlib.Nat.{sub-zero, zero-add}
 use lib.ListN.{length, take, drop, length-take}
 use lib.Seq.{sets-eq, take-append-seam, length-take-le, getD-take, take-all}
-use lib.Dec.{leb, lit<}
+use lib.Dec.{leb}
 use borrow.Author.Tests.{le-leb, lt-leb}
 use Rattle.io.specs.Counts.{Counts}
 use Rattle.table.specs.Table.{at}
 use Rattle.tries.specs.declared.chooser.Kind.{Kind}
 use Rattle.sheet.specs.declared.parsing.Parsed.{Parsed}
 use Rattle.sheet.specs.declared.running.Report.{Report}
-use Rattle.sheet.specs.Limits.{COUNT, LONGEST, PAGE}
+use Rattle.sheet.specs.Limits.{COUNT, PAGE}
 use Rattle.sheet.specs.Lent.{LentEntries, LentQueries}
 use Rattle.sheet.specs.Printing.{refusalLines, written, Wrote}
 use Rattle.sheet.specs.Sheet.{textOf, parsedText, Small}
 use Rattle.sheet.specs.Solved.{solved}
 use Rattle.sheet.specs.Tablet.{textReport, reportOf, answerFor, leftFor, Ran, Begins, PageRan}
 use Rattle.sheet.specs.Meaning.{PageReports}
-use Rattle.sheet.proofs.FirstBytes.{first-bytes}
+use Rattle.sheet.proofs.FirstBytes.{page-says}
 use Rattle.sheet.proofs.Meaning.{ran-reports, reports-unique}
 use Rattle.sheet.proofs.Writing.{wrote-length}
 
@@ -115,15 +115,11 @@ wrote-counts {out′ = out′} {n = n} w h =
 
 -- ---- a text that was read to a page
 
--- no good text is longer than a page
-page-long : LONGEST < PAGE
-page-long = lit< tt
-
 module _ (page : List ℕ) (n : ℕ) {text out out′ : List ℕ} {r : ℕ} (is : text ≡ take n page) (put : Wrote out 0 (reportOf text) out′ r) where
   pub page-ran : PageRan page n out out′ r
   unfolding reportOf
   page-ran s b =
-      let e : reportOf text ≡ reportOf s = ap reportOf (is ∙ sym b) ∙ ap textReport (first-bytes PAGE page-long s) in
+      let e : reportOf text ≡ reportOf s = ap reportOf (is ∙ sym b) ∙ ap textReport (page-says s) in
       ran-there s (subst (λ (x : List ℕ). Wrote out 0 x out′ r) e put)
 
   pub page-reports : PageReports page n out out′ r

@@ -1,6 +1,6 @@
 -- Laws of a solved sheet, in the code's own terms: what a build promises, and what is then looked up, is what the sheet's
 -- report says.
-use mathlib.Core.Path.{_≡_, refl, sym, ap, _∙_}
+use mathlib.Core.Path.{_≡_, sym, ap, _∙_}
 use mathlib.Core.List.{List}
 use Prim.Native.Nat.{ℕ, _*_}
 use lib.ListN.{length}

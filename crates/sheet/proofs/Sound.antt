@@ -1,13 +1,11 @@
 -- The text of a sound sheet is good and says that very sheet, and any line that is read, good or bad, says something sound.
-use mathlib.Core.Path.{_≡_, refl, sym, ap, subst, _∙_}
+use mathlib.Core.Path.{_≡_, refl, sym, ap, _∙_}
 use mathlib.Core.List.{List, [], _++_, append-assoc, append-nil}
-use mathlib.Core.Bool.{Bool, true, false, _&&_, cond}
-use Prim.Native.Nat.{ℕ, zero, suc, _+_, _-_, _^_, _≤_, _<_}
-use Prim.Dec.{yes, no}
+use mathlib.Core.Bool.{true, _&&_}
+use Prim.Native.Nat.{ℕ, _+_, _-_, _^_, _≤_, _<_}
 use native.Mathlib.Omega.{arith}
-use native.Mathlib.Decide.{decLt}
 use lib.ListN.{length, length-drop}
-use lib.Dec.{eqb, leb, lit≤}
+use lib.Dec.{leb, lit≤}
 use borrow.Author.Tests.{eq-eqb, leb-true}
 use Rattle.sheet.specs.declared.lines.Spot.{Spot}
 use Rattle.sheet.specs.declared.lines.Item.{Item}
@@ -19,9 +17,8 @@ use Rattle.sheet.specs.Sheet.{Sheet, kindNamed, good, bad, start, widthI
 use Rattle.sheet.specs.Spelling.{kindText, entryText, queryText, sheetText, Sound}
 use Rattle.sheet.specs.Printing.{places, lineOf, joined}
 use Rattle.sheet.proofs.Steps.{both, number-is, bits-is}
-use Rattle.sheet.proofs.Listing.{listed-length, listed-at}
-use Rattle.sheet.proofs.Whole.{width-line, kind-line, levels-line, entries-line, queries-line, to-last}
-use Rattle.sheet.proofs.Spelled.{tested-good, close-good, bits-spelled}
+use Rattle.sheet.proofs.Whole.{to-last}
+use Rattle.sheet.proofs.Spelled.{tested-good, close-good}
 use Rattle.sheet.proofs.ReadBack.{Ahead, ReadAs, number-read, kind-read, listed-all, EntriesAs, entries-read, QueriesAs, queries-read}
 
 -- ---- the whole text

@@ -9,25 +9,23 @@ use native.Mathlib.Decide.{decLt}
 use native.Mathlib.Numerals.{add-one}
 use native.Mathlib.Nat.{add-mul-div-right, add-mul-mod-self-right, div-eq-of-lt, mod-eq-of-lt, add-comm, add-zero, pow-suc, pow-zero, mul-le-mul-right}
 use lib.ListN.{length, take, drop, length-append}
-use lib.Seq.{take-add, take-length, drop-drop, drop-cons}
+use lib.Seq.{take-add, drop-drop, drop-cons}
 use lib.Dec.{eqb, leb, ltb, lit<, lit≤}
 use borrow.Author.Tests.{lt-ltb, eqb-true, eqb-false, ltb-true}
 use Rattle.io.specs.Digits.{digits, Fewest}
 use Rattle.sheet.specs.declared.lines.Spot.{Spot}
 use Rattle.sheet.specs.declared.lines.Digits.{Digits}
 use Rattle.sheet.specs.declared.lines.Item.{Item}
-use Rattle.sheet.specs.Limits.{COUNT, NUMBER-DIGITS, NUMBER, HOP, BITS}
-use Rattle.sheet.specs.Keys.{widthKey, fixedKey, variableKey, levelsKey, entriesKey, bitsKey, hopKey, queriesKey, addressKey}
+use Rattle.sheet.specs.Limits.{BITS}
+use Rattle.sheet.specs.Keys.{fixedKey, variableKey}
 use Rattle.sheet.specs.Lines.{byteAt, keyAt, countAt, valueAt, digitsAt, plain, badLine, close, numberLine, bitsLine, kindLine}
-use Rattle.sheet.specs.Entries.{listed, entryFrom, addressFrom, afterEntries, afterQueries, entryBits, entryLength, entryHop, queryAddress, queryPlaces}
 use Rattle.sheet.specs.Sheet.{kindNamed}
-use Rattle.sheet.specs.Spelling.{kindText, entryText, queryText, sheetText}
-use Rattle.sheet.specs.Printing.{decimal, binary, lineOf, bitsLineOf, joined}
+use Rattle.sheet.specs.Spelling.{kindText}
+use Rattle.sheet.specs.Printing.{decimal, binary, lineOf, bitsLineOf}
 use Rattle.sheet.proofs.Keys.{byte-inside}
 use Rattle.sheet.proofs.Digits.{is-digit, counted, value-below, count-most}
 use Rattle.sheet.proofs.Steps.{both}
-use Rattle.sheet.proofs.Listing.{listed-length, listed-at}
-use Rattle.sheet.proofs.Writing.{fewest-decimal, length-digits, joined-same}
+use Rattle.sheet.proofs.Writing.{fewest-decimal, length-digits}
 
 -- ---- bytes that stand in the text
 

@@ -1,6 +1,6 @@
 -- What the tablet's promise says, in the order of 01: the numbers and keys of the text, one line, the entries and queries,
--- the whole text and the text that says a sheet; the entries as values of a table; the report's lines, the answers, a sheet
--- solved, and the whole run.
+-- the whole text; the entries as values of a table; the report's lines; the text that says a sheet, and the first bad line of any
+-- other; the answers, a sheet solved, the whole run, and what its report means.
 pub mod Limits
 pub mod Keys
 pub mod Lines

@@ -53,7 +53,9 @@ fn put_answers(
     digs: &[u8],
 ) -> usize
     requires { ⌜ (p + length (now digs) * ANSWER-BYTES ≤ length (now out)) × LentQueries (now adds) (now digs) ⌝ }
-    ensures { λ r. ⌜ Wrote (now (out .entry)) p (answered rec (lists (now (hop .entry)) (now (link .entry)) (now (stride .entry))) (now (adds .entry)) (now (digs .entry))) (now (out .exit)) r ⌝ }
+    ensures { λ r. ⌜ Wrote (now (out .entry)) p
+        (answered rec (lists (now (hop .entry)) (now (link .entry)) (now (stride .entry))) (now (adds .entry)) (now (digs .entry)))
+        (now (out .exit)) r ⌝ }
 {
     let mut q = p;
     let mut i = 0;
@@ -77,7 +79,9 @@ pub(crate) fn put_report(
     digs: &[u8],
 ) -> usize
     requires { ⌜ (PAGE ≤ length (now out)) × LentQueries (now adds) (now digs) ⌝ }
-    ensures { λ r. ⌜ Wrote (now (out .entry)) 0 (lookedUp rec (lists (now (hop .entry)) (now (link .entry)) (now (stride .entry))) (now (adds .entry)) (now (digs .entry))) (now (out .exit)) r ⌝ }
+    ensures { λ r. ⌜ Wrote (now (out .entry)) 0
+        (lookedUp rec (lists (now (hop .entry)) (now (link .entry)) (now (stride .entry))) (now (adds .entry)) (now (digs .entry)))
+        (now (out .exit)) r ⌝ }
 {
     let wrong = first_wrong(rec.width, digs);
     if wrong < digs.len() {

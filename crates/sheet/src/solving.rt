@@ -29,7 +29,9 @@ pub(crate) fn solve(
     digs: &[u8],
 ) -> usize
     requires { ⌜ (PAGE ≤ length (now out)) × LentEntries (now vals) (now lens) × LentQueries (now adds) (now digs) ⌝ }
-    ensures { λ r. ⌜ Wrote (now (out .entry)) 0 (solved kind width levels (now (vals .entry)) (now (lens .entry)) (now (hops .entry)) (now (adds .entry)) (now (digs .entry))) (now (out .exit)) r ⌝ }
+    ensures { λ r. ⌜ Wrote (now (out .entry)) 0
+        (solved kind width levels (now (vals .entry)) (now (lens .entry)) (now (hops .entry)) (now (adds .entry)) (now (digs .entry)))
+        (now (out .exit)) r ⌝ }
 {
     place_values(width, vals, lens);
     let mut scratch = scratch_room();

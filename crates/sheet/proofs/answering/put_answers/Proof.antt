@@ -16,7 +16,9 @@ use Rattle.sheet.proofs.answering.put_answers.Statement.{statement}
 use Rattle.sheet.proofs.answering.put_answers.Tie as tie
 
 abbrev Inv-loop : tie.InvT-loop
-Inv-loop out₀ p rec hop link stride adds digs q₀ i₀ out q i = (i ≤ length digs) × (q ≤ p + i * ANSWER-BYTES) × Wrote out₀ p (joined (queryLines (hopIn rec (lists hop link stride)) (readsIn rec (lists hop link stride)) adds digs) i) out q
+Inv-loop out₀ p rec hop link stride adds digs q₀ i₀ out q i =
+    (i ≤ length digs) × (q ≤ p + i * ANSWER-BYTES)
+    × Wrote out₀ p (joined (queryLines (hopIn rec (lists hop link stride)) (readsIn rec (lists hop link stride)) adds digs) i) out q
 
 abbrev μ-loop : tie.MeasureT-loop
 μ-loop out₀ p rec hop link stride adds digs q₀ i₀ out q i = length digs - i

@@ -28,7 +28,11 @@ bad-line-requires-2 : tie.Need-bad-line-requires-2
 bad-line-requires-2 c κs = search needs
 
 returns-2 : tie.Need-returns-2
-returns-2 c = c .bad-line2 .ensures ∙ bits-few _ _ _ _ (c .before .before .before .before .before .key-at .ensures) (c .before .before .before .before .if1 .left) (c .before .before .before .read-digits .ensures) (c .before .if2 .taken)
+returns-2 c =
+    let a = c .before .before .before in
+    let b = a .before in
+    let d = b .before in
+    c .bad-line2 .ensures ∙ bits-few _ _ _ _ (d .key-at .ensures) (b .if1 .left) (a .read-digits .ensures) (c .before .if2 .taken)
 
 cast-close-line : tie.Need-cast-close-line
 cast-close-line c = search needs
@@ -40,7 +44,12 @@ close-line-requires : tie.Need-close-line-requires
 close-line-requires c κs = (omega (arith, read-most _ _ _ _ (c .before .before .before .read-digits .ensures)), omega arith)
 
 returns-3 : tie.Need-returns-3
-returns-3 c = c .close-line .ensures ∙ bits-fine _ _ _ _ (c .before .before .before .before .before .before .key-at .ensures) (c .before .before .before .before .before .if1 .left) (c .before .before .before .before .read-digits .ensures) (c .before .before .if2 .left)
+returns-3 c =
+    let a = c .before .before in
+    let b = a .before .before in
+    let d = b .before in
+    let e = d .before in
+    c .close-line .ensures ∙ bits-fine _ _ _ _ (e .key-at .ensures) (d .if1 .left) (b .read-digits .ensures) (a .if2 .left)
 
 pub bits-line-spec : {M : Type 1} → statement M
 bits-line-spec =

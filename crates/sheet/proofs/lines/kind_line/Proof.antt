@@ -36,14 +36,22 @@ close-line-requires-2 c κs = search needs
 
 returns-2 : tie.Need-returns-2
 unfolding kindLine
-returns-2 c = simp (sym (c .before .before .before .before .before .key-at .ensures) ∙ c .before .before .before .before .if1 .left, sym (c .before .before .key-at2 .ensures) ∙ c .before .if2 .taken) (c .close-line2 .ensures)
+returns-2 c =
+    let a = c .before .before in
+    let b = a .before .before in
+    let d = b .before in
+    simp (sym (d .key-at .ensures) ∙ b .if1 .left, sym (a .key-at2 .ensures) ∙ c .before .if2 .taken) (c .close-line2 .ensures)
 
 bad-line-requires : tie.Need-bad-line-requires
 bad-line-requires c κs = search needs
 
 returns-3 : tie.Need-returns-3
 unfolding kindLine
-returns-3 c = simp (sym (c .before .before .before .before .before .key-at .ensures) ∙ c .before .before .before .before .if1 .left, sym (c .before .before .key-at2 .ensures) ∙ c .before .if2 .left) (c .bad-line .ensures)
+returns-3 c =
+    let a = c .before .before in
+    let b = a .before .before in
+    let d = b .before in
+    simp (sym (d .key-at .ensures) ∙ b .if1 .left, sym (a .key-at2 .ensures) ∙ c .before .if2 .left) (c .bad-line .ensures)
 
 pub kind-line-spec : {M : Type 1} → statement M
 kind-line-spec =

@@ -34,13 +34,26 @@ bad-line-requires-2 : tie.Need-bad-line-requires-2
 bad-line-requires-2 c κs = search needs
 
 returns-2 : tie.Need-returns-2
-returns-2 c = c .bad-line2 .ensures ∙ number-unplain _ _ _ _ _ (c .before .before .before .before .before .before .key-at .ensures) (c .before .before .before .before .before .if1 .left) (c .before .before .before .before .read-digits .ensures) (c .before .before .before .byte .ensures) (c .before .before .is-plain .ensures) (c .before .if2 .taken)
+returns-2 c =
+    let a = c .before .before in
+    let b = a .before in
+    let d = b .before in
+    let e = d .before in
+    let f = e .before in
+    c .bad-line2 .ensures ∙ number-unplain _ _ _ _ _ (f .key-at .ensures) (e .if1 .left) (d .read-digits .ensures) (b .byte .ensures) (a .is-plain .ensures) (c .before .if2 .taken)
 
 bad-line-requires-3 : tie.Need-bad-line-requires-3
 bad-line-requires-3 c κs = search needs
 
 returns-3 : tie.Need-returns-3
-returns-3 c = c .bad-line3 .ensures ∙ number-above _ _ _ _ _ (c .before .before .before .before .before .before .before .before .key-at .ensures) (c .before .before .before .before .before .before .before .if1 .left) (c .before .before .before .before .before .before .read-digits .ensures) (c .before .before .before .before .before .byte .ensures) (c .before .before .before .before .is-plain .ensures) (c .before .before .before .if2 .left) (c .before .if3 .taken)
+returns-3 c =
+    let a = c .before .before .before in
+    let b = a .before in
+    let d = b .before in
+    let e = d .before in
+    let f = e .before in
+    let g = f .before in
+    c .bad-line3 .ensures ∙ number-above _ _ _ _ _ (g .key-at .ensures) (f .if1 .left) (e .read-digits .ensures) (d .byte .ensures) (b .is-plain .ensures) (a .if2 .left) (c .before .if3 .taken)
 
 cast-close-line : tie.Need-cast-close-line
 cast-close-line c = search needs
@@ -52,7 +65,15 @@ close-line-requires : tie.Need-close-line-requires
 close-line-requires c κs = (omega (arith, read-most _ _ _ _ (c .before .before .before .before .before .before .read-digits .ensures)), omega arith)
 
 returns-4 : tie.Need-returns-4
-returns-4 c = c .close-line .ensures ∙ number-fine _ _ _ _ _ (c .before .before .before .before .before .before .before .before .before .key-at .ensures) (c .before .before .before .before .before .before .before .before .if1 .left) (c .before .before .before .before .before .before .before .read-digits .ensures) (c .before .before .before .before .before .before .byte .ensures) (c .before .before .before .before .before .is-plain .ensures) (c .before .before .before .before .if2 .left) (c .before .before .if3 .left)
+returns-4 c =
+    let a = c .before .before in
+    let b = a .before .before in
+    let d = b .before in
+    let e = d .before in
+    let f = e .before in
+    let g = f .before in
+    let h = g .before in
+    c .close-line .ensures ∙ number-fine _ _ _ _ _ (h .key-at .ensures) (g .if1 .left) (f .read-digits .ensures) (e .byte .ensures) (d .is-plain .ensures) (b .if2 .left) (a .if3 .left)
 
 pub number-line-spec : {M : Type 1} → statement M
 number-line-spec =

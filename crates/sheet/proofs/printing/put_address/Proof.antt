@@ -32,7 +32,11 @@ same-length c = search needs
 
 returns : tie.Need-returns
 unfolding bitsLineOf
-returns c = wrote-then (wrote-then (c .before .before .before .before .before .before .before .before .before .before .before .put .ensures) (c .before .before .before .before .before .before .before .put-bits .ensures)) (c .before .before .put2 .ensures)
+returns c =
+    let a = c .before .before in
+    let b = a .before .before .before .before .before in
+    let d = b .before .before .before .before in
+    wrote-then (wrote-then (d .put .ensures) (b .put-bits .ensures)) (a .put2 .ensures)
 
 pub put-address-spec : {M : Type 1} → statement M
 put-address-spec =

@@ -16,7 +16,10 @@ slice-aggregate-put-line : tie.Need-slice-aggregate-put-line
 slice-aggregate-put-line c = search needs
 
 put-line-requires : tie.Need-put-line-requires
-put-line-requires c κs = omega (arith, wrote-up-to 41 (omega (arith, length-address (c .before .before .before .before .before .before .before .args .address) (c .before .before .before .before .before .before .before .args .n))) (c .before .before .before .before .put-address .ensures))
+put-line-requires c κs =
+    let a = c .before .before .before .before in
+    let b = a .before .before .before in
+    omega (arith, wrote-up-to 41 (omega (arith, length-address (b .args .address) (b .args .n))) (a .put-address .ensures))
 
 slice-aggregate-put-line-2 : tie.Need-slice-aggregate-put-line-2
 slice-aggregate-put-line-2 c = search needs
@@ -36,7 +39,11 @@ same-length c = search needs
 
 returns : tie.Need-returns
 unfolding answerLines
-returns c = wrote-then (wrote-then (c .before .before .before .before .before .before .before .before .before .before .before .before .put-address .ensures) (c .before .before .before .before .before .before .before .put-line .ensures)) (c .before .before .put-line2 .ensures)
+returns c =
+    let a = c .before .before in
+    let b = a .before .before .before .before .before in
+    let d = b .before .before .before .before .before in
+    wrote-then (wrote-then (d .put-address .ensures) (b .put-line .ensures)) (a .put-line2 .ensures)
 
 pub put-answer-spec : {M : Type 1} → statement M
 put-answer-spec =

@@ -32,7 +32,11 @@ same-length c = search needs
 
 returns : tie.Need-returns
 unfolding headLines
-returns c = wrote-then (wrote-then (c .before .before .before .before .before .before .before .before .before .before .before .before .put-refusal .ensures) (c .before .before .before .before .before .before .before .put-line .ensures)) (c .before .before .put-line2 .ensures)
+returns c =
+    let a = c .before .before in
+    let b = a .before .before .before .before .before in
+    let d = b .before .before .before .before .before in
+    wrote-then (wrote-then (d .put-refusal .ensures) (b .put-line .ensures)) (a .put-line2 .ensures)
 
 pub put-head-spec : {M : Type 1} → statement M
 put-head-spec =

@@ -27,7 +27,11 @@ same-length c = search needs
 
 returns : tie.Need-returns
 unfolding lineOf
-returns c = wrote-then (wrote-then (c .before .before .before .before .before .before .before .before .before .before .before .put .ensures) (c .before .before .before .before .before .before .before .put-number .ensures)) (c .before .before .put2 .ensures)
+returns c =
+    let a = c .before .before in
+    let b = a .before .before .before .before .before in
+    let d = b .before .before .before .before in
+    wrote-then (wrote-then (d .put .ensures) (b .put-number .ensures)) (a .put2 .ensures)
 
 pub put-line-spec : {M : Type 1} → statement M
 put-line-spec =

@@ -32,7 +32,10 @@ part-put-end : tie.Need-part-put-end
 part-put-end c = omega (arith, c .before .before .before .before .put-run .ensures .room)
 
 put-requires : tie.Need-put-requires
-put-requires c κs = omega (arith, length-take (c .before .before .before .before .before .put-run .result - 0) (c .before .before .before .before .before .put-run .last .0), c .before .before .before .if1 .left)
+put-requires c κs =
+    let a = c .before .before .before in
+    let b = a .before .before in
+    omega (arith, length-take (b .put-run .result - 0) (b .put-run .last .0), a .if1 .left)
 
 same-length : tie.Need-same-length
 same-length c = search needs
