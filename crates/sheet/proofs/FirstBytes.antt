@@ -19,7 +19,8 @@ use Rattle.sheet.specs.Limits.{COUNT, NUMBER-DIGITS, NUMBER, HOP, BITS, 
 use Rattle.sheet.specs.Keys.{widthKey, fixedKey, variableKey, levelsKey, entriesKey, bitsKey, hopKey, queriesKey, addressKey}
 use Rattle.sheet.specs.Lines.{byteAt, keyAt, countAt, valueAt, digitsAt, close, numberLine, bitsLine, kindLine}
 use Rattle.sheet.specs.Entries.{entryFrom, addressFrom, afterEntries, afterQueries}
-use Rattle.sheet.specs.Sheet.{Sheet, good, bad, start, widthItem, kindItem, levelsItem, entriesItem, queriesItem, lastSpot, sheetOf, textOf}
+use Rattle.sheet.specs.Sheet.{Sheet}
+use Rattle.sheet.specs.Text.{good, bad, start, widthItem, kindItem, levelsItem, entriesItem, queriesItem, lastSpot, sheetOf, textOf}
 use Rattle.sheet.specs.Spelling.{sheetText, Sound}
 use Rattle.sheet.proofs.Digits.{count-most, read-most}
 use Rattle.sheet.proofs.Steps.{bits-is}

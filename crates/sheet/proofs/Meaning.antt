@@ -27,7 +27,8 @@ use Rattle.sheet.specs.declared.running.Report.{Report}
 use Rattle.sheet.specs.Limits.{LENT-ROWS, LENT-ELEMENTS}
 use Rattle.sheet.specs.Printing.{refusalLines}
 use Rattle.sheet.specs.Answers.{answersReport}
-use Rattle.sheet.specs.Sheet.{Sheet, Text, good, bad, textOf}
+use Rattle.sheet.specs.Sheet.{Sheet}
+use Rattle.sheet.specs.Text.{Text, good, bad, textOf}
 use Rattle.sheet.specs.Solved.{longestHop, reportBy, buildOutcome, chosen, tableReport, reportFor, solved}
 use Rattle.sheet.specs.Tablet.{textReport, reportOf, answerFor, leftFor, Ran}
 use Rattle.sheet.specs.Meaning.{Solves, SheetSolves, Says, Reports}

@@ -15,7 +15,7 @@ use Rattle.sheet.specs.declared.running.Report.{Report}
 use Rattle.sheet.specs.Limits.{COUNT, BITS, ANSWER-BYTES, PAGE}
 use Rattle.sheet.specs.Entries.{listed, addressFrom, afterQueries, queryPlaces}
 use Rattle.sheet.specs.Keys.{addressKey}
-use Rattle.sheet.specs.Sheet.{queriesItem, lastSpot, sheetOf, good, bad, textOf}
+use Rattle.sheet.specs.Text.{queriesItem, lastSpot, sheetOf, good, bad, textOf}
 use Rattle.sheet.specs.Printing.{refusalLines, headLines, joined}
 use Rattle.sheet.specs.Answers.{firstWrong, queryLines, answersReport}
 use Rattle.sheet.specs.Solved.{reportBy, reportFor, solved}

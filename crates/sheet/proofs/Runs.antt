@@ -17,7 +17,7 @@ use Rattle.sheet.specs.declared.running.Report.{Report}
 use Rattle.sheet.specs.Limits.{COUNT, PAGE}
 use Rattle.sheet.specs.Lent.{LentEntries, LentQueries}
 use Rattle.sheet.specs.Printing.{refusalLines, written, Wrote}
-use Rattle.sheet.specs.Sheet.{textOf, parsedText, Small}
+use Rattle.sheet.specs.Text.{textOf, parsedText, Small}
 use Rattle.sheet.specs.Solved.{solved}
 use Rattle.sheet.specs.Tablet.{textReport, reportOf, answerFor, leftFor, Ran, Begins, PageRan}
 use Rattle.sheet.specs.Meaning.{PageReports}

@@ -19,7 +19,7 @@ use Rattle.sheet.specs.declared.lines.Item.{Item}
 use Rattle.sheet.specs.Limits.{BITS}
 use Rattle.sheet.specs.Keys.{fixedKey, variableKey}
 use Rattle.sheet.specs.Lines.{byteAt, keyAt, countAt, valueAt, digitsAt, plain, badLine, close, numberLine, bitsLine, kindLine}
-use Rattle.sheet.specs.Sheet.{kindNamed}
+use Rattle.sheet.specs.Text.{kindNamed}
 use Rattle.sheet.specs.Spelling.{kindText}
 use Rattle.sheet.specs.Printing.{decimal, binary, lineOf, bitsLineOf}
 use Rattle.sheet.proofs.Keys.{byte-inside}

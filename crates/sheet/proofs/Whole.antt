@@ -17,7 +17,7 @@ use Rattle.sheet.specs.Limits.{COUNT, NUMBER-DIGITS, NUMBER, LINES, LONG
 use Rattle.sheet.specs.Keys.{widthKey, levelsKey, entriesKey, queriesKey, addressKey}
 use Rattle.sheet.specs.Lines.{numberLine, kindLine}
 use Rattle.sheet.specs.Entries.{listed, afterEntries, afterQueries, addressFrom, entryBits, entryLength, queryAddress, queryPlaces, HoldsEntries, HoldsQueries}
-use Rattle.sheet.specs.Sheet.{kindNamed, good, bad, start, widthItem, kindItem, levelsItem, entriesItem, queriesItem, lastSpot, sheetOf, headOf, textOf, concluded, parsedText, Small}
+use Rattle.sheet.specs.Text.{kindNamed, good, bad, start, widthItem, kindItem, levelsItem, entriesItem, queriesItem, lastSpot, sheetOf, headOf, textOf, concluded, parsedText, Small}
 use Rattle.sheet.proofs.Steps.{Line, Step, step-then, step-widen, UpTo, number-is, bits-is, kind-is}
 use Rattle.sheet.proofs.Listing.{listed-at, entry-spells, entries-step, queries-step}
 

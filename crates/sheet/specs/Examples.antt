@@ -6,7 +6,8 @@ use lib.ListN.{take}
 use Rattle.tries.specs.declared.chooser.Kind.the-variants.{Variable}
 use Rattle.sheet.specs.Lines.{byteAt, keyAt, isDigit, countAt, valueAt, digitsAt, plain, badLine, close, numberLine, bitsLine, kindLine}
 use Rattle.sheet.specs.Entries.{listed, entryFrom, addressFrom, afterEntries, afterQueries, entryBits, entryLength, entryHop, queryAddress, queryPlaces}
-use Rattle.sheet.specs.Sheet.{Sheet, good, bad, widthItem, kindItem, levelsItem, entriesItem, queriesItem, lastSpot, kindNamed, sheetOf, textOf}
+use Rattle.sheet.specs.Sheet.{Sheet}
+use Rattle.sheet.specs.Text.{good, bad, widthItem, kindItem, levelsItem, entriesItem, queriesItem, lastSpot, kindNamed, sheetOf, textOf}
 
 -- width=3, kind=vst, levels=2, entries=2, bits=1, hop=1, bits=101, hop=2, queries=3, address=101, address=111, address=011
 abbrev pub run : List ℕ

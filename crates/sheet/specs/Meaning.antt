@@ -1,6 +1,7 @@
--- What a report means, with no way to find it: the first of the build's tests that fails, where 7 tests the least cost of all
--- choices; or, for strides that follow the tie rule, the number of their rows, the root's stride, and for each address the hop of
--- the longest entry that matches it and the number of blocks on its path.
+-- What a report means, with no way to find it. A text is that of a sound sheet, or it has a first bad line and the report is 11. A
+-- sheet's report is the first of the build's tests that fails, where 7 tests the least cost of all choices; or, for strides that
+-- follow the tie rule, the number of their rows, the root's stride, and for each address the hop of the longest entry that matches
+-- it and the number of blocks on its path.
 use mathlib.Core.Path.{_≡_}
 use mathlib.Core.List.{List}
 use mathlib.Core.Logic.{_⊎_}

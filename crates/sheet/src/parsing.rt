@@ -3,7 +3,7 @@ ghost use mathlib.Core.Path.{_≡_};
 ghost use Prim.Native.Nat.{_≤_};
 ghost use lib.ListN.{length};
 ghost use Rattle.sheet.specs.Limits.{COUNT};
-ghost use Rattle.sheet.specs.Sheet.{kindNamed, headOf, textOf, concluded, parsedText, Small};
+ghost use Rattle.sheet.specs.Text.{kindNamed, headOf, textOf, concluded, parsedText, Small};
 use crate::entries::read_entries;
 use crate::entries::read_queries;
 use crate::limits::COUNT;

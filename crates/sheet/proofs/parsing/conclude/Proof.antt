@@ -1,7 +1,7 @@
 -- The two tests of the definition, in its order.
 use Prim.Native.Nat.{_-_}
 use borrow.Author.Tests.{eq-eqb, ne-eqb, not-true, not-false}
-use Rattle.sheet.specs.Sheet.{concluded}
+use Rattle.sheet.specs.Text.{concluded}
 use Rattle.sheet.proofs.parsing.conclude.Statement.{statement}
 use Rattle.sheet.proofs.parsing.conclude.Tie as tie
 

@@ -5,7 +5,7 @@ use denote.Ref.{now}
 use lib.Dec.{lit≤}
 use Rattle.sheet.specs.Limits.{NUMBER-DIGITS, NUMBER}
 use Rattle.sheet.specs.Keys.{widthKey, levelsKey}
-use Rattle.sheet.specs.Sheet.{start}
+use Rattle.sheet.specs.Text.{start}
 use Rattle.sheet.proofs.Steps.{Line, step-then, UpTo, number-is, kind-is, line-of}
 use Rattle.sheet.proofs.Whole.{head-read}
 use borrow.Author.Needs.{needs}
