@@ -19,13 +19,14 @@ use Rattle.sheet.specs.declared.lines.Item.{Item}
 use Rattle.sheet.specs.Limits.{COUNT, NUMBER-DIGITS, NUMBER, HOP, BITS}
 use Rattle.sheet.specs.Keys.{widthKey, fixedKey, variableKey, levelsKey, entriesKey, bitsKey, hopKey, queriesKey, addressKey}
 use Rattle.sheet.specs.Lines.{byteAt, keyAt, digitsAt, plain, badLine, close, numberLine, bitsLine, kindLine}
-use Rattle.sheet.specs.Entries.{listed, entryFrom, addressFrom, afterEntries, afterQueries, entryBits, entryLength, entryHop, queryAddress, queryPlaces}
+use Rattle.table.specs.Lists.{listed}
+use Rattle.sheet.specs.Entries.{entryFrom, addressFrom, afterEntries, afterQueries, entryBits, entryLength, entryHop, queryAddress, queryPlaces}
 use Rattle.sheet.specs.Sheet.{Sheet}
 use Rattle.sheet.specs.Text.{kindNamed, good, bad, start, widthItem, kindItem, levelsItem, entriesItem, queriesItem, lastSpot, sheetOf, textOf}
 use Rattle.sheet.specs.Spelling.{kindText, entryText, queryText, sheetText, Sound}
 use Rattle.sheet.specs.Printing.{lineOf, bitsLineOf, joined}
 use Rattle.sheet.specs.FirstBad.{lineCount, firstLines, Opens}
-use Rattle.sheet.proofs.Listing.{listed-length, listed-at, listed-same}
+use Rattle.table.proofs.Lists.{listed-length, listed-at, listed-same}
 use Rattle.sheet.proofs.Whole.{width-line, levels-line, entries-line, queries-line}
 use Rattle.sheet.proofs.Writing.{joined-same}
 use Rattle.sheet.proofs.Spelled.{Stretch, number-spelled, bits-spelled, kind-spelled}

@@ -16,38 +16,10 @@ use Rattle.sheet.specs.declared.entries.Entry.{Entry}
 use Rattle.sheet.specs.Limits.{BITS, NUMBER-DIGITS, HOP}
 use Rattle.sheet.specs.Keys.{bitsKey, hopKey, addressKey}
 use Rattle.sheet.specs.Lines.{bitsLine}
-use Rattle.sheet.specs.Entries.{listed, entryFrom, addressFrom, afterEntries, afterQueries, entryBits, entryLength, entryHop, queryAddress, queryPlaces, HoldsEntries, HoldsQueries}
+use Rattle.table.specs.Lists.{listed}
+use Rattle.sheet.specs.Entries.{entryFrom, addressFrom, afterEntries, afterQueries, entryBits, entryLength, entryHop, queryAddress, queryPlaces, HoldsEntries, HoldsQueries}
+use Rattle.table.proofs.Lists.{listed-more}
 use Rattle.sheet.proofs.Steps.{Step, step-none, step-then, step-widen, Spells, number-is, bits-is}
-
--- ---- a list by index
-
--- one place more
-pub listed-more : (f : ℕ → ℕ) (xs : List ℕ) (i v : ℕ) → i < length xs → take i xs ≡ listed f i → v ≡ f i
-    → take (i + 1) (set xs i v) ≡ listed f (i + 1)
-unfolding listed
-listed-more f xs i v h e w = rw (add-one, take-suc-set xs i v h, e, w)
-
-pub listed-length : (f : ℕ → ℕ) (n : ℕ) → length (listed f n) ≡ n
-unfolding listed
-listed-length f zero = refl
-listed-length f (suc n) = length-append (listed f n) (f n ∷ []) ∙ omega (arith, listed-length f n)
-
-pub listed-at : (f : ℕ → ℕ) (n i : ℕ) → i < n → getD (listed f n) i 0 ≡ f i
-unfolding listed
-listed-at f zero i h = absurd (omega arith)
-listed-at f (suc n) i h =
-    elim (decLt i n) [
-      | yes p ↦ List·getD-append (listed f n) (f n ∷ []) 0 i (omega (arith, listed-length f n)) ∙ listed-at f n i p
-      | no p ↦
-          let e : i ≡ length (listed f n) = omega (arith, listed-length f n) in
-          let g : i ≡ n = omega arith in
-          rw e (getD-append-seam (listed f n) (f n) [] 0 ∙ ap f (sym g ∙ e))
-    ]
-
-pub listed-same : (f g : ℕ → ℕ) (n : ℕ) → ((i : ℕ) → i < n → f i ≡ g i) → listed f n ≡ listed g n
-unfolding listed
-listed-same f g zero h = refl
-listed-same f g (suc n) h = rw (listed-same f g n (λ i k. h i (omega arith)), h n (omega arith))
 
 -- ---- an entry: its two lines
 

@@ -13,16 +13,16 @@ use Rattle.strides.specs.Cheapest.{Kind}
 use Rattle.strides.specs.Trie.{Trie}
 use Rattle.strides.specs.Recurrence.{plain, leastBy}
 use Rattle.strides.proofs.Insertion.{trie-depth-width}
-use Rattle.strides.proofs.Cheapest.{least-cheapest}
+use Rattle.strides.proofs.Cheapest.{least-cheapest, chosen-follows}
 use Rattle.strides.proofs.Follows.{follows-good, follows-unique}
 use Rattle.layout.specs.Blocks.{Strides}
 use Rattle.tries.specs.Build.{buildTests}
-use Rattle.layout.specs.Built.{tableTrie}
+use Rattle.layout.specs.Laid.{tableTrie}
 use Rattle.tries.specs.Chooser.{chooseTests}
 use Rattle.tries.specs.Scratch.{ROW}
 use Rattle.layout.proofs.Agreeing.{Agree, same-agree, blocks-same, count-same, stride-same}
-use Rattle.tries.proofs.Choosing.{accepted-levels, accepted-tests-table}
-use Rattle.tries.proofs.Builds.{tests-least, table-follows}
+use Rattle.tries.proofs.ChooseTests.{accepted-levels, accepted-tests-table}
+use Rattle.tries.proofs.Builds.{tests-least}
 use Rattle.sheet.specs.declared.running.Report.{Report}
 use Rattle.sheet.specs.Limits.{LENT-ROWS, LENT-ELEMENTS}
 use Rattle.sheet.specs.Printing.{refusalLines}
@@ -55,7 +55,7 @@ module _ (kind : Kind) (W k : ℕ) (vs ls hs xs ds : List ℕ) where
     accepted = λ a.
         let pass = accepted-tests W k vs ls hs (LENT-ROWS * ROW) LENT-ELEMENTS (leastBy plain kind k (tableTrie W vs ls hs)) (e ∙ a) in
         let some = accepted-levels W k vs ls hs (LENT-ROWS * ROW) pass .0 in
-        (chosen kind W k vs ls hs, table-follows kind W k vs ls hs (accepted-tests-table W k vs ls hs (LENT-ROWS * ROW) pass) some, rw a);
+        (chosen kind W k vs ls hs, chosen-follows kind k (tableTrie W vs ls hs) some, rw a);
   }
     where
       refused-lines : (o : Outcome) (n d : ℕ) → o ≡ Refused n d → reportFor o (tableReport kind W k vs ls hs xs ds) ≡ refusalLines n d

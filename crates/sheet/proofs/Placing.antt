@@ -12,9 +12,9 @@ use borrow.Author.Tests.{lt-ltb, le-ltb}
 use Rattle.table.specs.Limits.{widthLimit}
 use Rattle.table.specs.Prefix.{start, prefixBad, IsPrefix}
 use Rattle.table.specs.Table.{at}
-use Rattle.sheet.specs.Entries.{listed}
+use Rattle.table.specs.Lists.{listed}
 use Rattle.sheet.specs.Values.{valueOf, valuesOf}
-use Rattle.sheet.proofs.Listing.{listed-more}
+use Rattle.table.proofs.Lists.{listed-more}
 
 module _ (W b l : ℕ) (spells : b < 2 ^ l) (short : l ≤ W) where
   placed-below : b * 2 ^ (W - l) < 2 ^ W

@@ -21,12 +21,13 @@ use Rattle.sheet.specs.declared.lines.Item.{Item}
 use Rattle.sheet.specs.Limits.{NUMBER-DIGITS, NUMBER, HOP, BITS}
 use Rattle.sheet.specs.Keys.{fixedKey, variableKey, bitsKey, hopKey, addressKey}
 use Rattle.sheet.specs.Lines.{byteAt, keyAt, isDigit, countAt, valueAt, digitsAt, plain, close, numberLine, bitsLine, kindLine}
-use Rattle.sheet.specs.Entries.{listed, entryFrom, addressFrom, afterEntries, afterQueries, entryBits, entryLength, entryHop, queryAddress, queryPlaces}
+use Rattle.table.specs.Lists.{listed}
+use Rattle.sheet.specs.Entries.{entryFrom, addressFrom, afterEntries, afterQueries, entryBits, entryLength, entryHop, queryAddress, queryPlaces}
 use Rattle.sheet.specs.Text.{kindNamed}
 use Rattle.sheet.specs.Spelling.{kindText, entryText, queryText}
 use Rattle.sheet.specs.Printing.{placesFrom, places, decimal, binary, lineOf, bitsLineOf, joined}
 use Rattle.sheet.proofs.Digits.{is-digit, value-more, digits-are}
-use Rattle.sheet.proofs.Listing.{listed-length, listed-at}
+use Rattle.table.proofs.Lists.{listed-length, listed-at}
 use Rattle.sheet.proofs.Writing.{length-digits}
 
 -- ---- what is left of the text at a place

@@ -13,7 +13,8 @@ use Rattle.table.specs.declared.entry.Outcome.{Outcome}
 use Rattle.table.specs.declared.entry.Outcome.the-variants.{Accepted, Refused}
 use Rattle.sheet.specs.declared.running.Report.{Report}
 use Rattle.sheet.specs.Limits.{COUNT, BITS, ANSWER-BYTES, PAGE}
-use Rattle.sheet.specs.Entries.{listed, addressFrom, afterQueries, queryPlaces}
+use Rattle.table.specs.Lists.{listed}
+use Rattle.sheet.specs.Entries.{addressFrom, afterQueries, queryPlaces}
 use Rattle.sheet.specs.Keys.{addressKey}
 use Rattle.sheet.specs.Text.{queriesItem, lastSpot, sheetOf, good, bad, textOf}
 use Rattle.sheet.specs.Printing.{refusalLines, headLines, joined}
@@ -21,7 +22,7 @@ use Rattle.sheet.specs.Answers.{firstWrong, queryLines, answersReport}
 use Rattle.sheet.specs.Solved.{reportBy, reportFor, solved}
 use Rattle.sheet.specs.Tablet.{textReport, reportOf, answerFor, Ran}
 use Rattle.sheet.proofs.Steps.{bits-is}
-use Rattle.sheet.proofs.Listing.{listed-length, listed-at}
+use Rattle.table.proofs.Lists.{listed-length, listed-at}
 use Rattle.sheet.proofs.Whole.{queries-line}
 use Rattle.sheet.proofs.Writing.{length-refusal, length-head, length-answer, length-joined}
 

@@ -16,10 +16,12 @@ use Rattle.sheet.specs.declared.parsing.Parsed.{Parsed}
 use Rattle.sheet.specs.Limits.{COUNT, NUMBER-DIGITS, NUMBER, LINES, LONGEST}
 use Rattle.sheet.specs.Keys.{widthKey, levelsKey, entriesKey, queriesKey, addressKey}
 use Rattle.sheet.specs.Lines.{numberLine, kindLine}
-use Rattle.sheet.specs.Entries.{listed, afterEntries, afterQueries, addressFrom, entryBits, entryLength, queryAddress, queryPlaces, HoldsEntries, HoldsQueries}
+use Rattle.table.specs.Lists.{listed}
+use Rattle.sheet.specs.Entries.{afterEntries, afterQueries, addressFrom, entryBits, entryLength, queryAddress, queryPlaces, HoldsEntries, HoldsQueries}
 use Rattle.sheet.specs.Text.{kindNamed, good, bad, start, widthItem, kindItem, levelsItem, entriesItem, queriesItem, lastSpot, sheetOf, headOf, textOf, concluded, parsedText, Small}
 use Rattle.sheet.proofs.Steps.{Line, Step, step-then, step-widen, UpTo, number-is, bits-is, kind-is}
-use Rattle.sheet.proofs.Listing.{listed-at, entry-spells, entries-step, queries-step}
+use Rattle.table.proofs.Lists.{listed-at}
+use Rattle.sheet.proofs.Listing.{entry-spells, entries-step, queries-step}
 
 -- ---- the single lines
 

@@ -1,20 +1,16 @@
 -- The entries' lines, "bits and hop for each entry", and the queries', "an address line each" (01, "The tablet program").
 -- Everything is said by index: where the reading stands after the first i of them, and what the next ones then give.
 use mathlib.Core.Path.{_≡_}
-use mathlib.Core.List.{List, [], _∷_, _++_}
+use mathlib.Core.List.{List}
 use Prim.Native.Nat.{ℕ, zero, suc}
 use lib.ListN.{take}
 use Rattle.sheet.specs.declared.lines.Spot.{Spot}
 use Rattle.sheet.specs.declared.lines.Item.{Item}
 use Rattle.sheet.specs.declared.entries.Entry.{Entry}
+use Rattle.table.specs.Lists.{listed}
 use Rattle.sheet.specs.Limits.{NUMBER-DIGITS, HOP}
 use Rattle.sheet.specs.Keys.{bitsKey, hopKey, addressKey}
 use Rattle.sheet.specs.Lines.{numberLine, bitsLine}
-
--- f at 0, 1, .. below n
-unfoldable pub listed : (ℕ → ℕ) → ℕ → List ℕ
-listed f zero = []
-listed f (suc n) = listed f n ++ (f n ∷ [])
 
 module _ (s : List ℕ) where
   -- an entry: its bits as a number, how many they are, its hop

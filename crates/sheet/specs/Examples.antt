@@ -5,7 +5,8 @@ use Prim.Native.Nat.{ℕ}
 use lib.ListN.{take}
 use Rattle.tries.specs.declared.chooser.Kind.the-variants.{Variable}
 use Rattle.sheet.specs.Lines.{byteAt, keyAt, isDigit, countAt, valueAt, digitsAt, plain, badLine, close, numberLine, bitsLine, kindLine}
-use Rattle.sheet.specs.Entries.{listed, entryFrom, addressFrom, afterEntries, afterQueries, entryBits, entryLength, entryHop, queryAddress, queryPlaces}
+use Rattle.table.specs.Lists.{listed}
+use Rattle.sheet.specs.Entries.{entryFrom, addressFrom, afterEntries, afterQueries, entryBits, entryLength, entryHop, queryAddress, queryPlaces}
 use Rattle.sheet.specs.Sheet.{Sheet}
 use Rattle.sheet.specs.Text.{good, bad, widthItem, kindItem, levelsItem, entriesItem, queriesItem, lastSpot, kindNamed, sheetOf, textOf}
 

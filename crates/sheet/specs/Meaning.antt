@@ -13,7 +13,7 @@ use Rattle.strides.specs.Cheapest.{Kind, Cheapest}
 use Rattle.strides.specs.Strides.{Follows}
 use Rattle.layout.specs.Blocks.{Strides}
 use Rattle.tries.specs.Build.{buildTests}
-use Rattle.layout.specs.Built.{tableTrie}
+use Rattle.layout.specs.Laid.{tableTrie}
 use Rattle.tries.specs.Kinds.{kindOf}
 use Rattle.tries.specs.Scratch.{ROW}
 use Rattle.sheet.specs.declared.running.Report.{Report}

@@ -15,7 +15,6 @@ use Rattle.strides.specs.Strides.{chosenBy}
 use Rattle.layout.specs.Blocks.{Strides, blocksAlong, rowCount, strideOf}
 use Rattle.tries.specs.Build.{buildTests}
 use Rattle.layout.specs.Laid.{tableTrie}
-use Rattle.tries.specs.Costs.{held}
 use Rattle.tries.specs.Kinds.{kindOf}
 use Rattle.tries.specs.declared.chooser.Kind as code
 use Rattle.tries.specs.Scratch.{ROW}
@@ -38,7 +37,7 @@ module _ (W k : ℕ) (vs ls hs : List ℕ) where
 module _ (kind : Kind) (W k : ℕ) (vs ls hs : List ℕ) where
   -- the strides that the build chooses
   abbrev pub chosen : Strides
-  chosen = chosenBy held kind k (tableTrie W vs ls hs)
+  chosen = chosenBy plain kind k (tableTrie W vs ls hs)
 
   -- tests 1 to 7, over what the program lends
   unfoldable pub buildOutcome : Outcome

@@ -17,7 +17,8 @@ use Rattle.sheet.specs.declared.parsing.Parsed.{Parsed}
 use Rattle.sheet.specs.Limits.{COUNT, BITS, NUMBER-DIGITS, NUMBER}
 use Rattle.sheet.specs.Keys.{widthKey, levelsKey, entriesKey, queriesKey}
 use Rattle.sheet.specs.Lines.{numberLine, kindLine}
-use Rattle.sheet.specs.Entries.{listed, afterEntries, afterQueries, entryBits, entryLength, entryHop, queryAddress, queryPlaces}
+use Rattle.table.specs.Lists.{listed}
+use Rattle.sheet.specs.Entries.{afterEntries, afterQueries, entryBits, entryLength, entryHop, queryAddress, queryPlaces}
 
 pub data Text : Type 0 where
   good : Sheet → Text

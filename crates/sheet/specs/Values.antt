@@ -8,7 +8,7 @@ use lib.ListN.{length}
 use lib.Dec.{ltb}
 use Rattle.table.specs.Limits.{widthLimit}
 use Rattle.table.specs.Table.{at}
-use Rattle.sheet.specs.Entries.{listed}
+use Rattle.table.specs.Lists.{listed}
 
 -- the number with the l leading bits b
 unfoldable pub valueOf : (W b l : ℕ) → ℕ

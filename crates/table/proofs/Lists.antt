@@ -32,3 +32,9 @@ listed-at f (suc n) i h =
           let g : i ≡ n = omega arith in
           rw e (getD-append-seam (listed f n) (f n) [] 0 ∙ ap f (sym g ∙ e))
     ]
+
+-- lists that agree at every index are one
+pub listed-same : (f g : ℕ → ℕ) (n : ℕ) → ((i : ℕ) → i < n → f i ≡ g i) → listed f n ≡ listed g n
+unfolding listed
+listed-same f g zero h = refl
+listed-same f g (suc n) h = rw (listed-same f g n (λ i k. h i (omega arith)), h n (omega arith))
