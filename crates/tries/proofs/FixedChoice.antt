@@ -19,12 +19,10 @@ use Rattle.strides.proofs.Sums.{nodes-deep}
 use Rattle.walk.specs.Limits.{WIDTH, LEVELS, Within}
 use Rattle.tries.specs.Limits.{ENTRIES}
 use Rattle.tries.specs.Costs.{held, slot, price, bestCost, bestStride}
-use Rattle.tries.specs.LevelCounts.{Counted}
 use Rattle.tries.specs.FixedChoice.{LEVEL-CELLS, Filled, RowFilled, StridesFilled, Reading, FixedIn}
 use Rattle.tries.specs.Chooser.{padded}
 use Rattle.tries.proofs.Zeroes.{zeros-read}
 use Rattle.tries.proofs.Gathering.{same?}
-use Rattle.tries.proofs.LevelCounts.{nodes-from, count-start}
 use Rattle.tries.proofs.Pricing.{scan-same}
 
 pub longest-next : (len : ℕ → ℕ) (i : ℕ) → longestLength len (i + 1) ≡ max (len i) (longestLength len i)
@@ -235,15 +233,14 @@ past-end [] j h = refl
 past-end (x ∷ xs) zero h = absurd (omega arith)
 past-end (x ∷ xs) (suc j) h = past-end xs j (omega arith)
 
-module _ (rows : List ℕ) (root deep levels : ℕ) (counts : List ℕ) (long : length counts ≡ WIDTH)
-    (counted : Counted rows root 0 (replicate WIDTH 0) counts) (t : Trie) (g : FixedIn rows root deep levels t) where
+module _ (counts : List ℕ) (deep levels : ℕ) (t : Trie) (g : FixedIn counts deep levels t) where
   -- the counts are those of the trie, at every level
   counts-are : (j : ℕ) → getD counts j 0 ≡ nodesAt j t
   counts-are j = go (decLe WIDTH j)
     where
       go : Dec (WIDTH ≤ j) → getD counts j 0 ≡ nodesAt j t
-      go (yes q) = past-end counts j (omega arith) ∙ sym (nodes-deep t j (omega (arith, g .short)))
-      go (no q) = counted t (count-start rows root t (g .linked) (g .short) (g .few)) j (omega arith) ∙ omega (arith, zeros-read WIDTH j, nodes-from j t)
+      go (yes q) = past-end counts j (omega (arith, g .counted .long)) ∙ sym (nodes-deep t j (omega (arith, g .short)))
+      go (no q) = g .counted .nodes j (omega arith)
 
   pub counts-small : (j : ℕ) → getD counts j 0 ≤ ENTRIES
   counts-small j = omega (arith, counts-are j, g .few j)

@@ -41,15 +41,15 @@ row-next rows k d sums sums1 sums2 m v len hd hm a e f =
 
 -- ---- a subtrie
 
-pub sum-here : (d : ℕ) (f : Trie → ℕ) (p : ℕ) (a : Trie) (q : ℕ) (b : Trie) → sumAt d d f (node p a q b) ≡ f (node p a q b)
+sum-here : (d : ℕ) (f : Trie → ℕ) (p : ℕ) (a : Trie) (q : ℕ) (b : Trie) → sumAt d d f (node p a q b) ≡ f (node p a q b)
 unfolding sumAt sumBy
 sum-here d f p a q b = let e : d - d ≡ 0 = omega arith in rw (le-ltb d d (le-refl d), e)
 
-pub sum-past : (d : ℕ) (f : Trie → ℕ) (t : Trie) → sumAt (d + 1) d f t ≡ 0
+sum-past : (d : ℕ) (f : Trie → ℕ) (t : Trie) → sumAt (d + 1) d f t ≡ 0
 unfolding sumAt
 sum-past d f t = rw (lt-ltb d (d + 1) (omega arith))
 
-pub sum-other : (d j : ℕ) (f : Trie → ℕ) (p : ℕ) (a : Trie) (q : ℕ) (b : Trie) → (j ≡ d → ⊥)
+sum-other : (d j : ℕ) (f : Trie → ℕ) (p : ℕ) (a : Trie) (q : ℕ) (b : Trie) → (j ≡ d → ⊥)
     → sumAt d j f (node p a q b) ≡ sumAt (d + 1) j f a + sumAt (d + 1) j f b
 unfolding sumAt sumBy
 sum-other d j f p a q b ne = go (decLe d j)
@@ -58,7 +58,7 @@ sum-other d j f p a q b ne = go (decLe d j)
     go (no h) = rw (lt-ltb j d (omega arith), lt-ltb j (d + 1) (omega arith))
     go (yes h) = let e : j - d ≡ suc (j - (d + 1)) = omega arith in rw (le-ltb j d h, le-ltb j (d + 1) (omega arith), e)
 
-pub sum-none : (d j : ℕ) (f : Trie → ℕ) → sumAt d j f none ≡ 0
+sum-none : (d j : ℕ) (f : Trie → ℕ) → sumAt d j f none ≡ 0
 unfolding sumAt sumBy
 sum-none d j f = go (decLe d j)
   where

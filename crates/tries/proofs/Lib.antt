@@ -4,12 +4,12 @@ pub mod Leveling
 pub mod Laying
 pub mod Inserting
 pub mod Zeroes
+pub mod LevelCounts
 pub mod Making
 pub mod Counts
 pub mod Gathering
 pub mod Pricing
 pub mod Settling
-pub mod LevelCounts
 pub mod FixedChoice
 pub mod ChooseTests
 pub mod PlanRows

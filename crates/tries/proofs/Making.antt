@@ -9,16 +9,18 @@ use native.Mathlib.Numerals.{sub-one, add-one}
 use lib.ListN.{length, getD}
 use Rattle.table.specs.Prefix.{start, IsPrefix}
 use Rattle.table.specs.Table.{at}
-use Rattle.strides.specs.Trie.{Trie, none, node, left, right, leftMark, rightMark, kid, markOn, bit, size}
+use Rattle.strides.specs.Trie.{Trie, none, node, left, right, leftMark, rightMark, kid, markOn, bit, size, sumBy, nodesAt}
 use Rattle.strides.specs.Entries.{trieOf}
-use Rattle.strides.specs.Insertion.{insertT, place, markFor, nodeCount}
-use Rattle.strides.proofs.Insertion.{trie-insert, trie-empty}
+use Rattle.strides.specs.Insertion.{insertT, place, met, nodeCount}
+use Rattle.strides.proofs.Insertion.{trie-insert, trie-empty, insert-size, met-within}
 use Rattle.strides.proofs.Counting.{node-count}
 use Rattle.walk.specs.Limits.{WIDTH}
 use Rattle.tries.specs.Scratch.{ROW}
 use Rattle.tries.specs.Trees.{Tree, nil, fork, shape, linkOf, rowFor, next, side, setSide, setMark, lt, rt, lmark, rmark, Stand, Has, Apart, Under, insertR, countR, addEntry, treeOf}
 use Rattle.tries.specs.Inserting.{InsertIn, Inserted}
-use Rattle.tries.specs.Making.{Prefixes, InRows, AddIn, AddOut, Added, MakeIn, MakeOut}
+use Rattle.tries.specs.Making.{Prefixes, InRows, AddIn, AddOut, Added, CountIn, AddCounted, MakeOut}
+use Rattle.tries.specs.LevelCounts.{LevelsAdded, CountsOf}
+use Rattle.tries.proofs.LevelCounts.{counts-can, counts-next}
 use Rattle.tries.proofs.Inserting.{made, next-le, made-insert, made-count, made-apart, made-under, count-grows, under-insert, apart-insert, link-insert}
 
 -- ---- a tree and its trie
@@ -171,6 +173,31 @@ module _ (rows : List ℕ) (used W v l h : ℕ) where
   unfolding addEntry
   add-none z t a e = rw z (record { laid = a; count = e })
 
+-- ---- its new nodes, counted
+
+module _ (rows counts : List ℕ) (used W v l h : ℕ) where
+  -- as many rows are taken as the entry has proper starts that were not met
+  grown-is : (t : Tree) (used' : ℕ) (rows' : List ℕ) → used ≡ size (shape t) → AddOut used W v l h t used' rows' → used' ≡ used + (l - met l (start W l v) (shape t))
+  grown-is t used' rows' e o =
+      omega (arith, o .count, ap size (add-shape l used t (start W l v) h), insert-size l (start W l v) h (shape t))
+
+  pub levels-in : CountIn rows counts used W v l h → (used' : ℕ) (rows' : List ℕ) → Added rows used W v l h used' rows'
+      → (used ≤ used') × (used' - used ≤ l) × (l ≤ WIDTH)
+  levels-in g used' rows' a =
+      let i = g .adds in
+      let n = grown-is (i .tree) used' rows' (i .count) (a (i .tree) (i .laid) (i .count)) in
+      (omega arith, omega arith, omega (arith, i .short, i .width))
+
+  pub counted-out : (used' : ℕ) (rows' counts' : List ℕ) → Added rows used W v l h used' rows' → LevelsAdded counts (l - (used' - used)) l counts'
+      → AddCounted rows counts used W v l h used' rows' counts'
+  counted-out used' rows' counts' a b = record {
+    added = a;
+    levels = λ t i e.
+        let n = grown-is t used' rows' e (a t i e) in
+        let m : l - (used' - used) ≡ met l (start W l v) (shape t) = omega (arith, met-within l (start W l v) (shape t)) in
+        rw m at b;
+  }
+
 -- ---- the whole table
 
 module _ (W : ℕ) (val len mark : ℕ → ℕ) where
@@ -193,51 +220,75 @@ unfolding shape size
 link-one nil e = (λ h. absurd (omega arith), λ z. refl)
 link-one (fork x p l q r) e = (λ h. omega arith, λ z. absurd (omega arith))
 
-module _ (W : ℕ) (vs ls hs : List ℕ) (p : Prefixes W vs ls) where
+module _ (W : ℕ) (vs ls hs : List ℕ) where
   abbrev tree : ℕ → Tree
   tree i = treeOf W (at vs) (at ls) (at hs) i
 
-  -- the trie of the first entries is no larger than that of all
-  tree-room : (i : ℕ) → i ≤ length vs → size (shape (tree i)) ≤ size (trieOf W (at vs) (at ls) (at hs) (length vs))
-  tree-room i h =
-      let n = length vs in
-      let c : (j : ℕ) → j ≤ n → nodeCount W (at vs) (at ls) j ≡ size (trieOf W (at vs) (at ls) (at hs) j)
-      = λ j l. node-count W (at vs) (at ls) n (p .prefix) (p .rises) (at hs) j l in
-      let s = ap size (tree-shape W (at vs) (at ls) (at hs) i (λ j l. p .prefix j (omega arith))) in
-      let e : i + (n - i) ≡ n = omega arith in
-      omega (arith, c i h, c n (le-refl n), rw e at (count-mono W (at vs) (at ls) i (n - i)))
+  -- after the first i entries
+  pub record Made (i used : ℕ) (rows counts : List ℕ) : Type 0 where
+    pub laid : InRows rows (tree i)
+    pub count : used ≡ size (shape (tree i))
+    pub counted : CountsOf counts (shape (tree i))
 
-  pub make-add : (rows : List ℕ) (i used : ℕ) → size (trieOf W (at vs) (at ls) (at hs) (length vs)) * ROW ≤ length rows → i < length vs
-      → InRows rows (tree i) → used ≡ size (shape (tree i)) → AddIn rows used W (at vs i) (at ls i) (at hs i)
-  unfolding treeOf
-  make-add rows i used room h a e = record {
-    tree = tree i;
-    laid = a;
-    count = e;
-    room = rw e (omega (arith, tree-room (suc i) h));
-    short = p .prefix i h .short;
-    width = p .width;
+  pub make-start : (rows counts : List ℕ) → ((i : ℕ) → getD rows i 0 ≡ 0) → length counts ≡ WIDTH → ((j : ℕ) → at counts j ≡ 0) → Made 0 0 rows counts
+  unfolding treeOf shape size nodesAt sumBy
+  make-start rows counts z long clear = record {
+    laid = record { stand = tt; apart = tt; under = λ y h. absurd h; rooted = refl; bare = λ y c lo hi. z (y * ROW + c); blank = λ i h. z i };
+    count = refl;
+    counted = record { long = long; nodes = λ j h. clear j };
   }
 
-  pub make-next : (rows rows' : List ℕ) (i used used' : ℕ) → InRows rows (tree i) → used ≡ size (shape (tree i)) → Added rows used W (at vs i) (at ls i) (at hs i) used' rows'
-      → InRows rows' (tree (i + 1)) × (used' ≡ size (shape (tree (i + 1))))
-  unfolding treeOf
-  make-next rows rows' i used used' a e d =
-      let o = d (tree i) a e in
-      rw (add-one i, ← e) (o .laid, o .count)
+  module _ (p : Prefixes W vs ls) where
+    -- the trie of the first entries is no larger than that of all
+    tree-room : (i : ℕ) → i ≤ length vs → size (shape (tree i)) ≤ size (trieOf W (at vs) (at ls) (at hs) (length vs))
+    tree-room i h =
+        let n = length vs in
+        let c : (j : ℕ) → j ≤ n → nodeCount W (at vs) (at ls) j ≡ size (trieOf W (at vs) (at ls) (at hs) j)
+        = λ j l. node-count W (at vs) (at ls) n (p .prefix) (p .rises) (at hs) j l in
+        let s = ap size (tree-shape W (at vs) (at ls) (at hs) i (λ j l. p .prefix j (omega arith))) in
+        let e : i + (n - i) ≡ n = omega arith in
+        omega (arith, c i h, c n (le-refl n), rw e at (count-mono W (at vs) (at ls) i (n - i)))
 
-pub make-start : (W : ℕ) (vs ls hs rows : List ℕ) → ((i : ℕ) → getD rows i 0 ≡ 0) → InRows rows (treeOf W (at vs) (at ls) (at hs) 0) × (0 ≡ size (shape (treeOf W (at vs) (at ls) (at hs) 0)))
-unfolding treeOf shape size
-make-start W vs ls hs rows z = (record { stand = tt; apart = tt; under = λ y h. absurd h; rooted = refl; bare = λ y c lo hi. z (y * ROW + c); blank = λ i h. z i }, refl)
+    pub make-add : (rows counts : List ℕ) (i used : ℕ) → size (trieOf W (at vs) (at ls) (at hs) (length vs)) * ROW ≤ length rows → i < length vs
+        → Made i used rows counts → CountIn rows counts used W (at vs i) (at ls i) (at hs i)
+    unfolding treeOf
+    make-add rows counts i used room h m = record {
+      adds = record {
+        tree = tree i;
+        laid = m .laid;
+        count = m .count;
+        room = rw (m .count) (omega (arith, tree-room (suc i) h));
+        short = p .prefix i h .short;
+        width = p .width;
+      };
+      can = counts-can counts (shape (tree i)) (m .counted);
+    }
 
-pub make-done : (W : ℕ) (vs ls hs rows : List ℕ) (i used root : ℕ) → i ≡ length vs → InRows rows (treeOf W (at vs) (at ls) (at hs) i) → used ≡ size (shape (treeOf W (at vs) (at ls) (at hs) i))
-    → (0 < used → root ≡ 1) → (used ≡ 0 → root ≡ 0) → MakeOut W vs ls hs root rows
-make-done W vs ls hs rows i used root h a e one nil′ =
-    let t = treeOf W (at vs) (at ls) (at hs) i in
-    let l = link-one t (a .rooted) in
-    let k : root ≡ linkOf t = ⊎-elim (λ z. nil′ z ∙ sym (l .1 (sym e ∙ z))) (λ q. one q ∙ sym (l .0 (rw e at q))) (zero-or used) in
-    record { laid = rw (← h) a; link = rw (← h) k }
-  where
-    zero-or : (u : ℕ) → (u ≡ 0) ⊎ (0 < u)
-    zero-or zero = inl refl
-    zero-or (suc u) = inr (omega arith)
+    pub make-next : (rows rows' counts counts' : List ℕ) (i used used' : ℕ) → Made i used rows counts
+        → AddCounted rows counts used W (at vs i) (at ls i) (at hs i) used' rows' counts' → Made (i + 1) used' rows' counts'
+    unfolding treeOf
+    make-next rows rows' counts counts' i used used' m d =
+        let o = d .added (tree i) (m .laid) (m .count) in
+        let c = counts-next counts counts' (shape (tree i)) (at ls i) (start W (at ls i) (at vs i)) (at hs i) (m .counted) (d .levels (tree i) (m .laid) (m .count)) in
+        let e : addEntry (at ls i) used (tree i) (start W (at ls i) (at vs i)) (at hs i) ≡ tree (i + 1) = tree-next i used (m .count) in
+        record {
+          laid = rw e at (o .laid);
+          count = rw e at (o .count);
+          counted = subst (CountsOf counts') (sym (add-shape (at ls i) used (tree i) (start W (at ls i) (at vs i)) (at hs i)) ∙ ap shape e) c;
+        }
+      where
+        tree-next : (i used : ℕ) → used ≡ size (shape (tree i)) → addEntry (at ls i) used (tree i) (start W (at ls i) (at vs i)) (at hs i) ≡ tree (i + 1)
+        tree-next i used e = rw (add-one i, e) refl
+
+    pub make-done : (rows counts : List ℕ) (i used root : ℕ) → i ≡ length vs → Made i used rows counts → (0 < used → root ≡ 1) → (used ≡ 0 → root ≡ 0)
+        → MakeOut W vs ls hs root rows counts
+    make-done rows counts i used root h m one nil′ =
+        let t = treeOf W (at vs) (at ls) (at hs) i in
+        let e = m .count in
+        let l = link-one t (m .laid .rooted) in
+        let k : root ≡ linkOf t = ⊎-elim (λ z. nil′ z ∙ sym (l .1 (sym e ∙ z))) (λ q. one q ∙ sym (l .0 (rw e at q))) (zero-or used) in
+        record { counted = rw (← h) (m .counted); laid = rw (← h) (m .laid); link = rw (← h) k }
+      where
+        zero-or : (u : ℕ) → (u ≡ 0) ⊎ (0 < u)
+        zero-or zero = inl refl
+        zero-or (suc u) = inr (omega arith)

@@ -22,13 +22,12 @@ use Rattle.layout.specs.Laid.{tableTrie}
 use Rattle.tries.specs.Trees.{Tree, nil, fork, shape, linkOf, Has, treeOf}
 use Rattle.tries.specs.Making.{Prefixes, MakeIn, MakeOut}
 use Rattle.tries.specs.Costs.{held, Costed, TreeIn, TreeAsk, TreeDone}
-use Rattle.tries.specs.LevelCounts.{Linked}
+use Rattle.tries.specs.LevelCounts.{CountsOf}
 use Rattle.tries.specs.FixedChoice.{FixedIn, FixedOut}
 use Rattle.tries.specs.Chooser.{padded}
 use Rattle.tries.proofs.Zeroes.{zeros-read}
 use Rattle.tries.proofs.Making.{tree-shape}
 use Rattle.tries.proofs.Settling.{tree-costed}
-use Rattle.tries.proofs.LevelCounts.{tree-linked}
 use Rattle.tries.proofs.FixedChoice.{padded-read, padded-length}
 use Rattle.tries.specs.Plans.{PlanIn, Planned}
 use Rattle.tries.proofs.ChooseTests.{table-prefixes}
@@ -61,15 +60,17 @@ module _ (W k : ℕ) (vs ls hs scratch : List ℕ) (g : PlanIn W k vs ls hs scra
   pub below-cap : (kind : Kind) → leastBy plain kind k trie < COST-CAP
   below-cap kind = cap-never-bites COST-CAP kind k trie (omega (arith, two-to-depth))
 
-  pub make-in : MakeIn W vs ls hs (replicate (length scratch) 0)
+  pub make-in : MakeIn W vs ls hs (replicate (length scratch) 0) (replicate WIDTH 0)
   make-in = record {
     prefixes = plan-prefixes;
     hops = g .table .hops;
     zeros = zeros-read (length scratch);
+    places = refl;
+    no-counts = zeros-read WIDTH;
     room = omega (arith, g .room, length-replicate {A = ℕ} (length scratch) 0);
   }
 
-  module _ (root : ℕ) (rows : List ℕ) (m : MakeOut W vs ls hs root rows) (len : length rows ≡ length scratch) where
+  module _ (root : ℕ) (rows counts : List ℕ) (m : MakeOut W vs ls hs root rows counts) (len : length rows ≡ length scratch) where
     rows-fit : (y : ℕ) → Has y tree → (y + 1) * ROW ≤ length rows
     rows-fit y h = omega (arith, m .laid .under y h, ap size tree-trie, g .room)
 
@@ -98,16 +99,16 @@ module _ (W k : ℕ) (vs ls hs scratch : List ℕ) (g : PlanIn W k vs ls hs scra
     for-trie σ rows' plan s =
         subst (Stands σ rows' plan root) tree-trie (subst (λ (x : ℕ). Stands σ rows' plan x (shape tree)) (sym (m .link)) s)
 
-    pub fixed-in : (deep : ℕ) → deep ≡ longestLength (at ls) (length ls) → FixedIn rows root deep k trie
+    pub fixed-in : (deep : ℕ) → deep ≡ longestLength (at ls) (length ls) → FixedIn counts deep k trie
     fixed-in deep e = record {
-      linked = subst (Linked rows root) tree-trie (subst (λ (x : ℕ). Linked rows x (shape tree)) (sym (m .link)) (tree-linked rows tree (m .laid .stand) rows-fit));
+      counted = subst (CountsOf counts) tree-trie (m .counted);
       depths = e ∙ ap (longestLength (at ls)) (g .table .lengths) ∙ sym (trie-depth W (at vs) (at ls) (at hs) (length vs) (plan-prefixes .prefix));
       short = plan-depth;
       few = λ j. omega (arith, nodes-entries W (at vs) (at ls) (at hs) (length vs) j (plan-prefixes .prefix), g .table .few);
       within = g .levels;
     }
 
-    pub plan-fixed : (deep cost : ℕ) (strides : List ℕ) → deep ≡ longestLength (at ls) (length ls) → FixedOut rows root deep k cost strides
+    pub plan-fixed : (deep cost : ℕ) (strides : List ℕ) → deep ≡ longestLength (at ls) (length ls) → FixedOut counts deep k cost strides
         → Planned fixed W k vs ls hs cost strides strides root rows
     unfolding chosenBy fixedStride stridesBy
     plan-fixed deep cost strides d f =

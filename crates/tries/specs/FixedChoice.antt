@@ -1,5 +1,5 @@
 -- The table of fixed strides, from the last level up: place i * LEVELS + r is for the levels from i on, with r + 1 levels
--- left. And what the fixed choice asks of the rows and gives.
+-- left. And what the fixed choice asks of the counts and gives.
 use mathlib.Core.Path.{_≡_}
 use mathlib.Core.List.{List}
 use Prim.Native.Nat.{ℕ, _+_, _-_, _*_, _≤_, _<_}
@@ -11,7 +11,7 @@ use Rattle.walk.specs.Limits.{WIDTH, LEVELS, Within}
 use Rattle.tries.specs.Limits.{ENTRIES}
 use Rattle.tries.specs.Chooser.{padded}
 use Rattle.tries.specs.Costs.{held, slot, bestCost, bestStride}
-use Rattle.tries.specs.LevelCounts.{Linked}
+use Rattle.tries.specs.LevelCounts.{CountsOf}
 
 -- places of the table of fixed strides: a row for each level, and one past the last
 abbrev pub LEVEL-CELLS : ℕ
@@ -41,21 +41,21 @@ StridesFilled nodes levels depth strides =
 abbrev pub SomeNodes : ℕ → ℕ → List ℕ → Type 0
 SomeNodes levels depth strides = (nodes : ℕ → ℕ) × StridesFilled nodes levels depth strides
 
--- the link `root` stands for t, whose depth is `deep`
-pub record FixedIn (rows : List ℕ) (root deep levels : ℕ) (t : Trie) : Type 0 where
-  pub linked : Linked rows root t
+-- `nodes` counts the nodes of t, whose depth is `deep`
+pub record FixedIn (nodes : List ℕ) (deep levels : ℕ) (t : Trie) : Type 0 where
+  pub counted : CountsOf nodes t
   pub depths : deep ≡ depth t
   pub short : depth t ≤ WIDTH
   pub few : (j : ℕ) → nodesAt j t ≤ ENTRIES
   pub within : Within levels LEVELS
 
-abbrev pub CanChoose : (rows : List ℕ) (root deep levels : ℕ) → Type 0
-CanChoose rows root deep levels = (t : Trie) × FixedIn rows root deep levels t
+abbrev pub CanChoose : (nodes : List ℕ) (deep levels : ℕ) → Type 0
+CanChoose nodes deep levels = (t : Trie) × FixedIn nodes deep levels t
 
--- the cheapest fixed choice for the trie that stands there
-abbrev pub FixedOut : (rows : List ℕ) (root deep levels cost : ℕ) (strides : List ℕ) → Type 0
-FixedOut rows root deep levels cost strides =
-    (t : Trie) → FixedIn rows root deep levels t → (cost ≡ leastBy held fixed levels t) × (strides ≡ padded LEVELS (stridesBy held fixed levels t))
+-- the cheapest fixed choice for every trie of such counts
+abbrev pub FixedOut : (nodes : List ℕ) (deep levels cost : ℕ) (strides : List ℕ) → Type 0
+FixedOut nodes deep levels cost strides =
+    (t : Trie) → FixedIn nodes deep levels t → (cost ≡ leastBy held fixed levels t) × (strides ≡ padded LEVELS (stridesBy held fixed levels t))
 
 -- p places of the list are read, and the levels from i on are left
 pub record Reading (nodes : ℕ → ℕ) (levels depth i p : ℕ) (list : List ℕ) : Type 0 where

@@ -8,9 +8,9 @@ pub mod Build
 pub mod Scratch
 pub mod Trees
 pub mod Inserting
+pub mod LevelCounts
 pub mod Making
 pub mod Costs
-pub mod LevelCounts
 pub mod FixedChoice
 pub mod Plans
 pub mod Filling

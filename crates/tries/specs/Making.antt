@@ -9,7 +9,9 @@ use Rattle.table.specs.Entry.{Rises}
 use Rattle.table.specs.Table.{at}
 use Rattle.strides.specs.Trie.{size}
 use Rattle.strides.specs.Entries.{trieOf}
+use Rattle.strides.specs.Insertion.{met}
 use Rattle.walk.specs.Limits.{WIDTH}
+use Rattle.tries.specs.LevelCounts.{CanCount, LevelsAdded, CountsOf}
 use Rattle.tries.specs.Scratch.{DEPTH, ROW}
 use Rattle.tries.specs.Trees.{Tree, shape, linkOf, rowFor, col, Stand, Apart, Under, addEntry, treeOf}
 
@@ -46,13 +48,25 @@ pub record AddOut (used W v l h : ℕ) (t : Tree) (used' : ℕ) (rows' : List �
 abbrev pub Added : List ℕ → (used W v l h used' : ℕ) → List ℕ → Type 0
 Added rows used W v l h used' rows' = (t : Tree) → InRows rows t → used ≡ size (shape t) → AddOut used W v l h t used' rows'
 
+-- the same entry, with its new nodes counted at their levels
+pub record CountIn (rows counts : List ℕ) (used W v l h : ℕ) : Type 0 where
+  pub adds : AddIn rows used W v l h
+  pub can : CanCount counts
+
+pub record AddCounted (rows counts : List ℕ) (used W v l h used' : ℕ) (rows' counts' : List ℕ) : Type 0 where
+  pub added : Added rows used W v l h used' rows'
+  pub levels : (t : Tree) → InRows rows t → used ≡ size (shape t) → LevelsAdded counts (met l (start W l v) (shape t)) l counts'
+
 -- the whole table
-pub record MakeIn (W : ℕ) (vs ls hs rows : List ℕ) : Type 0 where
+pub record MakeIn (W : ℕ) (vs ls hs rows counts : List ℕ) : Type 0 where
   pub prefixes : Prefixes W vs ls
   pub hops : length hs ≡ length vs
   pub zeros : (i : ℕ) → getD rows i 0 ≡ 0
+  pub places : length counts ≡ WIDTH
+  pub no-counts : (j : ℕ) → at counts j ≡ 0
   pub room : size (trieOf W (at vs) (at ls) (at hs) (length vs)) * ROW ≤ length rows
 
-pub record MakeOut (W : ℕ) (vs ls hs : List ℕ) (root : ℕ) (rows' : List ℕ) : Type 0 where
+pub record MakeOut (W : ℕ) (vs ls hs : List ℕ) (root : ℕ) (rows' counts' : List ℕ) : Type 0 where
+  pub counted : CountsOf counts' (shape (treeOf W (at vs) (at ls) (at hs) (length vs)))
   pub laid : InRows rows' (treeOf W (at vs) (at ls) (at hs) (length vs))
   pub link : root ≡ linkOf (treeOf W (at vs) (at ls) (at hs) (length vs))

@@ -95,7 +95,8 @@ fn plan_variable(
         (now (scratch .exit)) ⌝ }
 {
     zero(scratch);
-    let root = make_rows(scratch, width, vals, lens, hops);
+    let mut nodes = [0u64; WIDTH as usize];
+    let root = make_rows(scratch, &mut nodes, width, vals, lens, hops);
     let k = levels as usize;
     settle_tree(scratch, root, 0, k);
     let mut strides = [0u8; LEVELS as usize];
@@ -123,9 +124,10 @@ fn plan_fixed(
         (now (scratch .exit)) ⌝ }
 {
     zero(scratch);
-    let root = make_rows(scratch, width, vals, lens, hops);
+    let mut nodes = [0u64; WIDTH as usize];
+    let root = make_rows(scratch, &mut nodes, width, vals, lens, hops);
     let depth = longest_length(lens);
-    let f = fixed_choice(scratch, root, depth, levels as usize);
+    let f = fixed_choice(&nodes, depth, levels as usize);
     let strides = f.strides;
     Plan {
         cost: f.cost,

@@ -1,5 +1,5 @@
-// The fixed choice: one stride for all blocks of a level (source document 000). The nodes of each level are counted in the
-// rows; then, from the last level up, the cheapest strides for the levels from there on.
+// The fixed choice: one stride for all blocks of a level (source document 000). From the nodes of each level, counted as the rows are
+// made, and from the last level up, the cheapest strides for the levels from there on.
 ghost use mathlib.Core.Path.{_≡_};
 ghost use Prim.Native.Nat.{ℕ, _+_, _-_, _*_, _^_, _<_, _≤_};
 ghost use lib.ListN.{length, getD, drop};
@@ -9,29 +9,15 @@ ghost use Rattle.strides.specs.Recurrence.{listBy};
 ghost use Rattle.walk.specs.Limits.{WIDTH, LEVELS};
 ghost use Rattle.tries.specs.Limits.{ENTRIES};
 ghost use Rattle.tries.specs.Costs.{held};
-ghost use Rattle.tries.specs.LevelCounts.{CanCount, Counted};
 ghost use Rattle.tries.specs.FixedChoice.{LEVEL-CELLS, Filled, RowFilled, StridesFilled, SomeNodes, CanChoose, FixedOut};
 ghost use Rattle.tries.specs.Chooser.{padded};
 use crate::costs::choice;
 use crate::costs::larger;
 use crate::limits::SLOTS;
-use crate::scratch::asked;
 use table::WIDTH;
 
 // Places of the table of fixed strides: every level and one past the last, and every number of levels left.
 const LEVEL_CELLS: usize = (WIDTH as usize + 1) * SLOTS;
-
-// Counts the nodes of the subtrie at link k, which stands at depth d, each at its level.
-fn count_rows(rows: &[u64], k: usize, d: usize, counts: &mut [u64])
-    requires { ⌜ CanCount (now rows) k d (now counts) ⌝ }
-    ensures { λ _. ⌜ Counted (now (rows .entry)) k d (now (counts .entry)) (now (counts .exit)) ⌝ }
-{
-    if k != 0 {
-        counts[d] += 1;
-        count_rows(rows, asked(rows, k, 0), d + 1, counts);
-        count_rows(rows, asked(rows, k, 1), d + 1, counts);
-    }
-}
 
 // The longest length: how many levels the trie has.
 pub(crate) fn longest_length(lens: &[u8]) -> usize
@@ -102,16 +88,14 @@ pub(crate) struct Fixed {
     pub(crate) strides: [u8; SLOTS],
 }
 
-// The cheapest fixed choice for the trie at link `root`, which has `depth` levels.
-pub(crate) fn fixed_choice(rows: &[u64], root: usize, depth: usize, levels: usize) -> Fixed
-    requires { ⌜ CanChoose (now rows) root depth levels ⌝ }
-    ensures { λ r. ⌜ FixedOut (now (rows .entry)) root depth levels (r .cost) (r .strides) ⌝ }
+// The cheapest fixed choice for a trie of `depth` levels, whose nodes are counted level by level.
+pub(crate) fn fixed_choice(nodes: &[u64], depth: usize, levels: usize) -> Fixed
+    requires { ⌜ CanChoose (now nodes) depth levels ⌝ }
+    ensures { λ r. ⌜ FixedOut (now (nodes .entry)) depth levels (r .cost) (r .strides) ⌝ }
 {
-    let mut nodes = [0u64; WIDTH as usize];
-    count_rows(rows, root, 0, &mut nodes);
     let mut costs = [0u64; LEVEL_CELLS];
     let mut strides = [0u64; LEVEL_CELLS];
-    fill_table(&nodes, levels, depth, &mut costs, &mut strides);
+    fill_table(nodes, levels, depth, &mut costs, &mut strides);
     Fixed {
         cost: costs[levels - 1],
         strides: read_list(&strides, levels, depth),

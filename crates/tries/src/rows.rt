@@ -4,7 +4,9 @@ ghost use Prim.Native.Nat.{_+_, _*_, _^_, _<_, _≤_, max};
 ghost use lib.ListN.{length};
 ghost use Rattle.tries.specs.Scratch.{ROW};
 ghost use Rattle.tries.specs.Inserting.{Downed, InsertIn, Inserted};
-ghost use Rattle.tries.specs.Making.{AddIn, Added, MakeIn, MakeOut};
+ghost use Rattle.walk.specs.Limits.{WIDTH};
+ghost use Rattle.tries.specs.LevelCounts.{CanCount, LevelsAdded};
+ghost use Rattle.tries.specs.Making.{AddIn, Added, CountIn, AddCounted, MakeIn, MakeOut};
 use crate::scratch::ROW;
 use crate::scratch::put;
 
@@ -65,6 +67,37 @@ fn add(rows: &mut [u64], used: usize, width: usize, v: usize, l: usize, h: usize
     insert(rows, 0, opened(used), v >> (width - l), l - 1, h)
 }
 
+// Adds 1 to the levels from `from` up to but not `to`.
+fn add_levels(counts: &mut [u64], from: usize, to: usize)
+    requires { ⌜ (from ≤ to) × (to ≤ WIDTH) × CanCount (now counts) ⌝ }
+    ensures { λ _. ⌜ LevelsAdded (now (counts .entry)) from to (now (counts .exit)) ⌝ }
+{
+    let mut j = from;
+    while j < to {
+        counts[j] += 1;
+        j += 1;
+    }
+}
+
+// Lays one entry, and counts its new nodes: they are its longest proper starts.
+fn add_counted(
+    rows: &mut [u64],
+    counts: &mut [u64],
+    used: usize,
+    width: usize,
+    v: usize,
+    l: usize,
+    h: usize,
+) -> usize
+    requires { ⌜ CountIn (now rows) (now counts) used width v l h ⌝ }
+    ensures { λ r. ⌜
+        AddCounted (now (rows .entry)) (now (counts .entry)) used width v l h r (now (rows .exit)) (now (counts .exit)) ⌝ }
+{
+    let grown = add(rows, used, width, v, l, h);
+    add_levels(counts, l - (grown - used), l);
+    grown
+}
+
 // The link of the root where some rows are used.
 fn root_link(used: usize) -> usize
     ensures some { λ r. ⌜ (0 < used → r ≡ 1) ⌝ }
@@ -73,24 +106,27 @@ fn root_link(used: usize) -> usize
     if used == 0 { 0 } else { 1 }
 }
 
-// Makes the rows of a table's 1-bit trie in rows that are all 0, and returns the root's link.
+// Makes the rows of a table's 1-bit trie in rows that are all 0, counts its nodes level by level in counts that are all 0, and
+// returns the root's link.
 pub(crate) fn make_rows(
     rows: &mut [u64],
+    counts: &mut [u64],
     width: u32,
     vals: &[u32],
     lens: &[u8],
     hops: &[u16],
 ) -> usize
-    requires { ⌜ MakeIn width (now vals) (now lens) (now hops) (now rows) ⌝ }
-    ensures { λ r. ⌜ MakeOut width (now (vals .entry)) (now (lens .entry)) (now (hops .entry)) r (now (rows .exit)) ⌝ }
+    requires { ⌜ MakeIn width (now vals) (now lens) (now hops) (now rows) (now counts) ⌝ }
+    ensures { λ r. ⌜ MakeOut width (now (vals .entry)) (now (lens .entry)) (now (hops .entry)) r (now (rows .exit)) (now (counts .exit)) ⌝ }
 {
     let n = vals.len();
     let w = width as usize;
     let mut used = 0;
     let mut i = 0;
     while i < n {
-        used = add(
+        used = add_counted(
             rows,
+            counts,
             used,
             w,
             vals[i] as usize,

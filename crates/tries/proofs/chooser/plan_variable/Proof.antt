@@ -7,27 +7,31 @@ use Rattle.tries.proofs.chooser.plan_variable.Tie as tie
 zero-requires : tie.Need-zero-requires
 zero-requires c κs = search needs
 
+slice-aggregate-make-rows : tie.Need-slice-aggregate-make-rows
+slice-aggregate-make-rows c = search needs
+
 make-rows-requires : tie.Need-make-rows-requires
 make-rows-requires c κs =
-    let S = c .before .before .before .before .before .before .before .before .before in
-    rw (c .before .before .before .zero .ensures) (make-in (S .args .width) (S .args .levels) (S .args .vals .now) (S .args .lens .now) (S .args .hops .now) (S .args .scratch .now) (S .pre))
+    let S = c .before .before .before .before .before .before .before .before .before .before in
+    rw (c .before .before .before .before .zero .ensures) (make-in (S .args .width) (S .args .levels) (S .args .vals .now) (S .args .lens .now) (S .args .hops .now) (S .args .scratch .now) (S .pre))
 
 settle-tree-requires : tie.Need-settle-tree-requires
 settle-tree-requires c κs =
-    let S = c .before .before .before .before .before .before .before .before .before .before .before .before .before in
-    settle-in (S .args .width) (S .args .levels) (S .args .vals .now) (S .args .lens .now) (S .args .hops .now) (S .args .scratch .now) (S .pre) _ _
-    (c .before .before .before .make-rows .ensures) (omega arith)
+    let S = c .before .before .before .before .before .before .before .before .before .before .before .before .before .before .before in
+    let M = c .before .before .before .before .make-rows in
+    settle-in (S .args .width) (S .args .levels) (S .args .vals .now) (S .args .lens .now) (S .args .hops .now) (S .args .scratch .now) (S .pre) _ _ _ (M .ensures) (omega (arith, M .kept))
 
 add-asked : tie.Need-add-asked
-add-asked c = let S = c .before .before .before .before .before .before .before .before .before .before .before .before .before .before .before .before .before in omega (arith, S .pre .levels .1)
+add-asked c = search needs
 
 asked-requires : tie.Need-asked-requires
 asked-requires c κs =
-    let S = c .before .before .before .before .before .before .before .before .before .before .before .before .before .before .before .before .before in (
-      root-fits (S .args .width) (S .args .levels) (S .args .vals .now) (S .args .lens .now) (S .args .hops .now) (S .args .scratch .now) (S .pre) _ _
-          (c .before .before .before .before .before .before .before .make-rows .ensures) (omega arith) (c .before .before .before .settle-tree .last .0) (omega arith),
-      omega
-          (arith, S .pre .levels .1),
+    let S = c .before .before .before .before .before .before .before .before .before .before .before .before .before .before .before .before .before .before .before in
+    let M = c .before .before .before .before .before .before .before .before .make-rows in
+    let T = c .before .before .before .settle-tree in (
+      root-fits (S .args .width) (S .args .levels) (S .args .vals .now) (S .args .lens .now) (S .args .hops .now) (S .args .scratch .now) (S .pre) _ _ _ (M .ensures) (omega (arith, M .kept))
+          (T .last .0) (omega (arith, T .kept)),
+      omega (arith, S .pre .levels .1),
     )
 
 cast-strides : tie.Need-cast-strides
@@ -37,17 +41,15 @@ array-write-strides : tie.Need-array-write-strides
 array-write-strides c = search needs
 
 add-asked-2 : tie.Need-add-asked-2
-add-asked-2 c =
-    let c19 = c .before .before .before .before .before .before .before .before .before .before .before .before .before .before .before .before .before .before .before in
-    let S = c19 in
-    omega (arith, S .pre .levels .1)
+add-asked-2 c = search needs
 
 asked-requires-2 : tie.Need-asked-requires-2
 asked-requires-2 c κs =
-    let S = c .before .before .before .before .before .before .before .before .before .before .before .before .before .before .before .before .before .before .before in (
-      root-fits (S .args .width) (S .args .levels) (S .args .vals .now) (S .args .lens .now) (S .args .hops .now) (S .args .scratch .now) (S .pre) _ _
-          (c .before .before .before .before .before .before .before .before .before .make-rows .ensures) (omega arith) (c .before .before .before .before .before .settle-tree .last .0)
-          (omega arith),
+    let S = c .before .before .before .before .before .before .before .before .before .before .before .before .before .before .before .before .before .before .before .before .before in
+    let M = c .before .before .before .before .before .before .before .before .before .before .make-rows in
+    let T = c .before .before .before .before .before .settle-tree in (
+      root-fits (S .args .width) (S .args .levels) (S .args .vals .now) (S .args .lens .now) (S .args .hops .now) (S .args .scratch .now) (S .pre) _ _ _ (M .ensures) (omega (arith, M .kept))
+          (T .last .0) (omega (arith, T .kept)),
       omega (arith, S .pre .levels .1),
     )
 
@@ -56,16 +58,20 @@ same-length c = search needs
 
 returns : tie.Need-returns
 returns c =
-    let S = c .before .before .before .before .before .before .before .before .before .before .before .before .before .before .before .before .before .before .before .before in
-    plan-variable (S .args .width) (S .args .levels) (S .args .vals .now) (S .args .lens .now) (S .args .hops .now) (S .args .scratch .now) (S .pre) _ _
-    (c .before .before .before .before .before .before .before .before .before .before .make-rows .ensures) (omega arith) _ _ _ (omega arith)
-    (c .before .before .before .before .before .before .settle-tree .ensures) (c .asked2 .ensures) (c .before .before .asked .ensures)
+    let S = c .before .before .before .before .before .before .before .before .before .before .before .before .before .before .before .before .before .before .before .before .before .before in
+    let M = c .before .before .before .before .before .before .before .before .before .before .before .make-rows in
+    let Z = c .before .before .before .before .before .before .before .before .before .before .before .before .before .before .before .before .zero in
+    let T = c .before .before .before .before .before .before .settle-tree in
+    plan-variable (S .args .width) (S .args .levels) (S .args .vals .now) (S .args .lens .now) (S .args .hops .now) (S .args .scratch .now) (S .pre) _ _ _ (M .ensures)
+    (omega (arith, M .kept, Z .kept)) _ _ _ (omega (arith, T .kept))
+    (T .ensures) (c .asked2 .ensures) (c .before .before .asked .ensures)
 
 pub plan-variable-spec : {M : Type 1} → statement M
 plan-variable-spec =
     tie.close
     (tie.spec
     zero-requires
+    slice-aggregate-make-rows
     make-rows-requires
     settle-tree-requires
     add-asked
