@@ -46,10 +46,11 @@ fn tested(table: &Table, levels: u32, words: usize) -> Result<(), (u32, u64)> {
 
 fn planned(kind: Kind, levels: usize, table: &Table, scratch: &mut [u64]) -> Plan {
     scratch.fill(0);
-    let root = make(scratch, table);
+    let mut nodes = [0; super::WIDTH as usize];
+    let root = make(scratch, &mut nodes, table);
     match kind {
         Kind::Fixed => {
-            let (cost, strides) = fixed::fixed_choice(table, levels);
+            let (cost, strides) = fixed::fixed_choice(table, &nodes, levels);
             Plan { cost, strides, plan: strides, root }
         }
         Kind::Variable => {

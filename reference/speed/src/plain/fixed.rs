@@ -1,4 +1,4 @@
-//! The fixed choice: the nodes of each level, then from the last level up the cheapest strides for the levels from there on.
+//! The fixed choice: from the nodes of each level and from the last level up, the cheapest strides for the levels from there on.
 
 use super::costs::choice;
 use super::{Table, LEVELS, WIDTH};
@@ -6,20 +6,8 @@ use super::{Table, LEVELS, WIDTH};
 /// Levels 0 to 32, and 1 to 8 strides left.
 const CELLS: usize = (WIDTH as usize + 1) * LEVELS;
 
-fn count_levels(table: &Table) -> [u64; WIDTH as usize] {
-    let mut counts = [0; WIDTH as usize];
-    for i in 0..table.value.len() {
-        let length = table.length[i] as usize;
-        for level in length - table.new_nodes(i)..length {
-            counts[level] += 1;
-        }
-    }
-    counts
-}
-
 /// The least cost, and the strides from the front.
-pub fn fixed_choice(table: &Table, levels: usize) -> (u64, [u8; LEVELS]) {
-    let nodes = count_levels(table);
+pub fn fixed_choice(table: &Table, nodes: &[u64; WIDTH as usize], levels: usize) -> (u64, [u8; LEVELS]) {
     let depth = table.length.iter().copied().max().unwrap_or(0) as usize;
     let (mut costs, mut strides) = ([0; CELLS], [0; CELLS]);
     for level in (0..depth).rev() {

@@ -1,7 +1,7 @@
 //! The 1-bit trie in scratch rows: links, marks, depth, and the costs and strides for each number of levels left. A link is a row
 //! and one; 0 is none.
 
-use super::Table;
+use super::{Table, WIDTH};
 
 /// Numbers in a row.
 pub const ROW: usize = 24;
@@ -38,14 +38,18 @@ fn insert(rows: &mut [u64], mut used: usize, value: usize, bits: usize, mark: u1
     used
 }
 
-/// Makes the trie in rows that are all 0, and returns the root's link.
-pub fn make(rows: &mut [u64], table: &Table) -> usize {
+/// Makes the trie in rows that are all 0, counts its nodes level by level, and returns the root's link.
+pub fn make(rows: &mut [u64], counts: &mut [u64; WIDTH as usize], table: &Table) -> usize {
     let mut used = 0;
     for i in 0..table.value.len() {
         let length = table.length[i] as usize;
         if length > 0 {
             let value = table.value[i] as usize >> (table.width as usize - length);
-            used = insert(rows, used.max(1), value, length, table.hop[i]);
+            let grown = insert(rows, used.max(1), value, length, table.hop[i]);
+            for count in &mut counts[length - (grown - used)..length] {
+                *count += 1;
+            }
+            used = grown;
         }
     }
     used.min(1)
