@@ -22,9 +22,6 @@ outside-cases x most P f g = go (eqb x 0) refl (ltb most x) refl
     go false e true d = f (inr (ltb-true _ _ d))
     go false e false d = g (omega (arith, eqb-false x 0 e), ltb-false _ _ d)
 
-pub outside-false : (x most : ℕ) → outside x most ≡ false → Within x most
-outside-false x most = outside-cases x most (λ (t : Bool). t ≡ false → Within x most) (λ o e. absurd (true≢false e)) (λ w e. w)
-
 leb-cases : (a b : ℕ) (P : Bool → Type 0) → (a ≤ b → P true) → (b < a → P false) → P (leb a b)
 leb-cases a b P f g = go (leb a b) refl
   where

@@ -337,6 +337,9 @@ fn lent(vectors: &mut Vectors) {
                 if nodes <= 320 { report.starts_with("refusal=0\n") } else { report == refused },
                 "{nodes}: {report}"
             );
+            // An address of another width does not count before the build is accepted.
+            let wrong = lent_case(vectors, &text_of(["32", kind, "8"], &entries, &["1".to_string()]));
+            assert!(if nodes <= 320 { wrong == "refusal=8\ndetail=0\n" } else { wrong == refused }, "{wrong}");
         }
         for (width, levels) in [(13, "1"), (24, "2")] {
             let text = text_of([&width.to_string(), kind, levels], &[zeros(width)], &[zeros(width)]);
