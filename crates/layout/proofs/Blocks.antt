@@ -42,7 +42,7 @@ module _ (ls : Lists) where
   hold-all (suc n) b g h =
       let e : b + 0 ≡ b = omega arith in (
         rw e at (h 0 (omega arith)),
-        hold-all n (suc b) (λ j. g (suc j)) (λ i l. let e' : b + suc i ≡ suc b + i = omega arith in rw e' at (h (suc i) (omega arith))),
+        hold-all n (suc b) (λ j. g (suc j)) (λ i l. let e′ : b + suc i ≡ suc b + i = omega arith in rw e′ at (h (suc i) (omega arith))),
       )
 
 -- other lists that agree there hold them too

@@ -26,9 +26,9 @@ pub refused-is : (kind : Kind) (W k : ℕ) (vs ls hs scratch : List ℕ) {out : 
 unfolding ifAccepted padded
 refused-is kind W k vs ls hs scratch e f = record { tests = sym f ∙ e; costs = refl; named = refl; after = refl }
 
-pub chosen-is : (kind : Kind) (W k : ℕ) (vs ls hs scratch : List ℕ) {cost root : ℕ} {strides plan rows rows' : List ℕ} → outcome (chooseTests W k vs ls hs (length scratch)) ≡ Accepted
-    → Planned kind W k vs ls hs cost strides plan root rows → rows' ≡ replicate (length scratch) 0
-    → ChosenIs kind W k vs ls hs scratch Accepted cost strides rows'
+pub chosen-is : (kind : Kind) (W k : ℕ) (vs ls hs scratch : List ℕ) {cost root : ℕ} {strides plan rows rows′ : List ℕ} → outcome (chooseTests W k vs ls hs (length scratch)) ≡ Accepted
+    → Planned kind W k vs ls hs cost strides plan root rows → rows′ ≡ replicate (length scratch) 0
+    → ChosenIs kind W k vs ls hs scratch Accepted cost strides rows′
 unfolding ifAccepted
 chosen-is kind W k vs ls hs scratch e p z = record { tests = sym e; costs = p .least; named = p .named; after = z }
 

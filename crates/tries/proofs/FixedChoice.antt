@@ -101,17 +101,17 @@ filled-start nodes levels depth costs strides lc ls zc zs = record {
   stride = λ j r h g l. let e : depth - j ≡ 0 = omega arith in rw e (zs (j * LEVELS + r) ∙ sym (pick-none nodes r j));
 }
 
-pub filled-next : (nodes : ℕ → ℕ) (levels depth i : ℕ) (costs strides costs' strides' : List ℕ) → levels ≤ LEVELS → i < depth
-    → Filled nodes levels depth (i + 1) costs strides → RowFilled levels (nodes i) (depth - i) i costs strides costs' strides' (drop ((i + 1) * LEVELS) costs)
-    → Filled nodes levels depth i costs' strides'
-filled-next nodes levels depth i costs strides costs' strides' few h f a = record {
+pub filled-next : (nodes : ℕ → ℕ) (levels depth i : ℕ) (costs strides costs′ strides′ : List ℕ) → levels ≤ LEVELS → i < depth
+    → Filled nodes levels depth (i + 1) costs strides → RowFilled levels (nodes i) (depth - i) i costs strides costs′ strides′ (drop ((i + 1) * LEVELS) costs)
+    → Filled nodes levels depth i costs′ strides′
+filled-next nodes levels depth i costs strides costs′ strides′ few h f a = record {
   long-costs = a .long-costs ∙ f .long-costs;
   long-strides = a .long-strides ∙ f .long-strides;
   cost = λ j r p q l. ⊎-elim
-      (λ (z : j ≡ i). subst (λ (y : ℕ). slot costs' y r ≡ fixBy held nodes r y (depth - y)) (sym z) (own-cost r l))
+      (λ (z : j ≡ i). subst (λ (y : ℕ). slot costs′ y r ≡ fixBy held nodes r y (depth - y)) (sym z) (own-cost r l))
       (λ (z : j ≡ i → ⊥). a .costs-below (j * LEVELS + r) (omega arith) ∙ f .cost j r (omega arith) q l) (same? j i);
   stride = λ j r p q l. ⊎-elim
-      (λ (z : j ≡ i). subst (λ (y : ℕ). slot strides' y r ≡ pickFixedBy held nodes r y (depth - y)) (sym z) (own-stride r l))
+      (λ (z : j ≡ i). subst (λ (y : ℕ). slot strides′ y r ≡ pickFixedBy held nodes r y (depth - y)) (sym z) (own-stride r l))
       (λ (z : j ≡ i → ⊥). a .strides-below (j * LEVELS + r) (omega arith) ∙ f .stride j r (omega arith) q l) (same? j i);
 }
   where
@@ -125,12 +125,12 @@ filled-next nodes levels depth i costs strides costs' strides' few h f a = recor
         getD-drop ((i + 1) * LEVELS) costs (j * LEVELS + q) 0 ∙ ap (λ (x : ℕ). getD costs x 0) e
         ∙ f .cost (i + suc j) q (omega arith) (omega arith) l ∙ ap (λ (x : ℕ). fixBy held nodes q (i + suc j) x) g
 
-    own-cost : (r : ℕ) → r < levels → slot costs' i r ≡ fixBy held nodes r i (depth - i)
+    own-cost : (r : ℕ) → r < levels → slot costs′ i r ≡ fixBy held nodes r i (depth - i)
     own-cost r l =
         let e : depth - i ≡ suc (depth - i - 1) = omega arith in
         rw e (rw e at (a .cost r l) ∙ fixed-cost nodes levels i (depth - i - 1) (drop ((i + 1) * LEVELS) costs) sums r l)
 
-    own-stride : (r : ℕ) → r < levels → slot strides' i r ≡ pickFixedBy held nodes r i (depth - i)
+    own-stride : (r : ℕ) → r < levels → slot strides′ i r ≡ pickFixedBy held nodes r i (depth - i)
     own-stride r l =
         let e : depth - i ≡ suc (depth - i - 1) = omega arith in
         rw e (rw e at (a .stride r l) ∙ fixed-stride nodes levels i (depth - i - 1) (drop ((i + 1) * LEVELS) costs) sums r l)

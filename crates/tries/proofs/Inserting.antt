@@ -18,8 +18,8 @@ unfolding bit
 bit-two n x = mod-lt _ (omega arith)
 
 -- the frame: a tree stands where each of its rows is kept
-module _ (rows rows' : List ℕ) where
-  keep-row : (x : ℕ) {a b p q : ℕ} → ((c : ℕ) → c < ROW → col rows' x c ≡ col rows x c) → NodeRow rows x a b p q → NodeRow rows' x a b p q
+module _ (rows rows′ : List ℕ) where
+  keep-row : (x : ℕ) {a b p q : ℕ} → ((c : ℕ) → c < ROW → col rows′ x c ≡ col rows x c) → NodeRow rows x a b p q → NodeRow rows′ x a b p q
   keep-row x same r = record {
     link0 = same 0 (omega arith) ∙ r .link0;
     link1 = same 1 (omega arith) ∙ r .link1;
@@ -27,7 +27,7 @@ module _ (rows rows' : List ℕ) where
     mark1 = same 3 (omega arith) ∙ r .mark1;
   }
 
-  keep : (t : Tree) → ((y : ℕ) → Has y t → (c : ℕ) → c < ROW → col rows' y c ≡ col rows y c) → Stand rows t → Stand rows' t
+  keep : (t : Tree) → ((y : ℕ) → Has y t → (c : ℕ) → c < ROW → col rows′ y c ≡ col rows y c) → Stand rows t → Stand rows′ t
   keep nil same u = tt
   keep (fork x p l q r) same u =
       (keep-row x (same x (inl refl)) (u .0), keep l (λ y h. same y (inr (inl h))) (u .1), keep r (λ y h. same y (inr (inr h))) (u .2))
@@ -134,9 +134,9 @@ module _ (rows : List ℕ) (x p : ℕ) (l : Tree) (q : ℕ) (r : Tree) where
   sib-has (suc s) y h = inr (inl h)
 
   -- a node from its parts: the link at side s is new, all else as it was
-  join : (rows' : List ℕ) (s : ℕ) (k : Tree) → s < 2 → ((c : ℕ) → c < ROW → (c ≡ s → ⊥) → col rows' x c ≡ col rows x c) → col rows' x s ≡ linkOf k
-      → Stand rows T → Stand rows' k → Stand rows' (sib s T) → Stand rows' (setSide s x T k)
-  join rows' zero k h same lk u sk ss = (
+  join : (rows′ : List ℕ) (s : ℕ) (k : Tree) → s < 2 → ((c : ℕ) → c < ROW → (c ≡ s → ⊥) → col rows′ x c ≡ col rows x c) → col rows′ x s ≡ linkOf k
+      → Stand rows T → Stand rows′ k → Stand rows′ (sib s T) → Stand rows′ (setSide s x T k)
+  join rows′ zero k h same lk u sk ss = (
     record {
       link0 = lk;
       link1 = same 1 (omega arith) (omega arith) ∙ u .0 .link1;
@@ -146,7 +146,7 @@ module _ (rows : List ℕ) (x p : ℕ) (l : Tree) (q : ℕ) (r : Tree) where
     sk,
     ss,
   )
-  join rows' (suc zero) k h same lk u sk ss = (
+  join rows′ (suc zero) k h same lk u sk ss = (
     record {
       link0 = same 0 (omega arith) (omega arith) ∙ u .0 .link0;
       link1 = lk;
@@ -156,7 +156,7 @@ module _ (rows : List ℕ) (x p : ℕ) (l : Tree) (q : ℕ) (r : Tree) where
     ss,
     sk,
   )
-  join rows' (suc (suc s)) k h same lk u sk ss = absurd (omega arith)
+  join rows′ (suc (suc s)) k h same lk u sk ss = absurd (omega arith)
 
   -- after the last bit
   mark-put : (h s : ℕ) → s < 2 → (x + 1) * ROW ≤ length rows → Apart T → Stand rows T → Stand (set rows (x * ROW + (2 + s)) h) (setMark s x T h)
@@ -238,9 +238,9 @@ module _ (rows : List ℕ) (x used v n : ℕ) (g : InsertIn rows x used v n) whe
       let grows = count-grows n used (fork x (g .p) (g .l) (g .q) (g .r)) v in
       (omega (arith, g .room), omega (arith, g .room), bit-two n v)
 
-  pub last-out : (h : ℕ) (rows' : List ℕ) → n ≡ 0 → rows' ≡ set rows (x * ROW + (2 + bit n v)) h → Inserted rows x used v n h used rows'
+  pub last-out : (h : ℕ) (rows′ : List ℕ) → n ≡ 0 → rows′ ≡ set rows (x * ROW + (2 + bit n v)) h → Inserted rows x used v n h used rows′
   unfolding insertR countR
-  last-out h rows' z e =
+  last-out h rows′ z e =
       let f = in-fits in
       let xu = g .under x (inl refl) in
       rw (e, z) (record {
@@ -304,8 +304,8 @@ module _ (rows : List ℕ) (x used v n : ℕ) (g : InsertIn rows x used v n) whe
         child : (k : Tree) → Ready rows rows1 x (bit n v) used y used1 k → Apart k → Under used k
             → InsertOut rows1 (rowFor used k) (next used k) v (n - 1) h used2 rows2 (made used k)
         child k r a b =
-            let ins' = rw (r .place, r .count) at ins in
-            ins' .tree (lmark k) (lt k) (rmark k) (rt k) (r .stand) (made-apart used k a) (made-under used k b)
+            let ins′ = rw (r .place, r .count) at ins in
+            ins′ .tree (lmark k) (lt k) (rmark k) (rt k) (r .stand) (made-apart used k a) (made-under used k b)
 
         far : used ≤ used2
         far =
@@ -335,12 +335,12 @@ module _ (rows : List ℕ) (x used v n : ℕ) (g : InsertIn rows x used v n) whe
                   u (c .stands)
                   (keep rows rows2 (sib s t)
                   (λ z hz e he.
-                  let ne' : z ≡ x → ⊥ = λ w. ka .1 (subst (λ (j : ℕ). Has j (sib s t)) w hz) in
+                  let ne′ : z ≡ x → ⊥ = λ w. ka .1 (subst (λ (j : ℕ). Has j (sib s t)) w hz) in
                   low z (λ hk. ka .2 z hk hz) (b z (sib-has rows x p l q r s z hz)) e he ∙ rd .same (z * ROW + e) (omega (arith, in-fits .2)))
                   (kid-link rows x p l q r s (in-fits .2) u .2)));
               count = count-step n used t v ne ∙ sym (made-count (n - 1) used k v) ∙ c .count;
               keeps = λ z off zu e he.
-                  let ne' : z ≡ x → ⊥ = λ w. off (inl w) in
+                  let ne′ : z ≡ x → ⊥ = λ w. off (inl w) in
                   low z (λ hk. off (kid-has rows x p l q r s z hk)) zu e he ∙ rd .same (z * ROW + e) (omega (arith, in-fits .2));
             }
 

@@ -101,8 +101,8 @@ counts-can counts t c = record {
 }
 
 -- with an entry more they count its trie
-pub counts-next : (counts counts' : List ℕ) (t : Trie) (l v mark : ℕ) → CountsOf counts t → LevelsAdded counts (met l v t) l counts' → CountsOf counts' (insertT l v mark t)
-counts-next counts counts' t l v mark c a = record {
+pub counts-next : (counts counts′ : List ℕ) (t : Trie) (l v mark : ℕ) → CountsOf counts t → LevelsAdded counts (met l v t) l counts′ → CountsOf counts′ (insertT l v mark t)
+counts-next counts counts′ t l v mark c a = record {
   long = a .long;
   nodes = λ j h. omega (arith, a .more j h, c .nodes j h, insert-levels l v mark t j);
 }

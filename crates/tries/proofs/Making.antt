@@ -128,13 +128,13 @@ module _ (rows : List ℕ) (t : Tree) (a : InRows rows t) where
         short = s;
       })
 
-  open-out : (v n h used' : ℕ) (rows' : List ℕ) → Inserted rows 0 (next (size (shape t)) t) v n h used' rows'
-      → InRows rows' (insertR n (size (shape t)) t v h) × (used' ≡ size (shape (insertR n (size (shape t)) t v h)))
-  open-out v n h used' rows' ins =
+  open-out : (v n h used′ : ℕ) (rows′ : List ℕ) → Inserted rows 0 (next (size (shape t)) t) v n h used′ rows′
+      → InRows rows′ (insertR n (size (shape t)) t v h) × (used′ ≡ size (shape (insertR n (size (shape t)) t v h)))
+  open-out v n h used′ rows′ ins =
       let u = size (shape t) in
-      let ins' = rw (← (row-root t u (a .rooted) refl)) at ins in
-      let o = ins' .tree (lmark t) (lt t) (rmark t) (rt t) (made-stand rows t a) (made-apart u t (a .apart)) (made-under u t (a .under)) in
-      let c : used' ≡ size (shape (insertR n u t v h)) = omega (arith, o .count, made-count n u t v, insert-count n u t v h) in
+      let ins′ = rw (← (row-root t u (a .rooted) refl)) at ins in
+      let o = ins′ .tree (lmark t) (lt t) (rmark t) (rt t) (made-stand rows t a) (made-apart u t (a .apart)) (made-under u t (a .under)) in
+      let c : used′ ≡ size (shape (insertR n u t v h)) = omega (arith, o .count, made-count n u t v, insert-count n u t v h) in
       let b : countR n u t v ≡ size (shape (insertR n u t v h)) = omega (arith, insert-count n u t v h) in (
         record {
           stand = rw (made-insert n u t v h) at (o .stands);
@@ -159,14 +159,14 @@ module _ (rows : List ℕ) (used W v l h : ℕ) where
           rw (sub-one (suc n), g .count, open-next (g .tree))
           (open-in rows (g .tree) (g .laid) (start W (suc n) v) n h (omega (arith, g .width)) (rw (g .count) at r))
 
-  pub add-out : (rows' : List ℕ) (used' : ℕ) → (l ≡ 0 → ⊥) → Inserted rows 0 (max used 1) (start W l v) (l - 1) h used' rows' → Added rows used W v l h used' rows'
+  pub add-out : (rows′ : List ℕ) (used′ : ℕ) → (l ≡ 0 → ⊥) → Inserted rows 0 (max used 1) (start W l v) (l - 1) h used′ rows′ → Added rows used W v l h used′ rows′
   unfolding addEntry
-  add-out rows' used' ne ins t a e = go l ne ins
+  add-out rows′ used′ ne ins t a e = go l ne ins
     where
-      go : (l : ℕ) → (l ≡ 0 → ⊥) → Inserted rows 0 (max used 1) (start W l v) (l - 1) h used' rows' → AddOut used W v l h t used' rows'
+      go : (l : ℕ) → (l ≡ 0 → ⊥) → Inserted rows 0 (max used 1) (start W l v) (l - 1) h used′ rows′ → AddOut used W v l h t used′ rows′
       go zero ne ins = absurd (ne refl)
       go (suc n) ne ins =
-          let o = open-out rows t a (start W (suc n) v) n h used' rows' (rw (sub-one (suc n), e, open-next t) at ins) in
+          let o = open-out rows t a (start W (suc n) v) n h used′ rows′ (rw (sub-one (suc n), e, open-next t) at ins) in
           rw e (record { laid = o .0; count = o .1 })
 
   pub add-none : l ≡ 0 → Added rows used W v l h used rows
@@ -177,24 +177,24 @@ module _ (rows : List ℕ) (used W v l h : ℕ) where
 
 module _ (rows counts : List ℕ) (used W v l h : ℕ) where
   -- as many rows are taken as the entry has proper starts that were not met
-  grown-is : (t : Tree) (used' : ℕ) (rows' : List ℕ) → used ≡ size (shape t) → AddOut used W v l h t used' rows' → used' ≡ used + (l - met l (start W l v) (shape t))
-  grown-is t used' rows' e o =
+  grown-is : (t : Tree) (used′ : ℕ) (rows′ : List ℕ) → used ≡ size (shape t) → AddOut used W v l h t used′ rows′ → used′ ≡ used + (l - met l (start W l v) (shape t))
+  grown-is t used′ rows′ e o =
       omega (arith, o .count, ap size (add-shape l used t (start W l v) h), insert-size l (start W l v) h (shape t))
 
-  pub levels-in : CountIn rows counts used W v l h → (used' : ℕ) (rows' : List ℕ) → Added rows used W v l h used' rows'
-      → (used ≤ used') × (used' - used ≤ l) × (l ≤ WIDTH)
-  levels-in g used' rows' a =
+  pub levels-in : CountIn rows counts used W v l h → (used′ : ℕ) (rows′ : List ℕ) → Added rows used W v l h used′ rows′
+      → (used ≤ used′) × (used′ - used ≤ l) × (l ≤ WIDTH)
+  levels-in g used′ rows′ a =
       let i = g .adds in
-      let n = grown-is (i .tree) used' rows' (i .count) (a (i .tree) (i .laid) (i .count)) in
+      let n = grown-is (i .tree) used′ rows′ (i .count) (a (i .tree) (i .laid) (i .count)) in
       (omega arith, omega arith, omega (arith, i .short, i .width))
 
-  pub counted-out : (used' : ℕ) (rows' counts' : List ℕ) → Added rows used W v l h used' rows' → LevelsAdded counts (l - (used' - used)) l counts'
-      → AddCounted rows counts used W v l h used' rows' counts'
-  counted-out used' rows' counts' a b = record {
+  pub counted-out : (used′ : ℕ) (rows′ counts′ : List ℕ) → Added rows used W v l h used′ rows′ → LevelsAdded counts (l - (used′ - used)) l counts′
+      → AddCounted rows counts used W v l h used′ rows′ counts′
+  counted-out used′ rows′ counts′ a b = record {
     added = a;
     levels = λ t i e.
-        let n = grown-is t used' rows' e (a t i e) in
-        let m : l - (used' - used) ≡ met l (start W l v) (shape t) = omega (arith, met-within l (start W l v) (shape t)) in
+        let n = grown-is t used′ rows′ e (a t i e) in
+        let m : l - (used′ - used) ≡ met l (start W l v) (shape t) = omega (arith, met-within l (start W l v) (shape t)) in
         rw m at b;
   }
 
@@ -264,17 +264,17 @@ module _ (W : ℕ) (vs ls hs : List ℕ) where
       can = counts-can counts (shape (tree i)) (m .counted);
     }
 
-    pub make-next : (rows rows' counts counts' : List ℕ) (i used used' : ℕ) → Made i used rows counts
-        → AddCounted rows counts used W (at vs i) (at ls i) (at hs i) used' rows' counts' → Made (i + 1) used' rows' counts'
+    pub make-next : (rows rows′ counts counts′ : List ℕ) (i used used′ : ℕ) → Made i used rows counts
+        → AddCounted rows counts used W (at vs i) (at ls i) (at hs i) used′ rows′ counts′ → Made (i + 1) used′ rows′ counts′
     unfolding treeOf
-    make-next rows rows' counts counts' i used used' m d =
+    make-next rows rows′ counts counts′ i used used′ m d =
         let o = d .added (tree i) (m .laid) (m .count) in
-        let c = counts-next counts counts' (shape (tree i)) (at ls i) (start W (at ls i) (at vs i)) (at hs i) (m .counted) (d .levels (tree i) (m .laid) (m .count)) in
+        let c = counts-next counts counts′ (shape (tree i)) (at ls i) (start W (at ls i) (at vs i)) (at hs i) (m .counted) (d .levels (tree i) (m .laid) (m .count)) in
         let e : addEntry (at ls i) used (tree i) (start W (at ls i) (at vs i)) (at hs i) ≡ tree (i + 1) = tree-next i used (m .count) in
         record {
           laid = rw e at (o .laid);
           count = rw e at (o .count);
-          counted = subst (CountsOf counts') (sym (add-shape (at ls i) used (tree i) (start W (at ls i) (at vs i)) (at hs i)) ∙ ap shape e) c;
+          counted = subst (CountsOf counts′) (sym (add-shape (at ls i) used (tree i) (start W (at ls i) (at vs i)) (at hs i)) ∙ ap shape e) c;
         }
       where
         tree-next : (i used : ℕ) → used ≡ size (shape (tree i)) → addEntry (at ls i) used (tree i) (start W (at ls i) (at vs i)) (at hs i) ≡ tree (i + 1)

@@ -87,17 +87,17 @@ module _ (W k : ℕ) (vs ls hs scratch : List ℕ) (g : PlanIn W k vs ls hs scra
     pub settle-in : TreeAsk k rows root 0
     settle-in = (tree, tree-in)
 
-    pub root-fits : (rows' : List ℕ) → length rows' ≡ length rows → root * ROW ≤ length rows'
-    root-fits rows' len' = go tree (m .link) rows-fit
+    pub root-fits : (rows′ : List ℕ) → length rows′ ≡ length rows → root * ROW ≤ length rows′
+    root-fits rows′ len′ = go tree (m .link) rows-fit
       where
-        go : (t : Tree) → root ≡ linkOf t → ((y : ℕ) → Has y t → (y + 1) * ROW ≤ length rows) → root * ROW ≤ length rows'
+        go : (t : Tree) → root ≡ linkOf t → ((y : ℕ) → Has y t → (y + 1) * ROW ≤ length rows) → root * ROW ≤ length rows′
         go nil e f = omega arith
         go (fork x p l q r) e f = omega (arith, f x (inl refl))
 
     -- what stands for the tree stands for the trie
-    for-trie : (σ : ℕ → Trie → ℕ) (rows' plan : List ℕ) → Stands σ rows' plan (linkOf tree) (shape tree) → Stands σ rows' plan root trie
-    for-trie σ rows' plan s =
-        subst (Stands σ rows' plan root) tree-trie (subst (λ (x : ℕ). Stands σ rows' plan x (shape tree)) (sym (m .link)) s)
+    for-trie : (σ : ℕ → Trie → ℕ) (rows′ plan : List ℕ) → Stands σ rows′ plan (linkOf tree) (shape tree) → Stands σ rows′ plan root trie
+    for-trie σ rows′ plan s =
+        subst (Stands σ rows′ plan root) tree-trie (subst (λ (x : ℕ). Stands σ rows′ plan x (shape tree)) (sym (m .link)) s)
 
     pub fixed-in : (deep : ℕ) → deep ≡ longestLength (at ls) (length ls) → FixedIn counts deep k trie
     fixed-in deep e = record {
@@ -129,28 +129,28 @@ module _ (W k : ℕ) (vs ls hs scratch : List ℕ) (g : PlanIn W k vs ls hs scra
               (λ i u p q. ap (λ (y : ℕ). getD plan (y - i) 0) long ∙ read (k - i) (omega (arith, long)))));
         }
 
-    pub plan-variable : (rows' : List ℕ) (cost stride : ℕ) → length rows' ≡ length rows → TreeDone k rows root 0 rows' → cost ≡ ask rows' root (BEFORE-COSTS + k)
-        → stride ≡ ask rows' root (BEFORE-STRIDES + k)
-        → Planned variable W k vs ls hs cost (set (replicate LEVELS 0) 0 (stride % 256)) (replicate LEVELS 0) root rows'
+    pub plan-variable : (rows′ : List ℕ) (cost stride : ℕ) → length rows′ ≡ length rows → TreeDone k rows root 0 rows′ → cost ≡ ask rows′ root (BEFORE-COSTS + k)
+        → stride ≡ ask rows′ root (BEFORE-STRIDES + k)
+        → Planned variable W k vs ls hs cost (set (replicate LEVELS 0) 0 (stride % 256)) (replicate LEVELS 0) root rows′
     unfolding chosenBy
-    plan-variable rows' cost stride len' d e f =
+    plan-variable rows′ cost stride len′ d e f =
         let o = d tree tree-in in
-        let fits : (y : ℕ) → Has y tree → (y + 1) * ROW ≤ length rows' = λ y h. omega (arith, rows-fit y h) in
-        let c : Costed k rows' root trie
-        = subst (Costed k rows' root) tree-trie (subst (λ (x : ℕ). Costed k rows' x (shape tree)) (sym (m .link)) (tree-costed k rows' tree (o .stand) (o .priced) fits)) in
+        let fits : (y : ℕ) → Has y tree → (y + 1) * ROW ≤ length rows′ = λ y h. omega (arith, rows-fit y h) in
+        let c : Costed k rows′ root trie
+        = subst (Costed k rows′ root) tree-trie (subst (λ (x : ℕ). Costed k rows′ x (shape tree)) (sym (m .link)) (tree-costed k rows′ tree (o .stand) (o .priced) fits)) in
         let k1 : k - 1 < k = omega (arith, g .levels .0) in
         let costs-from : BEFORE-COSTS + k ≡ COST + (k - 1) = omega (arith, g .levels .0) in
         let strides-from : BEFORE-STRIDES + k ≡ STRIDE + (k - 1) = omega (arith, g .levels .0) in
         let b = below-cap variable in
         let plan = take {A = ℕ} k (replicate LEVELS 0) in
         let long : length plan ≡ k = length-take {A = ℕ} k (replicate LEVELS 0) ∙ omega (arith, g .levels .1) in
-        let own : stride ≡ pickBy held (k - 1) trie = f ∙ ap (ask rows' root) strides-from ∙ costed-stride k rows' root trie c (k - 1) k1 in
+        let own : stride ≡ pickBy held (k - 1) trie = f ∙ ap (ask rows′ root) strides-from ∙ costed-stride k rows′ root trie c (k - 1) k1 in
         record {
-          least = e ∙ ap (ask rows' root) costs-from ∙ costed-cost k rows' root trie c (k - 1) k1 ∙ least-variable k trie (g .levels .0)
+          least = e ∙ ap (ask rows′ root) costs-from ∙ costed-cost k rows′ root trie c (k - 1) k1 ∙ least-variable k trie (g .levels .0)
               ∙ least-capped COST-CAP variable k trie ∙ omega arith;
           named = root-stride k trie stride (g .levels .0) own plan-depth ∙ ap (padded LEVELS) (strides-capped COST-CAP variable k trie (g .levels .0) b);
           places = refl;
-          stands = for-trie (chosenBy held variable k trie) rows' plan
-              (tree-stands (variableStride held) rows' plan tree (o .stand) (small-tree W (at vs) (at ls) (at hs) (length vs) (g .marks)) fits
-              (strides-own k rows' plan tree (getD-take {A = ℕ} k (replicate LEVELS 0) 0 0 (g .levels .0)) long (o .priced)));
+          stands = for-trie (chosenBy held variable k trie) rows′ plan
+              (tree-stands (variableStride held) rows′ plan tree (o .stand) (small-tree W (at vs) (at ls) (at hs) (length vs) (g .marks)) fits
+              (strides-own k rows′ plan tree (getD-take {A = ℕ} k (replicate LEVELS 0) 0 0 (g .levels .0)) long (o .priced)));
         }

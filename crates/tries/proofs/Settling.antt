@@ -78,9 +78,9 @@ depth-out levels rows k d e a b ca cb = omega (arith, costed-depth levels rows _
 
 -- ---- one row
 
-module _ (levels : ℕ) (rows : List ℕ) (k : ℕ) (g : SettleIn levels rows k) (sums rows1 rows' : List ℕ) (d : ℕ)
+module _ (levels : ℕ) (rows : List ℕ) (k : ℕ) (g : SettleIn levels rows k) (sums rows1 rows′ : List ℕ) (d : ℕ)
     (sum : Summed levels rows k (replicate CELLS 0) sums) (deep : DepthOver levels rows k d)
-    (one : rows1 ≡ set rows ((k - 1) * ROW + DEPTH) d) (st : Stored levels rows1 (k - 1) d sums rows') where
+    (one : rows1 ≡ set rows ((k - 1) * ROW + DEPTH) d) (st : Stored levels rows1 (k - 1) d sums rows′) where
   -- the row is the one before its link
   here : (l : List ℕ) (c : ℕ) → ask l k c ≡ col l (k - 1) c
   here l c = let e : k ≡ k - 1 + 1 = omega (arith, g .some) in ap (λ (x : ℕ). ask l x c) e ∙ ask-col l (k - 1) c
@@ -92,7 +92,7 @@ module _ (levels : ℕ) (rows : List ℕ) (k : ℕ) (g : SettleIn levels rows k)
       → (j q : ℕ) → j ≤ max (depth a) (depth b) → q < levels → slot sums j q ≡ held (sumBelow j (optBy held q) a + sumBelow j (optBy held q) b)
   sums-are a b ca cb w j q h l = sum a b ca cb (λ i r hi hr. zeros-read CELLS (i * LEVELS + r)) j q (omega arith) l
 
-  priced-here : (a b : Trie) (p q : ℕ) → Costed levels rows (ask rows k 0) a → Costed levels rows (ask rows k 1) b → Priced levels rows' k (node p a q b)
+  priced-here : (a b : Trie) (p q : ℕ) → Costed levels rows (ask rows k 0) a → Costed levels rows (ask rows k 1) b → Priced levels rows′ k (node p a q b)
   unfolding depth
   priced-here a b p q ca cb =
       let e : d ≡ suc (max (depth a) (depth b)) = deep a b ca cb in
@@ -100,26 +100,26 @@ module _ (levels : ℕ) (rows : List ℕ) (k : ℕ) (g : SettleIn levels rows k)
       let s = sums-are a b ca cb w in
       let x = k - 1 in
       record {
-        deep = here rows' DEPTH ∙ st .before (x * ROW + DEPTH) (omega arith) ∙ ap (λ (l : List ℕ). getD l (x * ROW + DEPTH) 0) one
+        deep = here rows′ DEPTH ∙ st .before (x * ROW + DEPTH) (omega arith) ∙ ap (λ (l : List ℕ). getD l (x * ROW + DEPTH) 0) one
             ∙ getD-set-same rows (x * ROW + DEPTH) d 0 (omega (arith, g .some, g .fits)) ∙ e;
-        cost = λ r h. here rows' (COST + r) ∙ st .cost r h ∙ ap (λ (y : ℕ). bestCost sums 1 y r) e ∙ best-cost levels sums a b s p q r h;
-        stride = λ r h. here rows' (STRIDE + r) ∙ st .stride r h ∙ ap (λ (y : ℕ). bestStride sums 1 y r) e ∙ best-stride levels sums a b s p q r h;
+        cost = λ r h. here rows′ (COST + r) ∙ st .cost r h ∙ ap (λ (y : ℕ). bestCost sums 1 y r) e ∙ best-cost levels sums a b s p q r h;
+        stride = λ r h. here rows′ (STRIDE + r) ∙ st .stride r h ∙ ap (λ (y : ℕ). bestStride sums 1 y r) e ∙ best-stride levels sums a b s p q r h;
       }
 
-  pub settle-out : Settled levels rows k rows'
+  pub settle-out : Settled levels rows k rows′
   settle-out =
       let x = k - 1 in
       let kx : k ≡ x + 1 = omega (arith, g .some) in
       record {
         priced = priced-here;
         others = λ y c ne hc. elsewhere y c (λ z. ne (omega arith)) hc (decLe y x);
-        links = λ c h. here rows' c ∙ st .before (x * ROW + c) (omega arith) ∙ off (x * ROW + c) (λ z. omega arith) ∙ sym (here rows c);
-        spare = λ c lo hi. here rows' c ∙ st .before (x * ROW + c) (omega arith) ∙ off (x * ROW + c) (λ z. omega arith) ∙ sym (here rows c);
-        costs-above = λ r h l. here rows' (COST + r) ∙ st .costs-above r h l ∙ off (x * ROW + (COST + r)) (λ z. omega arith) ∙ sym (here rows (COST + r));
-        strides-above = λ r h l. here rows' (STRIDE + r) ∙ st .strides-above r h l ∙ off (x * ROW + (STRIDE + r)) (λ z. omega arith) ∙ sym (here rows (STRIDE + r));
+        links = λ c h. here rows′ c ∙ st .before (x * ROW + c) (omega arith) ∙ off (x * ROW + c) (λ z. omega arith) ∙ sym (here rows c);
+        spare = λ c lo hi. here rows′ c ∙ st .before (x * ROW + c) (omega arith) ∙ off (x * ROW + c) (λ z. omega arith) ∙ sym (here rows c);
+        costs-above = λ r h l. here rows′ (COST + r) ∙ st .costs-above r h l ∙ off (x * ROW + (COST + r)) (λ z. omega arith) ∙ sym (here rows (COST + r));
+        strides-above = λ r h l. here rows′ (STRIDE + r) ∙ st .strides-above r h l ∙ off (x * ROW + (STRIDE + r)) (λ z. omega arith) ∙ sym (here rows (STRIDE + r));
       }
     where
-      elsewhere : (y c : ℕ) → (y ≡ k - 1 → ⊥) → c < ROW → Dec (y ≤ k - 1) → col rows' y c ≡ col rows y c
+      elsewhere : (y c : ℕ) → (y ≡ k - 1 → ⊥) → c < ROW → Dec (y ≤ k - 1) → col rows′ y c ≡ col rows y c
       elsewhere y c ne hc (yes h) = st .before (y * ROW + c) (omega arith) ∙ off (y * ROW + c) (λ z. omega arith)
       elsewhere y c ne hc (no h) = st .after (y * ROW + c) (omega arith) ∙ off (y * ROW + c) (λ z. omega arith)
 
@@ -138,12 +138,12 @@ tree-costed levels rows (fork x m l n r) s p f = (
   rw (ask-col rows x 1 ∙ s .0 .link1) (tree-costed levels rows r (s .2) (p .2) (λ y h. f y (inr (inr h)))),
 )
 
-module _ (levels : ℕ) (rows rows' : List ℕ) where
+module _ (levels : ℕ) (rows rows′ : List ℕ) where
   -- what no row of the tree loses
   abbrev Keeps : Tree → Type 0
-  Keeps t = (y c : ℕ) → Has y t → c < ROW → col rows' y c ≡ col rows y c
+  Keeps t = (y c : ℕ) → Has y t → c < ROW → col rows′ y c ≡ col rows y c
 
-  keep-stand : (t : Tree) → Keeps t → Stand rows t → Stand rows' t
+  keep-stand : (t : Tree) → Keeps t → Stand rows t → Stand rows′ t
   keep-stand nil k s = tt
   keep-stand (fork x p l q r) k s = (
     record {
@@ -156,10 +156,10 @@ module _ (levels : ℕ) (rows rows' : List ℕ) where
     keep-stand r (λ y c h. k y c (inr (inr h))) (s .2),
   )
 
-  keep-priced : (t : Tree) → levels ≤ LEVELS → Keeps t → AllPriced levels rows t → AllPriced levels rows' t
+  keep-priced : (t : Tree) → levels ≤ LEVELS → Keeps t → AllPriced levels rows t → AllPriced levels rows′ t
   keep-priced nil few k p = tt
   keep-priced (fork x m l n r) few k p =
-      let at : (c : ℕ) → c < ROW → ask rows' (x + 1) c ≡ ask rows (x + 1) c = λ c h. ask-col rows' x c ∙ k x c (inl refl) h ∙ sym (ask-col rows x c) in (
+      let at : (c : ℕ) → c < ROW → ask rows′ (x + 1) c ≡ ask rows (x + 1) c = λ c h. ask-col rows′ x c ∙ k x c (inl refl) h ∙ sym (ask-col rows x c) in (
         record {
           deep = at DEPTH (omega arith) ∙ p .0 .deep;
           cost = λ j h. at (COST + j) (omega arith) ∙ p .0 .cost j h;

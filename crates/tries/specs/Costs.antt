@@ -46,10 +46,10 @@ unfoldable pub sumAt : ℕ → ℕ → (Trie → ℕ) → Trie → ℕ
 sumAt d j f t = cond (ltb j d) 0 (sumBelow (j - d) f t)
 
 -- the row of link k, standing at depth d, is added at each of the first m numbers of levels
-pub record RowAdded (m : ℕ) (rows : List ℕ) (k d : ℕ) (sums sums' : List ℕ) : Type 0 where
-  pub here : (r : ℕ) → r < m → slot sums' d r ≡ held (slot sums d r + ask rows k (COST + r))
-  pub later : (r : ℕ) → m ≤ r → r < LEVELS → slot sums' d r ≡ slot sums d r
-  pub other : (j r : ℕ) → (j ≡ d → ⊥) → r < LEVELS → slot sums' j r ≡ slot sums j r
+pub record RowAdded (m : ℕ) (rows : List ℕ) (k d : ℕ) (sums sums′ : List ℕ) : Type 0 where
+  pub here : (r : ℕ) → r < m → slot sums′ d r ≡ held (slot sums d r + ask rows k (COST + r))
+  pub later : (r : ℕ) → m ≤ r → r < LEVELS → slot sums′ d r ≡ slot sums d r
+  pub other : (j r : ℕ) → (j ≡ d → ⊥) → r < LEVELS → slot sums′ j r ≡ slot sums j r
 
 pub record GatherIn (levels : ℕ) (rows : List ℕ) (k d : ℕ) (sums : List ℕ) : Type 0 where
   pub trie : Trie
@@ -59,9 +59,9 @@ pub record GatherIn (levels : ℕ) (rows : List ℕ) (k d : ℕ) (sums : List �
   pub few : levels ≤ LEVELS
 
 abbrev pub Gathered : ℕ → List ℕ → ℕ → ℕ → List ℕ → List ℕ → Type 0
-Gathered levels rows k d sums sums' =
+Gathered levels rows k d sums sums′ =
     (t : Trie) → Costed levels rows k t → ((j r : ℕ) → j < WIDTH → r < levels → slot sums j r ≤ COST-CAP)
-    → (j r : ℕ) → j < WIDTH → r < levels → slot sums' j r ≡ held (slot sums j r + sumAt d j (optBy held r) t)
+    → (j r : ℕ) → j < WIDTH → r < levels → slot sums′ j r ≡ held (slot sums j r + sumAt d j (optBy held r) t)
 
 -- ---- the cheapest stride of a node of the given depth
 
@@ -81,13 +81,13 @@ bestStride sums n d (suc q) = suc (scan (price sums n q) (pred d) .0)
 -- ---- one row settled from those below
 
 -- row x: what is stored of the choices, and what is kept
-pub record Stored (levels : ℕ) (rows : List ℕ) (x d : ℕ) (sums rows' : List ℕ) : Type 0 where
-  pub cost : (r : ℕ) → r < levels → col rows' x (COST + r) ≡ bestCost sums 1 d r
-  pub stride : (r : ℕ) → r < levels → col rows' x (STRIDE + r) ≡ bestStride sums 1 d r
-  pub before : (i : ℕ) → i < x * ROW + COST → getD rows' i 0 ≡ getD rows i 0
-  pub after : (i : ℕ) → (x + 1) * ROW ≤ i → getD rows' i 0 ≡ getD rows i 0
-  pub costs-above : (r : ℕ) → levels ≤ r → r < LEVELS → col rows' x (COST + r) ≡ col rows x (COST + r)
-  pub strides-above : (r : ℕ) → levels ≤ r → r < LEVELS → col rows' x (STRIDE + r) ≡ col rows x (STRIDE + r)
+pub record Stored (levels : ℕ) (rows : List ℕ) (x d : ℕ) (sums rows′ : List ℕ) : Type 0 where
+  pub cost : (r : ℕ) → r < levels → col rows′ x (COST + r) ≡ bestCost sums 1 d r
+  pub stride : (r : ℕ) → r < levels → col rows′ x (STRIDE + r) ≡ bestStride sums 1 d r
+  pub before : (i : ℕ) → i < x * ROW + COST → getD rows′ i 0 ≡ getD rows i 0
+  pub after : (i : ℕ) → (x + 1) * ROW ≤ i → getD rows′ i 0 ≡ getD rows i 0
+  pub costs-above : (r : ℕ) → levels ≤ r → r < LEVELS → col rows′ x (COST + r) ≡ col rows x (COST + r)
+  pub strides-above : (r : ℕ) → levels ≤ r → r < LEVELS → col rows′ x (STRIDE + r) ≡ col rows x (STRIDE + r)
 
 pub record SettleIn (levels : ℕ) (rows : List ℕ) (k : ℕ) : Type 0 where
   pub some : 0 < k
@@ -101,21 +101,21 @@ pub record SettleIn (levels : ℕ) (rows : List ℕ) (k : ℕ) : Type 0 where
 
 -- what the subtries on both sides of the row at link k cost together, s levels down, from sums that are 0
 abbrev pub Summed : ℕ → List ℕ → ℕ → List ℕ → List ℕ → Type 0
-Summed levels rows k sums sums' =
+Summed levels rows k sums sums′ =
     (a b : Trie) → Costed levels rows (ask rows k 0) a → Costed levels rows (ask rows k 1) b → ((j r : ℕ) → j < WIDTH → r < levels → slot sums j r ≡ 0)
-    → (j r : ℕ) → j < WIDTH → r < levels → slot sums' j r ≡ held (sumBelow j (optBy held r) a + sumBelow j (optBy held r) b)
+    → (j r : ℕ) → j < WIDTH → r < levels → slot sums′ j r ≡ held (sumBelow j (optBy held r) a + sumBelow j (optBy held r) b)
 
 abbrev pub DepthOver : ℕ → List ℕ → ℕ → ℕ → Type 0
 DepthOver levels rows k d = (a b : Trie) → Costed levels rows (ask rows k 0) a → Costed levels rows (ask rows k 1) b → d ≡ suc (max (depth a) (depth b))
 
 -- only row k's depth, costs and strides change
-pub record Settled (levels : ℕ) (rows : List ℕ) (k : ℕ) (rows' : List ℕ) : Type 0 where
-  pub priced : (a b : Trie) (p q : ℕ) → Costed levels rows (ask rows k 0) a → Costed levels rows (ask rows k 1) b → Priced levels rows' k (node p a q b)
-  pub others : (y c : ℕ) → (y + 1 ≡ k → ⊥) → c < ROW → col rows' y c ≡ col rows y c
-  pub links : (c : ℕ) → c < DEPTH → ask rows' k c ≡ ask rows k c
-  pub spare : (c : ℕ) → DEPTH < c → c < COST → ask rows' k c ≡ ask rows k c
-  pub costs-above : (r : ℕ) → levels ≤ r → r < LEVELS → ask rows' k (COST + r) ≡ ask rows k (COST + r)
-  pub strides-above : (r : ℕ) → levels ≤ r → r < LEVELS → ask rows' k (STRIDE + r) ≡ ask rows k (STRIDE + r)
+pub record Settled (levels : ℕ) (rows : List ℕ) (k : ℕ) (rows′ : List ℕ) : Type 0 where
+  pub priced : (a b : Trie) (p q : ℕ) → Costed levels rows (ask rows k 0) a → Costed levels rows (ask rows k 1) b → Priced levels rows′ k (node p a q b)
+  pub others : (y c : ℕ) → (y + 1 ≡ k → ⊥) → c < ROW → col rows′ y c ≡ col rows y c
+  pub links : (c : ℕ) → c < DEPTH → ask rows′ k c ≡ ask rows k c
+  pub spare : (c : ℕ) → DEPTH < c → c < COST → ask rows′ k c ≡ ask rows k c
+  pub costs-above : (r : ℕ) → levels ≤ r → r < LEVELS → ask rows′ k (COST + r) ≡ ask rows k (COST + r)
+  pub strides-above : (r : ℕ) → levels ≤ r → r < LEVELS → ask rows′ k (STRIDE + r) ≡ ask rows k (STRIDE + r)
 
 -- ---- a whole tree
 
@@ -138,14 +138,14 @@ pub record TreeIn (levels : ℕ) (rows : List ℕ) (k d : ℕ) (t : Tree) : Type
   pub deep : d + depth (shape t) ≤ WIDTH
   pub few : levels ≤ LEVELS
 
-pub record TreeOut (levels : ℕ) (rows rows' : List ℕ) (t : Tree) : Type 0 where
-  pub stand : Stand rows' t
-  pub priced : AllPriced levels rows' t
-  pub above : AboveZero levels rows t → AboveZero levels rows' t
-  pub others : (y c : ℕ) → (Has y t → ⊥) → c < ROW → col rows' y c ≡ col rows y c
+pub record TreeOut (levels : ℕ) (rows rows′ : List ℕ) (t : Tree) : Type 0 where
+  pub stand : Stand rows′ t
+  pub priced : AllPriced levels rows′ t
+  pub above : AboveZero levels rows t → AboveZero levels rows′ t
+  pub others : (y c : ℕ) → (Has y t → ⊥) → c < ROW → col rows′ y c ≡ col rows y c
 
 abbrev pub TreeAsk : ℕ → List ℕ → ℕ → ℕ → Type 0
 TreeAsk levels rows k d = (t : Tree) × TreeIn levels rows k d t
 
 abbrev pub TreeDone : ℕ → List ℕ → ℕ → ℕ → List ℕ → Type 0
-TreeDone levels rows k d rows' = (t : Tree) → TreeIn levels rows k d t → TreeOut levels rows rows' t
+TreeDone levels rows k d rows′ = (t : Tree) → TreeIn levels rows k d t → TreeOut levels rows rows′ t

@@ -25,13 +25,13 @@ pub record Filled (nodes : ℕ → ℕ) (levels depth i : ℕ) (costs strides : 
   pub stride : (j r : ℕ) → i ≤ j → j ≤ depth → r < levels → slot strides j r ≡ pickFixedBy held nodes r j (depth - j)
 
 -- one level more, as far as r levels left; rows below it are kept
-pub record RowFilled (levels n d i : ℕ) (costs strides costs' strides' : List ℕ) (sums : List ℕ) : Type 0 where
-  pub long-costs : length costs' ≡ length costs
-  pub long-strides : length strides' ≡ length strides
-  pub cost : (r : ℕ) → r < levels → slot costs' i r ≡ bestCost sums n d r
-  pub stride : (r : ℕ) → r < levels → slot strides' i r ≡ bestStride sums n d r
-  pub costs-below : (x : ℕ) → (i + 1) * LEVELS ≤ x → getD costs' x 0 ≡ getD costs x 0
-  pub strides-below : (x : ℕ) → (i + 1) * LEVELS ≤ x → getD strides' x 0 ≡ getD strides x 0
+pub record RowFilled (levels n d i : ℕ) (costs strides costs′ strides′ : List ℕ) (sums : List ℕ) : Type 0 where
+  pub long-costs : length costs′ ≡ length costs
+  pub long-strides : length strides′ ≡ length strides
+  pub cost : (r : ℕ) → r < levels → slot costs′ i r ≡ bestCost sums n d r
+  pub stride : (r : ℕ) → r < levels → slot strides′ i r ≡ bestStride sums n d r
+  pub costs-below : (x : ℕ) → (i + 1) * LEVELS ≤ x → getD costs′ x 0 ≡ getD costs x 0
+  pub strides-below : (x : ℕ) → (i + 1) * LEVELS ≤ x → getD strides′ x 0 ≡ getD strides x 0
 
 -- the strides of the table, for some counts of nodes
 abbrev pub StridesFilled : (ℕ → ℕ) → ℕ → ℕ → List ℕ → Type 0

@@ -22,9 +22,9 @@ pub record CanCount (counts : List ℕ) : Type 0 where
   pub small : (j : ℕ) → j < WIDTH → at counts j < 2 ^ 60
 
 -- each level from `from` up to but not `to` has one more
-pub record LevelsAdded (counts : List ℕ) (from to : ℕ) (counts' : List ℕ) : Type 0 where
-  pub long : length counts' ≡ WIDTH
-  pub more : (j : ℕ) → j < WIDTH → at counts' j ≡ at counts j + within from to j
+pub record LevelsAdded (counts : List ℕ) (from to : ℕ) (counts′ : List ℕ) : Type 0 where
+  pub long : length counts′ ≡ WIDTH
+  pub more : (j : ℕ) → j < WIDTH → at counts′ j ≡ at counts j + within from to j
 
 -- the counts of the nodes of t, level by level
 pub record CountsOf (counts : List ℕ) (t : Trie) : Type 0 where

@@ -41,21 +41,21 @@ pub record AddIn (rows : List ℕ) (used W v l h : ℕ) : Type 0 where
   pub short : l ≤ W
   pub width : W ≤ WIDTH
 
-pub record AddOut (used W v l h : ℕ) (t : Tree) (used' : ℕ) (rows' : List ℕ) : Type 0 where
-  pub laid : InRows rows' (addEntry l used t (start W l v) h)
-  pub count : used' ≡ size (shape (addEntry l used t (start W l v) h))
+pub record AddOut (used W v l h : ℕ) (t : Tree) (used′ : ℕ) (rows′ : List ℕ) : Type 0 where
+  pub laid : InRows rows′ (addEntry l used t (start W l v) h)
+  pub count : used′ ≡ size (shape (addEntry l used t (start W l v) h))
 
-abbrev pub Added : List ℕ → (used W v l h used' : ℕ) → List ℕ → Type 0
-Added rows used W v l h used' rows' = (t : Tree) → InRows rows t → used ≡ size (shape t) → AddOut used W v l h t used' rows'
+abbrev pub Added : List ℕ → (used W v l h used′ : ℕ) → List ℕ → Type 0
+Added rows used W v l h used′ rows′ = (t : Tree) → InRows rows t → used ≡ size (shape t) → AddOut used W v l h t used′ rows′
 
 -- the same entry, with its new nodes counted at their levels
 pub record CountIn (rows counts : List ℕ) (used W v l h : ℕ) : Type 0 where
   pub adds : AddIn rows used W v l h
   pub can : CanCount counts
 
-pub record AddCounted (rows counts : List ℕ) (used W v l h used' : ℕ) (rows' counts' : List ℕ) : Type 0 where
-  pub added : Added rows used W v l h used' rows'
-  pub levels : (t : Tree) → InRows rows t → used ≡ size (shape t) → LevelsAdded counts (met l (start W l v) (shape t)) l counts'
+pub record AddCounted (rows counts : List ℕ) (used W v l h used′ : ℕ) (rows′ counts′ : List ℕ) : Type 0 where
+  pub added : Added rows used W v l h used′ rows′
+  pub levels : (t : Tree) → InRows rows t → used ≡ size (shape t) → LevelsAdded counts (met l (start W l v) (shape t)) l counts′
 
 -- the whole table
 pub record MakeIn (W : ℕ) (vs ls hs rows counts : List ℕ) : Type 0 where
@@ -66,7 +66,7 @@ pub record MakeIn (W : ℕ) (vs ls hs rows counts : List ℕ) : Type 0 where
   pub no-counts : (j : ℕ) → at counts j ≡ 0
   pub room : size (trieOf W (at vs) (at ls) (at hs) (length vs)) * ROW ≤ length rows
 
-pub record MakeOut (W : ℕ) (vs ls hs : List ℕ) (root : ℕ) (rows' counts' : List ℕ) : Type 0 where
-  pub counted : CountsOf counts' (shape (treeOf W (at vs) (at ls) (at hs) (length vs)))
-  pub laid : InRows rows' (treeOf W (at vs) (at ls) (at hs) (length vs))
+pub record MakeOut (W : ℕ) (vs ls hs : List ℕ) (root : ℕ) (rows′ counts′ : List ℕ) : Type 0 where
+  pub counted : CountsOf counts′ (shape (treeOf W (at vs) (at ls) (at hs) (length vs)))
+  pub laid : InRows rows′ (treeOf W (at vs) (at ls) (at hs) (length vs))
   pub link : root ≡ linkOf (treeOf W (at vs) (at ls) (at hs) (length vs))

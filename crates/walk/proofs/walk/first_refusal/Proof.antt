@@ -6,7 +6,6 @@ use borrow.Author.Needs.{needs}
 use Rattle.walk.specs.Limits.{WIDTH, LEVELS}
 use Rattle.table.specs.Limits.{outside}
 use Rattle.walk.specs.Lookup.{refusalOf}
-use Rattle.walk.proofs.Tests.{outside-false}
 use Rattle.walk.proofs.walk.first_refusal.Statement.{statement}
 use Rattle.walk.proofs.walk.first_refusal.Tie as tie
 
@@ -57,8 +56,7 @@ returns-4 c =
       width-in (c .before .before .before .before .before .before .before),
       levels-in (c .before .before .before .before .before),
       address-in (c .before .before .before),
-      sym
-          (c .before .is-unfit .ensures) ∙ c .if4 .taken,
+      sym (c .before .is-unfit .ensures) ∙ c .if4 .taken,
     )
 
 returns-5 : tie.Need-returns-5
@@ -68,8 +66,7 @@ returns-5 c =
       width-in (c .before .before .before .before .before .before .before),
       levels-in (c .before .before .before .before .before),
       address-in (c .before .before .before),
-      sym
-          (c .before .is-unfit .ensures) ∙ c .if4 .left,
+      sym (c .before .is-unfit .ensures) ∙ c .if4 .left,
     )
 
 pub first-refusal-spec : {M : Type 1} → statement M
