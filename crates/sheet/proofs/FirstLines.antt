@@ -10,7 +10,7 @@ use borrow.Author.Tests.{ne-eqb}
 use Rattle.tries.specs.declared.chooser.Kind.{Kind}
 use Rattle.tries.specs.declared.chooser.Kind.the-variants.{Fixed, Variable}
 use Rattle.io.specs.Digits.{digits, glyph}
-use Rattle.sheet.specs.Printing.{places, decimal, binary, lineOf, bitsLineOf}
+use Rattle.sheet.specs.Printing.{decimalLength, decimal, binary, lineOf, bitsLineOf}
 use Rattle.sheet.specs.Keys.{fixedKey, variableKey}
 use Rattle.sheet.specs.Spelling.{kindText}
 use Rattle.sheet.specs.FirstBad.{lineCount, firstLines}
@@ -181,7 +181,7 @@ module _ (key : List ℕ) (clean : lineCount key ≡ 0) where
 
   pub number-line-one : (v : ℕ) → OneLine (lineOf key v)
   unfolding lineOf decimal
-  number-line-one v = keyed 10 (places v) v
+  number-line-one v = keyed 10 (decimalLength v) v
 
   pub bits-line-one : (v n : ℕ) → OneLine (bitsLineOf key v n)
   unfolding bitsLineOf binary

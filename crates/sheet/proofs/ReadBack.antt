@@ -25,7 +25,7 @@ use Rattle.table.specs.Lists.{listed}
 use Rattle.sheet.specs.Entries.{entryFrom, addressFrom, afterEntries, afterQueries, entryBits, entryLength, entryHop, queryAddress, queryPlaces}
 use Rattle.sheet.specs.Text.{kindNamed}
 use Rattle.sheet.specs.Spelling.{kindText, entryText, queryText}
-use Rattle.sheet.specs.Printing.{placesFrom, places, decimal, binary, lineOf, bitsLineOf, joined}
+use Rattle.sheet.specs.Printing.{decimalLengthFrom, decimalLength, decimal, binary, lineOf, bitsLineOf, joined}
 use Rattle.sheet.proofs.Digits.{is-digit, value-more, digits-are}
 use Rattle.table.proofs.Lists.{listed-length, listed-at}
 use Rattle.sheet.proofs.Writing.{length-digits}
@@ -131,11 +131,11 @@ module _ (b : ℕ) (s : List ℕ) (p : ℕ) (low : 0 < b) (high : b ≤ 10) wher
 -- ---- how many digits a number has
 
 -- the fewest that hold it
-places-fewest : (n : ℕ) → n < 10 ^ 20 → Fewest 10 1 n (places n)
-unfolding places placesFrom
-places-fewest n h = go 19 1 (lit≤ tt) (λ l. absurd (omega arith)) h
+length-fewest : (n : ℕ) → n < 10 ^ 20 → Fewest 10 1 n (decimalLength n)
+unfolding decimalLength decimalLengthFrom
+length-fewest n h = go 19 1 (lit≤ tt) (λ l. absurd (omega arith)) h
   where
-    go : (f i : ℕ) → 1 ≤ i → (1 < i → 10 ^ (i - 1) ≤ n) → n < 10 ^ (i + f) → Fewest 10 1 n (placesFrom f i n)
+    go : (f i : ℕ) → 1 ≤ i → (1 < i → 10 ^ (i - 1) ≤ n) → n < 10 ^ (i + f) → Fewest 10 1 n (decimalLengthFrom f i n)
     go zero i o l m = (o, rw add-zero at m, l)
     go (suc f) i o l m =
         elim (decLt n (10 ^ i)) [
@@ -203,11 +203,11 @@ module _ (key s : List ℕ) (p : Spot) (rest : List ℕ) where
     line-close = close-read s p (here + n) v n rest (h .on) after-digits
 
   -- the line of a number is read as that number
-  pub number-read : (most v : ℕ) → most ≤ NUMBER → v ≤ most → Ahead s p (lineOf key v ++ rest) → ReadAs s rest v (places v) (numberLine NUMBER-DIGITS most key s p)
+  pub number-read : (most v : ℕ) → most ≤ NUMBER → v ≤ most → Ahead s p (lineOf key v ++ rest) → ReadAs s rest v (decimalLength v) (numberLine NUMBER-DIGITS most key s p)
   unfolding numberLine lineOf decimal
   number-read most v top few h =
-      let n = places v in
-      let w = places-fewest v (omega arith) in
+      let n = decimalLength v in
+      let w = length-fewest v (omega arith) in
       rw (
         line-key 10 n v (lit< tt) (lit≤ tt) (w .1) h,
         line-read 10 n v (lit< tt) (lit≤ tt) (w .1) h NUMBER-DIGITS (fewest-least v n NUMBER-DIGITS w (lit≤ tt) (omega arith)),

@@ -16,7 +16,7 @@ use Rattle.sheet.specs.Entries.{entryFrom, addressFrom, afterEntries, af
 use Rattle.sheet.specs.Sheet.{Sheet}
 use Rattle.sheet.specs.Text.{kindNamed, good, bad, start, widthItem, kindItem, levelsItem, entriesItem, queriesItem, lastSpot, sheetOf, textOf}
 use Rattle.sheet.specs.Spelling.{kindText, entryText, queryText, sheetText, Sound}
-use Rattle.sheet.specs.Printing.{places, lineOf, joined}
+use Rattle.sheet.specs.Printing.{decimalLength, lineOf, joined}
 use Rattle.sheet.proofs.Steps.{both, number-is, bits-is}
 use Rattle.sheet.proofs.Whole.{to-last}
 use Rattle.sheet.proofs.Spelled.{tested-good, close-good}
@@ -72,7 +72,7 @@ module _ (sh : Sheet) (sound : Sound sh) (extra : List ℕ) where
               (lineOf queriesKey m) queriesText extra;
         }
 
-    width-said : ReadAs s (kindText (sh .kind) ++ kindRest) (sh .width) (places (sh .width)) (widthItem s)
+    width-said : ReadAs s (kindText (sh .kind) ++ kindRest) (sh .width) (decimalLength (sh .width)) (widthItem s)
     unfolding widthItem
     width-said = number-read widthKey s start (kindText (sh .kind) ++ kindRest) NUMBER (sh .width) (lit≤ tt) (sound .width-fits) all-ahead
 
@@ -80,19 +80,19 @@ module _ (sh : Sheet) (sound : Sound sh) (extra : List ℕ) where
     unfolding kindItem
     kind-said = kind-read s (widthItem s .spot) kindRest (sh .kind) (width-said .ahead)
 
-    levels-said : ReadAs s (lineOf entriesKey n ++ countRest) (sh .levels) (places (sh .levels)) (levelsItem s)
+    levels-said : ReadAs s (lineOf entriesKey n ++ countRest) (sh .levels) (decimalLength (sh .levels)) (levelsItem s)
     unfolding levelsItem
     levels-said =
         number-read levelsKey s (kindItem s .spot) (lineOf entriesKey n ++ countRest) NUMBER (sh .levels) (lit≤ tt) (sound .levels-fit) (kind-said .1)
 
-    count-said : ReadAs s countRest n (places n) (entriesItem s)
+    count-said : ReadAs s countRest n (decimalLength n) (entriesItem s)
     unfolding entriesItem
     count-said = number-read entriesKey s (levelsItem s .spot) countRest COUNT n (lit≤ tt) (sound .entries-few) (levels-said .ahead)
 
     entries-said : EntriesAs s (entriesItem s .spot) (sh .bits) (sh .lengths) (sh .hops) entriesRest n
     entries-said = entries-read s (entriesItem s .spot) (sh .bits) (sh .lengths) (sh .hops) n entriesRest (sound .entry) (count-said .ahead)
 
-    queries-count-said : ReadAs s (queriesText ++ extra) m (places m) (queriesItem s)
+    queries-count-said : ReadAs s (queriesText ++ extra) m (decimalLength m) (queriesItem s)
     unfolding queriesItem
     queries-count-said =
         rw (count-said .value)

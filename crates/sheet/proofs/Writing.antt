@@ -15,7 +15,7 @@ use borrow.Author.Tests.{lt-ltb, le-ltb}
 use Rattle.io.specs.Digits.{digits, glyph, Fewest}
 use Rattle.sheet.specs.Limits.{BITS, REFUSAL-BYTES, HEAD-BYTES, ANSWER-BYTES}
 use Rattle.sheet.specs.Keys.{addressKey, hopKey, refusalKey, detailKey, elementsKey, rootKey, readsKey}
-use Rattle.sheet.specs.Printing.{placesFrom, places, decimal, binary, lineOf, bitsLineOf, addressLine, refusalLines, headLines, answerLines, joined, written, Wrote}
+use Rattle.sheet.specs.Printing.{decimalLengthFrom, decimalLength, decimal, binary, lineOf, bitsLineOf, addressLine, refusalLines, headLines, answerLines, joined, written, Wrote}
 
 -- ---- one run of bytes after another
 
@@ -72,11 +72,11 @@ put-end out src p i h = rw (drop-of-length-le src h)
 
 -- ---- decimal
 
-pub fewest-places : (n k : ℕ) → Fewest 10 1 n k → k ≤ 20 → places n ≡ k
-unfolding places placesFrom
-fewest-places n k w h = go 19 1 (lit≤ tt) (w .0) (omega arith)
+pub fewest-length : (n k : ℕ) → Fewest 10 1 n k → k ≤ 20 → decimalLength n ≡ k
+unfolding decimalLength decimalLengthFrom
+fewest-length n k w h = go 19 1 (lit≤ tt) (w .0) (omega arith)
   where
-    go : (f i : ℕ) → 1 ≤ i → i ≤ k → k ≤ i + f → placesFrom f i n ≡ k
+    go : (f i : ℕ) → 1 ≤ i → i ≤ k → k ≤ i + f → decimalLengthFrom f i n ≡ k
     go zero i o a b = omega arith
     go (suc f) i o a b =
         elim (decLe k i) [
@@ -96,7 +96,7 @@ fewest-few n k h w =
 
 pub fewest-decimal : (n k : ℕ) → Fewest 10 1 n k → k ≤ 20 → digits 10 k n ≡ decimal n
 unfolding decimal
-fewest-decimal n k w h = ap (λ (x : ℕ). digits 10 x n) (sym (fewest-places n k w h))
+fewest-decimal n k w h = ap (λ (x : ℕ). digits 10 x n) (sym (fewest-length n k w h))
 
 -- ---- binary digits, stored from the last to the first
 
@@ -142,18 +142,18 @@ bits-end out p (suc i) rest h = absurd (omega arith)
 
 -- ---- how long a line can be
 
-places-le : (f i n : ℕ) → placesFrom f i n ≤ i + f
-unfolding placesFrom
-places-le zero i n = omega arith
-places-le (suc f) i n = go (ltb n (10 ^ i)) (places-le f (suc i) n)
+decimal-le : (f i n : ℕ) → decimalLengthFrom f i n ≤ i + f
+unfolding decimalLengthFrom
+decimal-le zero i n = omega arith
+decimal-le (suc f) i n = go (ltb n (10 ^ i)) (decimal-le f (suc i) n)
   where
-    go : (t : Bool) → placesFrom f (suc i) n ≤ suc i + f → cond t i (placesFrom f (suc i) n) ≤ i + suc f
+    go : (t : Bool) → decimalLengthFrom f (suc i) n ≤ suc i + f → cond t i (decimalLengthFrom f (suc i) n) ≤ i + suc f
     go true h = omega arith
     go false h = omega arith
 
 pub length-decimal : (n : ℕ) → length (decimal n) ≤ 20
-unfolding decimal places
-length-decimal n = omega (arith, length-digits 10 (placesFrom 19 1 n) n, places-le 19 1 n)
+unfolding decimal decimalLength
+length-decimal n = omega (arith, length-digits 10 (decimalLengthFrom 19 1 n) n, decimal-le 19 1 n)
 
 pub length-line : (key : List ℕ) (n : ℕ) → length (lineOf key n) ≤ length key + 21
 unfolding lineOf

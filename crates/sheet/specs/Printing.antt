@@ -12,17 +12,17 @@ use Rattle.io.specs.Digits.{digits}
 use Rattle.sheet.specs.Keys.{addressKey, hopKey, refusalKey, detailKey, elementsKey, rootKey, readsKey}
 
 -- the first k from i on, at most f further, with n below 10 ^ k
-unfoldable pub placesFrom : ℕ → ℕ → ℕ → ℕ
-placesFrom zero i n = i
-placesFrom (suc f) i n = cond (ltb n (10 ^ i)) i (placesFrom f (suc i) n)
+unfoldable pub decimalLengthFrom : ℕ → ℕ → ℕ → ℕ
+decimalLengthFrom zero i n = i
+decimalLengthFrom (suc f) i n = cond (ltb n (10 ^ i)) i (decimalLengthFrom f (suc i) n)
 
 -- how many decimal digits a number below 10 ^ 20 takes
-unfoldable pub places : ℕ → ℕ
-places n = placesFrom 19 1 n
+unfoldable pub decimalLength : ℕ → ℕ
+decimalLength n = decimalLengthFrom 19 1 n
 
 -- the number in decimal, without leading zeros
 unfoldable pub decimal : ℕ → List ℕ
-decimal n = digits 10 (places n) n
+decimal n = digits 10 (decimalLength n) n
 
 -- the n binary digits of v
 unfoldable pub binary : (n v : ℕ) → List ℕ

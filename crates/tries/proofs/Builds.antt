@@ -139,7 +139,7 @@ module _ (kind : Kind) {W k : ℕ} {vs ls hs scratch : List ℕ} (g : PlanIn W k
       → (ltb (shortest lent) cost || ltb ELEMENTS cost) ≡ false → LayAsks (chosenBy held kind k (tableTrie W vs ls hs)) (tableTrie W vs ls hs) rows (take k plan) root W k lent
   may-lay {cost} {plan = plan} lent p fits =
       let f = or-false (ltb (shortest lent) cost) (ltb ELEMENTS cost) fits in
-      let le : length (take k plan) ≡ k = length-take k plan ∙ omega (arith, p .places, g .levels .1) in
+      let le : length (take k plan) ≡ k = length-take k plan ∙ omega (arith, p .plan-long, g .levels .1) in
       record {
         trunk = record {
           stands = p .stands;

@@ -65,7 +65,7 @@ module _ (W k : ℕ) (vs ls hs scratch : List ℕ) (g : PlanIn W k vs ls hs scra
     prefixes = plan-prefixes;
     hops = g .table .hops;
     zeros = zeros-read (length scratch);
-    places = refl;
+    counts-long = refl;
     no-counts = zeros-read WIDTH;
     room = omega (arith, g .room, length-replicate {A = ℕ} (length scratch) 0);
   }
@@ -122,7 +122,7 @@ module _ (W k : ℕ) (vs ls hs scratch : List ℕ) (g : PlanIn W k vs ls hs scra
         record {
           least = o .0 ∙ least-capped COST-CAP fixed k trie ∙ omega arith;
           named = o .1 ∙ ap (padded LEVELS) h;
-          places = ap length (o .1) ∙ padded-length LEVELS (stridesBy held fixed k trie);
+          plan-long = ap length (o .1) ∙ padded-length LEVELS (stridesBy held fixed k trie);
           stands = for-trie (chosenBy held fixed k trie) rows plan
               (tree-stands (chosenBy held fixed k trie) rows plan tree (m .laid .stand) (small-tree W (at vs) (at ls) (at hs) (length vs) (g .marks)) rows-fit
               (fixed-strides k trie (chosenBy held fixed k trie) rows plan tree (g .levels .0) (ap depth tree-trie) (read 0 (g .levels .0))
@@ -149,7 +149,7 @@ module _ (W k : ℕ) (vs ls hs scratch : List ℕ) (g : PlanIn W k vs ls hs scra
           least = e ∙ ap (ask rows′ root) costs-from ∙ costed-cost k rows′ root trie c (k - 1) k1 ∙ least-variable k trie (g .levels .0)
               ∙ least-capped COST-CAP variable k trie ∙ omega arith;
           named = root-stride k trie stride (g .levels .0) own plan-depth ∙ ap (padded LEVELS) (strides-capped COST-CAP variable k trie (g .levels .0) b);
-          places = refl;
+          plan-long = refl;
           stands = for-trie (chosenBy held variable k trie) rows′ plan
               (tree-stands (variableStride held) rows′ plan tree (o .stand) (small-tree W (at vs) (at ls) (at hs) (length vs) (g .marks)) fits
               (strides-own k rows′ plan tree (getD-take {A = ℕ} k (replicate LEVELS 0) 0 0 (g .levels .0)) long (o .priced)));

@@ -62,7 +62,7 @@ pub record MakeIn (W : ℕ) (vs ls hs rows counts : List ℕ) : Type 0 where
   pub prefixes : Prefixes W vs ls
   pub hops : length hs ≡ length vs
   pub zeros : (i : ℕ) → getD rows i 0 ≡ 0
-  pub places : length counts ≡ WIDTH
+  pub counts-long : length counts ≡ WIDTH
   pub no-counts : (j : ℕ) → at counts j ≡ 0
   pub room : size (trieOf W (at vs) (at ls) (at hs) (length vs)) * ROW ≤ length rows
 

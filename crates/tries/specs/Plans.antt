@@ -25,5 +25,5 @@ pub record PlanIn (W k : ℕ) (vs ls hs scratch : List ℕ) : Type 0 where
 pub record Planned (kind : Kind) (W k : ℕ) (vs ls hs : List ℕ) (cost : ℕ) (strides plan : List ℕ) (root : ℕ) (rows : List ℕ) : Type 0 where
   pub least : cost ≡ leastBy plain kind k (tableTrie W vs ls hs)
   pub named : strides ≡ padded LEVELS (stridesBy plain kind k (tableTrie W vs ls hs))
-  pub places : length plan ≡ LEVELS
+  pub plan-long : length plan ≡ LEVELS
   pub stands : Stands (chosenBy held kind k (tableTrie W vs ls hs)) rows (take k plan) root (tableTrie W vs ls hs)

@@ -34,7 +34,7 @@ slice-aggregate-lay c =
     omega (
       arith,
       S .pre .levels .1,
-      c .before .before .before .before .before .before .before .planned .ensures .places,
+      c .before .before .before .before .before .before .before .planned .ensures .plan-long,
       length-take (S .args .levels)
           (c .before .before .before .before .before .before .before .planned .result .plan),
     )

@@ -21,7 +21,7 @@ loop-holds c =
       omega arith,
       refl,
       make-start (S .args .width) (S .args .vals .now) (S .args .lens .now) (S .args .hops .now) (S .args .rows .now) (S .args .counts .now) (S .pre .zeros)
-          (S .pre .places) (S .pre .no-counts),
+          (S .pre .counts-long) (S .pre .no-counts),
     )
 
 mul-add-counted : tie.Need-mul-add-counted Inv-loop μ-loop
@@ -75,7 +75,7 @@ same-length : tie.Need-same-length Inv-loop μ-loop
 same-length c = search needs
 
 same-length-2 : tie.Need-same-length-2 Inv-loop μ-loop
-same-length-2 c = let S = c .before .before .before .before .before .before .before .before in let l = c .before .before .loop in omega (arith, S .pre .places, l .inv .2 .counted .long)
+same-length-2 c = let S = c .before .before .before .before .before .before .before .before in let l = c .before .before .loop in omega (arith, S .pre .counts-long, l .inv .2 .counted .long)
 
 returns : tie.Need-returns Inv-loop μ-loop
 returns c =
