@@ -20,7 +20,7 @@ use tries::Kind;
 use tries::Record;
 
 // The lengths of the three element lists, and the next place of the text.
-struct Lists {
+struct ListLengths {
     hops: usize,
     links: usize,
     strides: usize,
@@ -31,7 +31,7 @@ struct Lists {
 struct State {
     held: Held,
     record: Record,
-    lists: Lists,
+    lists: ListLengths,
     at: usize,
 }
 
@@ -210,11 +210,11 @@ fn bad_line(text: &[u8], at: usize, state: State) -> State {
     next
 }
 
-fn lists_at(text: &[u8], at: usize) -> Lists {
+fn lists_at(text: &[u8], at: usize) -> ListLengths {
     let hops = cases::number(text, at);
     let links = cases::number(text, hops.next);
     let strides = cases::number(text, links.next);
-    Lists {
+    ListLengths {
         hops: hops.value as usize,
         links: links.value as usize,
         strides: strides.value as usize,
@@ -223,7 +223,7 @@ fn lists_at(text: &[u8], at: usize) -> Lists {
 }
 
 // Whether one of the three lists is longer than that.
-fn is_longer(lists: Lists, than: usize) -> bool {
+fn is_longer(lists: ListLengths, than: usize) -> bool {
     if than < lists.hops {
         return true;
     }
@@ -234,7 +234,7 @@ fn is_longer(lists: Lists, than: usize) -> bool {
 }
 
 // Whether the three lists, or the rows that are given next, are more than the room, or a list longer than the rows.
-fn is_unfit(text: &[u8], lists: Lists, room: usize) -> bool {
+fn is_unfit(text: &[u8], lists: ListLengths, room: usize) -> bool {
     let rows = cases::number(text, lists.at).value as usize;
     if room < rows {
         return true;
@@ -505,7 +505,7 @@ fn start(at: usize) -> State {
             floor: 0,
             strides: [0; tries::LEVELS as usize],
         },
-        lists: Lists {
+        lists: ListLengths {
             hops: 0,
             links: 0,
             strides: 0,

@@ -7,24 +7,24 @@ use native.Mathlib.Omega.{arith}
 use lib.ListN.{length, set, length-set}
 use Rattle.cases.specs.declared.numerals.Numeral.{Numeral}
 use Rattle.cases.specs.Numerals.{numberAt}
-use Rattle.cases.specs.Triples.{Lists, put, fill, past, Reads}
+use Rattle.cases.specs.Triples.{ThreeLists, putThree, fill, past, Reads}
 
 -- after i of n rows, the next at place p; only the lists' contents changed since the start
-pub record Filled (s : List ℕ) (n p₀ : ℕ) (a₀ b₀ c₀ : List ℕ) (p i : ℕ) (a b c : List ℕ) : Type 0 where
+pub record RowsRead (s : List ℕ) (n p₀ : ℕ) (a₀ b₀ c₀ : List ℕ) (p i : ℕ) (a b c : List ℕ) : Type 0 where
   pub lists : fill s (n - i) p i (record { first = a; second = b; third = c }) ≡ fill s n p₀ 0 (record { first = a₀; second = b₀; third = c₀ })
   pub next : past s (n - i) p ≡ past s n p₀
-  pub below : i ≤ n
+  pub bound : i ≤ n
   pub first : length a ≡ length a₀
   pub second : length b ≡ length b₀
   pub third : length c ≡ length c₀
 
-pub filled-start : (s : List ℕ) (n p : ℕ) (a b c : List ℕ) → Filled s n p a b c p 0 a b c
-filled-start s n p a b c =
-    record { lists = simp unary-clauses; next = simp unary-clauses; below = omega arith; first = refl; second = refl; third = refl }
+pub rows-read-start : (s : List ℕ) (n p : ℕ) (a b c : List ℕ) → RowsRead s n p a b c p 0 a b c
+rows-read-start s n p a b c =
+    record { lists = simp unary-clauses; next = simp unary-clauses; bound = omega arith; first = refl; second = refl; third = refl }
 
-pub filled-on :
+pub rows-read-on :
     {s : List ℕ} {n p₀ : ℕ} {a₀ b₀ c₀ : List ℕ} {p i : ℕ} {a b c : List ℕ} (x y z : Numeral) (u v w : ℕ)
-    → Filled s n p₀ a₀ b₀ c₀ p i a b c
+    → RowsRead s n p₀ a₀ b₀ c₀ p i a b c
     → i < n
     → x ≡ numberAt s p
     → y ≡ numberAt s (x .next)
@@ -32,27 +32,27 @@ pub filled-on :
     → u ≡ min (x .value) 4294967295
     → v ≡ min (y .value) 255
     → w ≡ min (z .value) 65535
-    → Filled s n p₀ a₀ b₀ c₀ (z .next) (i + 1) (set a i u) (set b i v) (set c i w)
-unfolding fill past put
-filled-on {s} {n} {p₀} {a₀} {b₀} {c₀} {p} {i} {a} {b} {c} x y z u v w f h ex ey ez eu ev ew =
+    → RowsRead s n p₀ a₀ b₀ c₀ (z .next) (i + 1) (set a i u) (set b i v) (set c i w)
+unfolding fill past putThree
+rows-read-on {s} {n} {p₀} {a₀} {b₀} {c₀} {p} {i} {a} {b} {c} x y z u v w f h ex ey ez eu ev ew =
     let m : n - i ≡ suc (n - (i + 1)) = omega arith in record {
       lists = rw (eu, ev, ew, ez, ey, ex, add-one) (rw (m, add-one) at (f .lists));
       next = rw (ez, ey, ex) (rw m at (f .next));
-      below = omega arith;
+      bound = omega arith;
       first = length-set a i u ∙ f .first;
       second = length-set b i v ∙ f .second;
       third = length-set c i w ∙ f .third;
     }
 
-pub filled-reads :
+pub rows-read-all :
     {s : List ℕ} {at n : ℕ} {a₀ b₀ c₀ : List ℕ} {p i : ℕ} {a b c : List ℕ} (head : Numeral)
-    → Filled s n (head .next) a₀ b₀ c₀ p i a b c
+    → RowsRead s n (head .next) a₀ b₀ c₀ p i a b c
     → n ≤ i
     → head ≡ numberAt s at
     → n ≡ min (head .value) (min (length a₀) (min (length b₀) (length c₀)))
     → Reads s at a₀ b₀ c₀ a b c (record { count = n; next = p })
 unfolding fill past
-filled-reads {s} {at} {n} {a₀} {b₀} {c₀} {p} {i} {a} {b} {c} head f h e d =
+rows-read-all {s} {at} {n} {a₀} {b₀} {c₀} {p} {i} {a} {b} {c} head f h e d =
     let m : n - i ≡ 0 = omega arith in record {
       count = rw e at d;
       next = rw (m, e) at (f .next);

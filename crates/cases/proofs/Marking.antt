@@ -15,17 +15,17 @@ use Rattle.cases.specs.Marks.{times}
 -- the first i places hold the mark
 pub record Marked (x : ℕ) (l₀ : List ℕ) (i : ℕ) (l : List ℕ) : Type 0 where
   pub size : length l ≡ length l₀
-  pub below : i ≤ length l₀
+  pub bound : i ≤ length l₀
   pub all : (k : ℕ) → k < i → getD l k 0 ≡ x
 
 pub marked-start : (x : ℕ) (l : List ℕ) → Marked x l 0 l
-marked-start x l = record { size = refl; below = omega arith; all = below-none (λ (k : ℕ). getD l k 0 ≡ x) }
+marked-start x l = record { size = refl; bound = omega arith; all = below-none (λ (k : ℕ). getD l k 0 ≡ x) }
 
 pub marked-on : {x : ℕ} {l₀ : List ℕ} {i : ℕ} {l : List ℕ} → Marked x l₀ i l → i < length l → Marked x l₀ (i + 1) (set l i x)
 marked-on {x} {l₀} {i} {l} m h =
     record {
       size = length-set l i x ∙ m .size;
-      below = omega arith;
+      bound = omega arith;
       all = below-more (λ (k : ℕ). getD (set l i x) k 0 ≡ x) i
           (λ k b. getD-set-other l i k x 0 (λ e. omega arith) ∙ m .all k b)
           (getD-set-same l i x 0 h);

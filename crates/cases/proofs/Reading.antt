@@ -9,14 +9,14 @@ use borrow.Author.Tests.{leb-true}
 use lib.Dec.{leb}
 use lib.ListN.{length, take, drop, getD, drop-of-length-le}
 use lib.Seq.{drop-cons, take-all}
-use Rattle.cases.specs.Numerals.{within, seekIn, seekAt, more, digitsIn}
+use Rattle.cases.specs.Numerals.{between, seekIn, seekAt, more, digitsIn}
 
 module _ (low high : ℕ) (s : List ℕ) (i : ℕ) where
-  pub seek-here : i < length s → within low high (getD s i 0) ≡ true → seekAt low high s i ≡ i
+  pub seek-here : i < length s → between low high (getD s i 0) ≡ true → seekAt low high s i ≡ i
   unfolding seekIn
   seek-here h e = rw (drop-cons s i 0 h, e)
 
-  pub seek-on : i < length s → within low high (getD s i 0) ≡ false → seekAt low high s i ≡ seekAt low high s (i + 1)
+  pub seek-on : i < length s → between low high (getD s i 0) ≡ false → seekAt low high s i ≡ seekAt low high s (i + 1)
   unfolding seekIn
   seek-on h e = rw (drop-cons s i 0 h, e, add-one)
 
@@ -25,11 +25,11 @@ module _ (low high : ℕ) (s : List ℕ) (i : ℕ) where
   seek-end h = rw (drop-of-length-le s h)
 
 module _ (s : List ℕ) (v i : ℕ) where
-  pub digits-on : i < length s → within 48 57 (getD s i 0) ≡ true → digitsIn (drop i s) v i ≡ digitsIn (drop (i + 1) s) (more v (getD s i 0)) (i + 1)
+  pub digits-on : i < length s → between 48 57 (getD s i 0) ≡ true → digitsIn (drop i s) v i ≡ digitsIn (drop (i + 1) s) (more v (getD s i 0)) (i + 1)
   unfolding digitsIn
   digits-on h e = rw (drop-cons s i 0 h, e, add-one)
 
-  pub digits-stop : i < length s → within 48 57 (getD s i 0) ≡ false → digitsIn (drop i s) v i ≡ record { value = v; next = i }
+  pub digits-stop : i < length s → between 48 57 (getD s i 0) ≡ false → digitsIn (drop i s) v i ≡ record { value = v; next = i }
   unfolding digitsIn
   digits-stop h e = rw (drop-cons s i 0 h, e)
 
@@ -37,8 +37,8 @@ module _ (s : List ℕ) (v i : ℕ) where
   unfolding digitsIn
   digits-end h = rw (drop-of-length-le s h)
 
-pub within-bounds : (low high c : ℕ) → within low high c ≡ true → (low ≤ c) × (c ≤ high)
-within-bounds low high c e = go (leb low c) (leb c high) refl refl e
+pub between-bounds : (low high c : ℕ) → between low high c ≡ true → (low ≤ c) × (c ≤ high)
+between-bounds low high c e = go (leb low c) (leb c high) refl refl e
   where
     go : (a b : Bool) → leb low c ≡ a → leb c high ≡ b → (a && b) ≡ true → (low ≤ c) × (c ≤ high)
     go true true p q r = (leb-true low c p, leb-true c high q)

@@ -7,13 +7,13 @@ use lib.Dec.{leb, ltb}
 use lib.ListN.{drop}
 use Rattle.cases.specs.declared.numerals.Numeral.{Numeral}
 
-abbrev pub within : ℕ → ℕ → ℕ → Bool
-within low high c = leb low c && leb c high
+abbrev pub between : ℕ → ℕ → ℕ → Bool
+between low high c = leb low c && leb c high
 
 -- the first place whose byte is within the bounds; the list is the text from place p on
 unfoldable pub seekIn : ℕ → ℕ → List ℕ → ℕ → ℕ
 seekIn low high [] p = p
-seekIn low high (c ∷ cs) p = cond (within low high c) p (seekIn low high cs (suc p))
+seekIn low high (c ∷ cs) p = cond (between low high c) p (seekIn low high cs (suc p))
 
 abbrev pub seekAt : ℕ → ℕ → List ℕ → ℕ → ℕ
 seekAt low high s p = seekIn low high (drop p s) p
@@ -25,10 +25,10 @@ more v c = cond (ltb v 1000000000000000000) (v * 10 + (c - 48)) v
 -- the digits from place p on, after a number v; the list is the text from there on
 unfoldable pub digitsIn : List ℕ → ℕ → ℕ → Numeral
 digitsIn [] v p = record { value = v; next = p }
-digitsIn (c ∷ cs) v p = cond (within 48 57 c) (digitsIn cs (more v c) (suc p)) (record { value = v; next = p })
+digitsIn (c ∷ cs) v p = cond (between 48 57 c) (digitsIn cs (more v c) (suc p)) (record { value = v; next = p })
 
-abbrev pub digitsAt : List ℕ → ℕ → Numeral
-digitsAt s p = digitsIn (drop p s) 0 p
+abbrev pub numeralAt : List ℕ → ℕ → Numeral
+numeralAt s p = digitsIn (drop p s) 0 p
 
 unfoldable pub numberAt : List ℕ → ℕ → Numeral
-numberAt s p = digitsAt s (seekAt 48 57 s p)
+numberAt s p = numeralAt s (seekAt 48 57 s p)

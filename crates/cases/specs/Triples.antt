@@ -8,7 +8,7 @@ use Rattle.cases.specs.Numerals.{numberAt}
 use Rattle.cases.specs.declared.numerals.Numeral.{Numeral}
 use Rattle.cases.specs.declared.triples.Listed.{Listed}
 
-pub record Lists : Type 0 where
+pub record ThreeLists : Type 0 where
   pub first : List ℕ
   pub second : List ℕ
   pub third : List ℕ
@@ -20,8 +20,8 @@ secondAt s p = numberAt s (numberAt s p .next)
 abbrev pub thirdAt : List ℕ → ℕ → Numeral
 thirdAt s p = numberAt s (secondAt s p .next)
 
-unfoldable pub put : Lists → ℕ → ℕ → ℕ → ℕ → Lists
-put t i x y z =
+unfoldable pub putThree : ThreeLists → ℕ → ℕ → ℕ → ℕ → ThreeLists
+putThree t i x y z =
     record {
       first = set (t .first) i (min x 4294967295);
       second = set (t .second) i (min y 255);
@@ -29,9 +29,9 @@ put t i x y z =
     }
 
 -- n rows from place p of the text on, written from place i of the lists on
-unfoldable pub fill : List ℕ → ℕ → ℕ → ℕ → Lists → Lists
+unfoldable pub fill : List ℕ → ℕ → ℕ → ℕ → ThreeLists → ThreeLists
 fill s zero p i t = t
-fill s (suc n) p i t = fill s n (thirdAt s p .next) (suc i) (put t i (numberAt s p .value) (secondAt s p .value) (thirdAt s p .value))
+fill s (suc n) p i t = fill s n (thirdAt s p .next) (suc i) (putThree t i (numberAt s p .value) (secondAt s p .value) (thirdAt s p .value))
 
 -- the place past n rows
 unfoldable pub past : List ℕ → ℕ → ℕ → ℕ

@@ -1,7 +1,7 @@
 // Decimal numbers in a text.
 ghost use mathlib.Core.Path.{_≡_};
 ghost use Prim.Native.Nat.{_≤_, min};
-ghost use Rattle.cases.specs.Numerals.{seekAt, numberAt, within, more};
+ghost use Rattle.cases.specs.Numerals.{seekAt, numberAt, between, more};
 
 pub struct Numeral {
     pub value: u64,
@@ -9,7 +9,7 @@ pub struct Numeral {
 }
 
 fn is_within(low: u8, high: u8, byte: u8) -> bool
-    ensures { λ r. ⌜ r ≡ within low high byte ⌝ }
+    ensures { λ r. ⌜ r ≡ between low high byte ⌝ }
 {
     if byte < low {
         return false;

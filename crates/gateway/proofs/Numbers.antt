@@ -22,7 +22,7 @@ use Rattle.tries.specs.Chooser.{chooseTests}
 use Rattle.tries.specs.Build.{buildTests}
 use Rattle.walk.specs.Meaning.{Tested, Looked}
 use Rattle.tries.proofs.ChooseTests.{numbered-choose}
-use Rattle.tries.proofs.Builds.{numbered-build}
+use Rattle.tries.proofs.BuildSteps.{numbered-build}
 use Rattle.walk.specs.declared.record.Record.{Record}
 use Rattle.table.specs.Refusals.{outcomeNumber, outcomeDetail}
 use Rattle.gateway.specs.Numbers.{Told, outcomeNumbers, sharedNumbers, spanNumbers, choiceNumbers, buildNumbers, answerNumbers}

@@ -17,7 +17,7 @@ use Rattle.tries.specs.declared.chooser.Chosen.{Chosen}
 use Rattle.tries.specs.declared.building.Built.{Built}
 use Rattle.walk.specs.declared.record.Record.{Record}
 use Rattle.tries.proofs.Choosing.{chooses-unique}
-use Rattle.tries.proofs.OneBuild.{builds-unique}
+use Rattle.tries.proofs.Unique.{builds-unique}
 use Rattle.walk.proofs.Unique.{looked-unique}
 use Rattle.gateway.specs.Numbers.{Told, outcomeNumbers, sharedNumbers, spanNumbers, choiceNumbers, buildNumbers, answerNumbers}
 use Rattle.gateway.specs.Allowed.{AllowedChoice, AllowedBuild}

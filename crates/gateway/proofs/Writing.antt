@@ -21,17 +21,17 @@ abbrev pub Promised : Record → Lists → (address : ℕ) → Answer → Type 0
 Promised rec ls address a = Exactly rec ls address a × Looked WIDTH rec ls address a
 
 -- an answer put at index i of the lists
-abbrev pub put : Columns → ℕ → AnswerNumbers → Columns
-put cs i f = columns (set (cs .number) i (f .number)) (set (cs .hop) i (f .hop)) (set (cs .reads) i (f .reads))
+abbrev pub putAnswer : Columns → ℕ → AnswerNumbers → Columns
+putAnswer cs i f = columns (set (cs .number) i (f .number)) (set (cs .hop) i (f .hop)) (set (cs .reads) i (f .reads))
 
 found-same : {a a′ b b′ c c′ : ℕ} → a ≡ a′ → b ≡ b′ → c ≡ c′ → _≡_ {A = AnswerNumbers} (record { number = a; hop = b; reads = c }) (record { number = a′; hop = b′; reads = c′ })
 found-same p q r = rw (p, q, r)
 
-put-here : (cs : Columns) (i : ℕ) (f : AnswerNumbers) → i < length (cs .number) → i < length (cs .hop) → i < length (cs .reads) → foundAt (put cs i f) i ≡ f
+put-here : (cs : Columns) (i : ℕ) (f : AnswerNumbers) → i < length (cs .number) → i < length (cs .hop) → i < length (cs .reads) → foundAt (putAnswer cs i f) i ≡ f
 put-here cs i f a b c =
     found-same (getD-set-same (cs .number) i (f .number) 0 a) (getD-set-same (cs .hop) i (f .hop) 0 b) (getD-set-same (cs .reads) i (f .reads) 0 c)
 
-put-elsewhere : (cs : Columns) (i k : ℕ) (f : AnswerNumbers) → (k ≡ i → ⊥) → foundAt (put cs i f) k ≡ foundAt cs k
+put-elsewhere : (cs : Columns) (i k : ℕ) (f : AnswerNumbers) → (k ≡ i → ⊥) → foundAt (putAnswer cs i f) k ≡ foundAt cs k
 put-elsewhere cs i k f ne =
     found-same
     (getD-set-other (cs .number) i k (f .number) 0 ne)
@@ -44,9 +44,9 @@ module _ {Allows : (address : ℕ) → Answer → Type 0} {xs : List ℕ} {cs : 
 
   pub written-more : {now : Columns} {i : ℕ} {f : AnswerNumbers} → Written Allows xs cs now i
       → i < length (now .number) → i < length (now .hop) → i < length (now .reads)
-      → Told (Allows (at xs i)) answerNumbers f → Written Allows xs cs (put now i f) (i + 1)
+      → Told (Allows (at xs i)) answerNumbers f → Written Allows xs cs (putAnswer now i f) (i + 1)
   written-more {now} {i} {f} w a b c t = record {
-    told = below-more (λ (k : ℕ). Told (Allows (at xs k)) answerNumbers (foundAt (put now i f) k)) i
+    told = below-more (λ (k : ℕ). Told (Allows (at xs k)) answerNumbers (foundAt (putAnswer now i f) k)) i
         (λ k h. let u = w .told k h in (u .0, u .1, put-elsewhere now i k f (λ e. omega arith) ∙ u .2))
         (t .0, t .1, put-here now i f a b c ∙ t .2);
     later = λ k h. put-elsewhere now i k f (λ e. omega arith) ∙ w .later k (omega arith);

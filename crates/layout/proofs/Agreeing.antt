@@ -76,19 +76,19 @@ module _ (σ τ : Strides) where
   left-none ρ (suc w) zero (suc n) (suc r) x =
       let c = pred (ρ (suc r) none) in at-none (bit w x) (λ u. leftOf ρ w u c n r x) (left-none ρ w c n r x)
 
-  left-same : (w : ℕ) (t : Trie) (c n r x : ℕ) → Agree t c r → leftOf σ w t c n r x ≡ leftOf τ w t c n r x
+  left-agree : (w : ℕ) (t : Trie) (c n r x : ℕ) → Agree t c r → leftOf σ w t c n r x ≡ leftOf τ w t c n r x
   unfolding leftOf
-  left-same w none c n r x g = left-none σ w c n r x ∙ sym (left-none τ w c n r x)
-  left-same zero (node p a q b) c n r x g = refl
-  left-same (suc w) (node p a q b) (suc c) n r x g =
+  left-agree w none c n r x g = left-none σ w c n r x ∙ sym (left-none τ w c n r x)
+  left-agree zero (node p a q b) c n r x g = refl
+  left-agree (suc w) (node p a q b) (suc c) n r x g =
       at-node (bit w x) p a q b (λ u. leftOf σ w u c n r x) (λ u. leftOf τ w u c n r x) (wide-same a c n r (g .0))
-      (left-same w a c n r x (g .0)) (left-same w b c n r x (g .1))
-  left-same (suc w) (node p a q b) zero n zero x g = absurd g
-  left-same (suc w) (node p a q b) zero zero (suc r) x g = refl
-  left-same (suc w) (node p a q b) zero (suc n) (suc r) x g =
+      (left-agree w a c n r x (g .0)) (left-agree w b c n r x (g .1))
+  left-agree (suc w) (node p a q b) zero n zero x g = absurd g
+  left-agree (suc w) (node p a q b) zero zero (suc r) x g = refl
+  left-agree (suc w) (node p a q b) zero (suc n) (suc r) x g =
       let c = pred (σ (suc r) (node p a q b)) in
       rw (sym (g .1)) (at-node (bit w x) p a q b (λ u. leftOf σ w u c n r x) (λ u. leftOf τ w u c n r x) (wide-same a c n r (g .2))
-      (left-same w a c n r x (g .2)) (left-same w b c n r x (g .3)))
+      (left-agree w a c n r x (g .2)) (left-agree w b c n r x (g .3)))
 
   -- where the next blocks begin
   kid-agree : (i : ℕ) (t : Trie) (c r : ℕ) → Agree t (suc c) r → Agree (kid i t) c r
@@ -121,7 +121,7 @@ module _ (σ τ : Strides) where
 
   row-same : (c r : ℕ) (t : Trie) (best free x : ℕ) → Agree t c r → rowBelow σ c r t best free x ≡ rowBelow τ c r t best free x
   unfolding rowBelow
-  row-same c r t best free x g = rw (left-same c t c 0 r x g, stride-same (subAlong c t x) r (sub-agree c t r x g)) refl
+  row-same c r t best free x g = rw (left-agree c t c 0 r x g, stride-same (subAlong c t x) r (sub-agree c t r x g)) refl
 
   list-same : (n : ℕ) (f g : ℕ → Row) → ((i : ℕ) → f i ≡ g i) → listOf n f ≡ listOf n g
   unfolding listOf

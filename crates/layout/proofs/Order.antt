@@ -85,11 +85,11 @@ module _ (σ : Strides) where
 
   -- ---- the rows
   -- the blocks of level n, and then those of q
-  abbrev Laid : Trie → (c n r : ℕ) → Type 0
-  Laid t c n r = (f : ℕ) (q : List Block)
+  abbrev LevelLaid : Trie → (c n r : ℕ) → Type 0
+  LevelLaid t c n r = (f : ℕ) (q : List Block)
       → laidOut σ f (levelOf σ t c n r ++ q) ≡ levelRows σ t c n r f ++ laidOut σ (f + wide σ t c (suc n) r) q
 
-  sides-laid : (a b : Trie) (c n r : ℕ) → Laid a c n r → Laid b c n r → (f : ℕ) (q : List Block)
+  sides-laid : (a b : Trie) (c n r : ℕ) → LevelLaid a c n r → LevelLaid b c n r → (f : ℕ) (q : List Block)
       → laidOut σ f ((levelOf σ a c n r ++ levelOf σ b c n r) ++ q)
       ≡ (levelRows σ a c n r f ++ levelRows σ b c n r (f + wide σ a c (suc n) r)) ++ laidOut σ (f + (wide σ a c (suc n) r + wide σ b c (suc n) r)) q
   sides-laid a b c n r ha hb f q =
@@ -101,7 +101,7 @@ module _ (σ : Strides) where
       ∙ sym (append-assoc (levelRows σ a c n r f) (levelRows σ b c n r f1) _)
       ∙ ap (λ (v : ℕ). (levelRows σ a c n r f ++ levelRows σ b c n r f1) ++ laidOut σ v q) e
 
-  level-laid : (t : Trie) (c n r : ℕ) → Laid t c n r
+  level-laid : (t : Trie) (c n r : ℕ) → LevelLaid t c n r
   unfolding laidOut levelOf levelRows wide
   level-laid none c n r f q = let e : f + 0 ≡ f = omega arith in rw e
   level-laid (node p a p′ b) (suc c) n r f q = sides-laid a b c n r (level-laid a c n r) (level-laid b c n r) f q

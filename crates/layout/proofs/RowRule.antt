@@ -24,7 +24,7 @@ use Rattle.layout.proofs.Answering.{Lies, lies-all, lies-next}
 use Rattle.layout.proofs.Hops.{path-lt, path-row, path-node, row-hop}
 use Rattle.layout.proofs.PathBlocks.{next-node, Here, here}
 
-module _ (σ : Strides) (W k : ℕ) (t : Trie) (good : Good σ t W 0 k) (ls : Lists) (held : Hold ls 0 (rowsOf σ k t)) where
+module _ (σ : Strides) (W k : ℕ) (t : Trie) (good : Good σ t W 0 k) (ls : Lists) (rows-held : Hold ls 0 (rowsOf σ k t)) where
   -- where the levels below a block lie, for two addresses that lead to it
   record Stood (x y n d : ℕ) : Type 0 where
     pub at : ℕ → ℕ
@@ -66,7 +66,7 @@ module _ (σ : Strides) (W k : ℕ) (t : Trie) (good : Good σ t W 0 k) (ls : Li
   unfolding subAlong blockRow
   stood x y (at-root some) e = record {
     at = firstRow σ t k;
-    lies = rw (sub-zero k) (lies-all σ t k ls W some good held);
+    lies = rw (sub-zero k) (lies-all σ t k ls W some good rows-held);
     first-x = λ m. rw (sub-zero W, sub-zero k, zero-add m) refl;
     first-y = λ m. rw (sub-zero W, sub-zero k, zero-add m) refl;
   }
@@ -152,8 +152,8 @@ module _ {most W : ℕ} {vs ls hs : List ℕ} {σ : Strides} {k : ℕ} {rec : Re
   fine : Good σ T W 0 k
   fine = rw (g .width, g .levels) at (g .built .good)
 
-  held : Hold rows 0 (rowsOf σ k T)
-  held = rw (g .levels) at (g .built .rows)
+  rows-held : Hold rows 0 (rowsOf σ k T)
+  rows-held = rw (g .levels) at (g .built .rows)
 
   -- row i of the block of level n at depth d on the path of x, whose stride is s: its hop is that of the longest entry with length above d
   -- and at most d + s that begins the row's path, else 0; its link is the first row of the child block, and its child stride that block's
@@ -172,17 +172,17 @@ module _ {most W : ℕ} {vs ls hs : List ℕ} {σ : Strides} {k : ℕ} {rec : Re
       let r = here σ W k T fine x b .r in
       let u = nodeOn W T x d in
       let q = start W d x in
-      let e : σ (k - n) u ≡ suc s = stride-is σ W k T fine rows held x n d small b i index in
+      let e : σ (k - n) u ≡ suc s = stride-is σ W k T fine rows rows-held x n d small b i index in
       let fits = here σ W k T fine x b .fits in
-      let bits = first-bits σ W k T fine rows held x n d small b i index in
+      let bits = first-bits σ W k T fine rows rows-held x n d small b i index in
       let inside = rw e at index in
-      let free = st σ W k T fine rows held x n d small b i index .at 1 in
+      let free = st σ W k T fine rows rows-held x n d small b i index .at 1 in
       let hop = row-hop W d (suc s) q i fits bits inside (at vs) (at ls) (at hs) (length vs) (λ j l. g .table .entry j l .prefix) (λ j l. g .table .entry j l .some-hop) σ r free in
-      let child = child-node σ W k T fine rows held x n d small b i index in
-      let link = ap₂ linkTo child (child-row σ W k T fine rows held x n d small b i index) in
+      let child = child-node σ W k T fine rows rows-held x n d small b i index in
+      let link = ap₂ linkTo child (child-row σ W k T fine rows rows-held x n d small b i index) in
       let levels : r ≡ k - suc n = omega (arith, here σ W k T fine x b .levels) in
       subst (λ (v : ℕ). rowAt rows (blockRow σ W k T x n + i) ≡ ruled v d q n i) (sym e)
-      (row-below σ W k T fine rows held x n d small b i index ∙ same-row hop link (ap₂ (strideOf σ) levels child))
+      (row-below σ W k T fine rows rows-held x n d small b i index ∙ same-row hop link (ap₂ (strideOf σ) levels child))
     where
       ruled : (v d q n i : ℕ) → Row
       ruled v d q n i =

@@ -37,12 +37,12 @@ eightStrides (suc zero) t = depth t
 eightStrides (suc (suc r)) t = 4
 
 -- n rows with the hop h and no child
-abbrev plain : (n h : ℕ) → List Row → List Row
-plain zero h rs = rs
-plain (suc n) h rs = row h 0 0 ∷ plain n h rs
+abbrev leaves : (n h : ℕ) → List Row → List Row
+leaves zero h rs = rs
+leaves (suc n) h rs = row h 0 0 ∷ leaves n h rs
 
 eight-rows : rowsOf eightStrides 2 eightTrie
-    ≡ plain 8 1 (row 2 16 1 ∷ plain 1 2 (plain 2 4 (row 6 18 3 ∷ plain 3 3 (plain 1 0 (plain 1 5 (plain 1 8 (plain 1 7 (plain 6 0 []))))))))
+    ≡ leaves 8 1 (row 2 16 1 ∷ leaves 1 2 (leaves 2 4 (row 6 18 3 ∷ leaves 3 3 (leaves 1 0 (leaves 1 5 (leaves 1 8 (leaves 1 7 (leaves 6 0 []))))))))
 unfolding start bit markAlong subAlong nodeIf trieBelow beyond properStart wholeEntry someStart markAt trieOf eightTrie depth rowOf wide leftOf
     rowBelow listOf blockRows levelRows firstRow levelsRows rowsOf
 eight-rows = refl

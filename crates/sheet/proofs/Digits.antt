@@ -105,8 +105,8 @@ pub count-end : (b most : ℕ) (s : List ℕ) (p n : ℕ) → most ≤ n → cou
 unfolding countAt
 count-end b most s p n h = let f : most - n ≡ 0 = omega arith in rw f
 
-pub value-start : (b : ℕ) → 0 < b ^ 0
-value-start b = rw pow-zero (lit< tt)
+pub value-none : (b : ℕ) → 0 < b ^ 0
+value-none b = rw pow-zero (lit< tt)
 
 pub value-go : (b n v : ℕ) (s : List ℕ) (p : ℕ) {c : ℕ} → c ≡ byteAt s (p + n) → v ≡ valueAt b n s p → v * b + (c - 48) ≡ valueAt b (n + 1) s p
 unfolding valueAt

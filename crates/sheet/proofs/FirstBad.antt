@@ -18,7 +18,7 @@ use Rattle.sheet.specs.Keys.{widthKey, levelsKey, entriesKey, bitsKey, h
 use Rattle.sheet.specs.Lines.{numberLine, bitsLine}
 use Rattle.sheet.specs.Entries.{entryFrom, addressFrom, afterEntries, afterQueries}
 use Rattle.sheet.specs.Sheet.{Sheet}
-use Rattle.sheet.specs.Text.{Text, good, bad, start, widthItem, kindItem, levelsItem, entriesItem, queriesItem, lastSpot, sheetOf, textOf}
+use Rattle.sheet.specs.Text.{Text, good, bad, textStart, widthItem, kindItem, levelsItem, entriesItem, queriesItem, lastSpot, sheetOf, textOf}
 use Rattle.sheet.specs.Spelling.{kindText, entryText, queryText, sheetText, Sound}
 use Rattle.sheet.specs.Printing.{lineOf, bitsLineOf, joined}
 use Rattle.sheet.specs.FirstBad.{lineCount, firstLines, Opens, FirstBad}
@@ -151,18 +151,18 @@ module _ (s r r′ : List ℕ) (goal : ℕ) where
       stage-bits addressKey refl 1 (at xs n) (at ds n) (x .0) (x .1) (x .2) (afterQueries s p n) z w
 
 -- lines go on
-entries-more : (s : List ℕ) (p : Spot) (n : ℕ) → p .line ≤ afterEntries s p n .line
+entries-lines : (s : List ℕ) (p : Spot) (n : ℕ) → p .line ≤ afterEntries s p n .line
 unfolding afterEntries entryFrom
-entries-more s p zero = omega arith
-entries-more s p (suc n) =
+entries-lines s p zero = omega arith
+entries-lines s p (suc n) =
     let q = afterEntries s p n in
     let b = bitsLine 0 bitsKey s q .spot in
-    omega (arith, entries-more s p n, turn-more (bits-turn bitsKey s q 0), turn-more (number-turn hopKey s b NUMBER-DIGITS HOP))
+    omega (arith, entries-lines s p n, turn-more (bits-turn bitsKey s q 0), turn-more (number-turn hopKey s b NUMBER-DIGITS HOP))
 
-queries-more : (s : List ℕ) (p : Spot) (n : ℕ) → p .line ≤ afterQueries s p n .line
+queries-lines : (s : List ℕ) (p : Spot) (n : ℕ) → p .line ≤ afterQueries s p n .line
 unfolding afterQueries addressFrom
-queries-more s p zero = omega arith
-queries-more s p (suc n) = omega (arith, queries-more s p n, turn-more (bits-turn addressKey s (afterQueries s p n) 1))
+queries-lines s p zero = omega arith
+queries-lines s p (suc n) = omega (arith, queries-lines s p n, turn-more (bits-turn addressKey s (afterQueries s p n) 1))
 
 module _ (s : List ℕ) (m : ℕ) (o : Opens s (suc m)) where
   abbrev sh : Sheet
@@ -199,7 +199,7 @@ module _ (s : List ℕ) (m : ℕ) (o : Opens s (suc m)) where
   abbrev levelsRest : List ℕ
   levelsRest = lineOf entriesKey n ++ (entriesText ++ entriesRest)
 
-  stage-start : Stage s ours theirs goal (Unit {0}) start (lineOf widthKey (sh .width) ++ (kindText (sh .kind) ++ (lineOf levelsKey (sh .levels) ++ levelsRest)))
+  stage-start : Stage s ours theirs goal (Unit {0}) textStart (lineOf widthKey (sh .width) ++ (kindText (sh .kind) ++ (lineOf levelsKey (sh .levels) ++ levelsRest)))
   unfolding sheetText
   stage-start =
       let c : lineCount opening ≡ suc m = first-count (suc m) s (o .complete) in
@@ -223,7 +223,7 @@ module _ (s : List ℕ) (m : ℕ) (o : Opens s (suc m)) where
   stage-levels : Stage s ours theirs goal (levelsItem s .value ≡ sh .levels) (levelsItem s .spot) levelsRest
   unfolding widthItem kindItem levelsItem lineCount
   stage-levels =
-      let w = stage-number s ours theirs goal widthKey refl NUMBER (sh .width) (lit≤ tt) (o .sound .width-fits) start _ stage-start in
+      let w = stage-number s ours theirs goal widthKey refl NUMBER (sh .width) (lit≤ tt) (o .sound .width-fits) textStart _ stage-start in
       let p = widthItem s .spot in
       let c = stage-line s ours theirs goal (Unit {0}) (kindText (sh .kind)) _ p _ (kind-line-one (sh .kind)) (kind-turn s p)
       (λ rest h. (tt, kind-read s p rest (sh .kind) h .1)) w in
@@ -235,7 +235,7 @@ module _ (s : List ℕ) (m : ℕ) (o : Opens s (suc m)) where
     where
       go : Stage s ours theirs goal (entriesItem s .value ≡ n) (entriesItem s .spot) (entriesText ++ entriesRest)
           → Stage s ours theirs goal (Unit {0}) (afterEntries s (entriesItem s .spot) (entriesItem s .value)) entriesRest
-      go (inl d) = inl (omega (arith, entries-more s (entriesItem s .spot) (entriesItem s .value)))
+      go (inl d) = inl (omega (arith, entries-lines s (entriesItem s .spot) (entriesItem s .value)))
       go (inr v) =
           rw (v .0)
           (stage-entries s ours theirs goal (entriesItem s .spot) (sh .bits) (sh .lengths) (sh .hops) n entriesRest (o .sound .entry) {P = Unit {0}} (inr (tt, v .1)))
@@ -248,7 +248,7 @@ module _ (s : List ℕ) (m : ℕ) (o : Opens s (suc m)) where
     where
       go : Stage s ours theirs goal (queriesItem s .value ≡ k) (queriesItem s .spot) (queriesText ++ [])
           → Stage s ours theirs goal (Unit {0}) (afterQueries s (queriesItem s .spot) (queriesItem s .value)) []
-      go (inl d) = inl (omega (arith, queries-more s (queriesItem s .spot) (queriesItem s .value)))
+      go (inl d) = inl (omega (arith, queries-lines s (queriesItem s .spot) (queriesItem s .value)))
       go (inr v) =
           rw (v .0)
           (stage-queries s ours theirs goal (queriesItem s .spot) (sh .addresses) (sh .places) k [] (o .sound .query) {P = Unit {0}} (inr (tt, v .1)))

@@ -20,7 +20,7 @@ use Rattle.sheet.specs.Keys.{widthKey, fixedKey, variableKey, levelsKey,
 use Rattle.sheet.specs.Lines.{byteAt, keyAt, countAt, valueAt, digitsAt, close, numberLine, bitsLine, kindLine}
 use Rattle.sheet.specs.Entries.{entryFrom, addressFrom, afterEntries, afterQueries}
 use Rattle.sheet.specs.Sheet.{Sheet}
-use Rattle.sheet.specs.Text.{good, bad, start, widthItem, kindItem, levelsItem, entriesItem, queriesItem, lastSpot, sheetOf, textOf}
+use Rattle.sheet.specs.Text.{good, bad, textStart, widthItem, kindItem, levelsItem, entriesItem, queriesItem, lastSpot, sheetOf, textOf}
 use Rattle.sheet.specs.Spelling.{sheetText, Sound}
 use Rattle.sheet.proofs.Digits.{count-most, read-most}
 use Rattle.sheet.proofs.Steps.{bits-is}
@@ -111,7 +111,7 @@ module _ (s t : List ℕ) (B : ℕ) (same : (p : ℕ) → p < B → byteAt s p �
   module _ (long : LONGEST < B) where
     width-same : widthItem s ≡ widthItem t
     unfolding widthItem
-    width-same = number-same NUMBER-DIGITS NUMBER widthKey start (omega arith)
+    width-same = number-same NUMBER-DIGITS NUMBER widthKey textStart (omega arith)
 
     kind-item-same : kindItem s ≡ kindItem t
     unfolding kindItem

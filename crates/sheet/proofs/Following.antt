@@ -18,11 +18,11 @@ use Rattle.sheet.specs.declared.lines.Digits.{Digits}
 use Rattle.sheet.specs.declared.lines.Item.{Item}
 use Rattle.sheet.specs.Limits.{COUNT, NUMBER-DIGITS, NUMBER, HOP, BITS}
 use Rattle.sheet.specs.Keys.{widthKey, fixedKey, variableKey, levelsKey, entriesKey, bitsKey, hopKey, queriesKey, addressKey}
-use Rattle.sheet.specs.Lines.{byteAt, keyAt, digitsAt, plain, badLine, close, numberLine, bitsLine, kindLine}
+use Rattle.sheet.specs.Lines.{byteAt, keyAt, digitsAt, unpadded, badLine, close, numberLine, bitsLine, kindLine}
 use Rattle.table.specs.Lists.{listed}
 use Rattle.sheet.specs.Entries.{entryFrom, addressFrom, afterEntries, afterQueries, entryBits, entryLength, entryHop, queryAddress, queryPlaces}
 use Rattle.sheet.specs.Sheet.{Sheet}
-use Rattle.sheet.specs.Text.{kindNamed, good, bad, start, widthItem, kindItem, levelsItem, entriesItem, queriesItem, lastSpot, sheetOf, textOf}
+use Rattle.sheet.specs.Text.{kindNamed, good, bad, textStart, widthItem, kindItem, levelsItem, entriesItem, queriesItem, lastSpot, sheetOf, textOf}
 use Rattle.sheet.specs.Spelling.{kindText, entryText, queryText, sheetText, Sound}
 use Rattle.sheet.specs.Printing.{lineOf, bitsLineOf, joined}
 use Rattle.sheet.specs.FirstBad.{lineCount, firstLines, Opens}
@@ -60,7 +60,7 @@ module _ (key s : List ℕ) (p : Spot) where
   number-turn k most =
       let q = p .at + length key in
       let d = digitsAt 10 k s q in
-      tested-turn p (keyAt key s (p .at) && plain (byteAt s q) (d .count) && leb (d .value) most) (close s p (q + d .count) d)
+      tested-turn p (keyAt key s (p .at) && unpadded (byteAt s q) (d .count) && leb (d .value) most) (close s p (q + d .count) d)
       (close-turn s p (q + d .count) d)
 
   pub bits-turn : (least : ℕ) → Turn p (bitsLine least key s p .spot)
@@ -236,14 +236,14 @@ module _ (s : List ℕ) where
             (λ i h. rw (listed-at (queryAddress s q) m i h, listed-at (queryDigits s q) m i h)),
       )
 
-  follow-start : Follow s start []
+  follow-start : Follow s textStart []
   unfolding lineCount firstLines
   follow-start = record { read = []; rest = []; told = refl; begins = refl; all = λ e. refl; number = refl }
 
   follow-whole : Follow s (lastSpot s) lineBytes
   unfolding lastSpot queriesItem entriesItem levelsItem kindItem widthItem lineCount
   follow-whole =
-      let w = follow-line (number-took widthKey refl s start NUMBER) follow-start in
+      let w = follow-line (number-took widthKey refl s textStart NUMBER) follow-start in
       let k = follow-line (kind-took s (widthItem s .spot)) w in
       let l = follow-line (number-took levelsKey refl s (kindItem s .spot) NUMBER) k in
       let e = follow-line (number-took entriesKey refl s (levelsItem s .spot) COUNT) l in

@@ -22,7 +22,7 @@ use Rattle.tries.specs.Chooser.{chooseTests}
 use Rattle.tries.specs.Scratch.{ROW}
 use Rattle.layout.proofs.Agreeing.{Agree, same-agree, blocks-same, count-same, stride-same}
 use Rattle.tries.proofs.ChooseTests.{accepted-levels, accepted-tests-table}
-use Rattle.tries.proofs.Builds.{tests-least}
+use Rattle.tries.proofs.BuildSteps.{tests-least}
 use Rattle.sheet.specs.declared.running.Report.{Report}
 use Rattle.sheet.specs.Limits.{LENT-ROWS, LENT-ELEMENTS}
 use Rattle.sheet.specs.Printing.{refusalLines}

@@ -47,12 +47,12 @@ long-bits-fail W v l h = rw (lt-ltb W l h)
 
 module _ (W : ℕ) (vs₀ ls : List ℕ) where
   -- entry j's value
-  abbrev pub valueAt : ℕ → ℕ
-  valueAt j = valueOf W (at vs₀ j) (at ls j)
+  abbrev pub placedAt : ℕ → ℕ
+  placedAt j = valueOf W (at vs₀ j) (at ls j)
 
   pub record Placed (vs : List ℕ) (i : ℕ) : Type 0 where
     pub same : length vs ≡ length vs₀
-    pub done : take i vs ≡ listed valueAt i
+    pub done : take i vs ≡ listed placedAt i
     pub left : (j : ℕ) → i ≤ j → at vs j ≡ at vs₀ j
 
   pub placed-none : Placed vs₀ 0
@@ -63,7 +63,7 @@ module _ (W : ℕ) (vs₀ ls : List ℕ) where
   placed-more vs i {v} h e P =
       record {
         same = simp length-set (P .same);
-        done = listed-more valueAt vs i v h (P .done) (e ∙ ap (λ (x : ℕ). valueOf W x (at ls i)) (P .left i (omega arith)));
+        done = listed-more placedAt vs i v h (P .done) (e ∙ ap (λ (x : ℕ). valueOf W x (at ls i)) (P .left i (omega arith)));
         left = λ j k. getD-set-other vs i j v 0 (λ z. omega arith) ∙ P .left j (omega arith);
       }
 
@@ -71,4 +71,4 @@ module _ (W : ℕ) (vs₀ ls : List ℕ) where
   unfolding valuesOf
   placed-all vs i h k P =
       let e : i ≡ length vs = omega arith in
-      sym (take-length vs) ∙ ap (λ (n : ℕ). take n vs) (sym e) ∙ P .done ∙ ap (listed valueAt) (e ∙ P .same)
+      sym (take-length vs) ∙ ap (λ (n : ℕ). take n vs) (sym e) ∙ P .done ∙ ap (listed placedAt) (e ∙ P .same)

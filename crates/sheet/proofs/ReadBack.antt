@@ -20,7 +20,7 @@ use Rattle.sheet.specs.declared.lines.Spot.{Spot}
 use Rattle.sheet.specs.declared.lines.Item.{Item}
 use Rattle.sheet.specs.Limits.{NUMBER-DIGITS, NUMBER, HOP, BITS}
 use Rattle.sheet.specs.Keys.{fixedKey, variableKey, bitsKey, hopKey, addressKey}
-use Rattle.sheet.specs.Lines.{byteAt, keyAt, isDigit, countAt, valueAt, digitsAt, plain, close, numberLine, bitsLine, kindLine}
+use Rattle.sheet.specs.Lines.{byteAt, keyAt, isDigit, countAt, valueAt, digitsAt, unpadded, close, numberLine, bitsLine, kindLine}
 use Rattle.table.specs.Lists.{listed}
 use Rattle.sheet.specs.Entries.{entryFrom, addressFrom, afterEntries, afterQueries, entryBits, entryLength, entryHop, queryAddress, queryPlaces}
 use Rattle.sheet.specs.Text.{kindNamed}
@@ -106,10 +106,10 @@ module _ (b : ℕ) (s : List ℕ) (p : ℕ) (low : 0 < b) (high : b ≤ 10) wher
       (value-more b m (valueAt b (suc m) s p) (byteAt s (p + suc m) - 48) (lead-none m (λ j l. d j (omega arith)) f) (omega (arith, x .low, x .high)))
 
   -- the fewest digits that hold a number are plain
-  fewest-plain : (n v : ℕ) → Fewest b 1 v n → Spell n v → plain (byteAt s p) n ≡ true
-  unfolding plain
-  fewest-plain zero v f w = absurd (omega arith)
-  fewest-plain (suc m) v f w = go (eqb (byteAt s p) 48) refl
+  fewest-unpadded : (n v : ℕ) → Fewest b 1 v n → Spell n v → unpadded (byteAt s p) n ≡ true
+  unfolding unpadded
+  fewest-unpadded zero v f w = absurd (omega arith)
+  fewest-unpadded (suc m) v f w = go (eqb (byteAt s p) 48) refl
     where
       go : (t : Bool) → eqb (byteAt s p) 48 ≡ t → cond t (eqb (suc m) 1) (ltb 0 (suc m)) ≡ true
       go true e =
@@ -211,7 +211,7 @@ module _ (key s : List ℕ) (p : Spot) (rest : List ℕ) where
       rw (
         line-key 10 n v (lit< tt) (lit≤ tt) (w .1) h,
         line-read 10 n v (lit< tt) (lit≤ tt) (w .1) h NUMBER-DIGITS (fewest-least v n NUMBER-DIGITS w (lit≤ tt) (omega arith)),
-        fewest-plain 10 s here (lit< tt) (lit≤ tt) n v w (line-digits 10 n v (lit< tt) (lit≤ tt) (w .1) h),
+        fewest-unpadded 10 s here (lit< tt) (lit≤ tt) n v w (line-digits 10 n v (lit< tt) (lit≤ tt) (w .1) h),
         le-leb v most few,
       )
       (line-close 10 n v (lit< tt) (lit≤ tt) (w .1) h)

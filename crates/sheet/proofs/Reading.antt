@@ -10,7 +10,7 @@ use Rattle.sheet.specs.declared.lines.Spot.{Spot}
 use Rattle.sheet.specs.declared.lines.Digits.{Digits}
 use Rattle.sheet.specs.declared.lines.Item.{Item}
 use Rattle.sheet.specs.Limits.{BITS}
-use Rattle.sheet.specs.Lines.{byteAt, keyAt, digitsAt, plain, badLine, close, numberLine, bitsLine}
+use Rattle.sheet.specs.Lines.{byteAt, keyAt, digitsAt, unpadded, badLine, close, numberLine, bitsLine}
 
 -- ---- the end of a line
 
@@ -37,10 +37,10 @@ module _ (k most : ℕ) (key s : List ℕ) (p : Spot) {t : Bool} (key-read : t �
   number-keyless e = rw (sym key-read ∙ not-true _ e)
 
   module _ (has : not t ≡ false) {d : Digits} (read : d ≡ digitsAt 10 k s (p .at + length key))
-      {f : ℕ} (first : f ≡ byteAt s (p .at + length key)) {u : Bool} (test : u ≡ plain f (d .count)) where
-    pub number-unplain : not u ≡ true → badLine p ≡ numberLine k most key s p
+      {f : ℕ} (first : f ≡ byteAt s (p .at + length key)) {u : Bool} (test : u ≡ unpadded f (d .count)) where
+    pub number-padded : not u ≡ true → badLine p ≡ numberLine k most key s p
     unfolding numberLine
-    number-unplain e = rw (sym key-read ∙ not-false _ has, sym read, sym first, sym test ∙ not-true _ e)
+    number-padded e = rw (sym key-read ∙ not-false _ has, sym read, sym first, sym test ∙ not-true _ e)
 
     pub number-above : not u ≡ false → most < d .value → badLine p ≡ numberLine k most key s p
     unfolding numberLine

@@ -19,7 +19,7 @@ use Rattle.sheet.specs.Lent.{LentEntries, LentQueries}
 use Rattle.sheet.specs.Printing.{refusalLines, written, Wrote}
 use Rattle.sheet.specs.Text.{textOf, parsedText, Small}
 use Rattle.sheet.specs.Solved.{solved}
-use Rattle.sheet.specs.Tablet.{textReport, reportOf, answerFor, leftFor, Ran, Begins, PageRan}
+use Rattle.sheet.specs.Tablet.{textReport, reportOf, answerFor, leftFor, Ran, OnPage, PageRan}
 use Rattle.sheet.specs.Meaning.{PageReports}
 use Rattle.sheet.proofs.FirstBytes.{page-says}
 use Rattle.sheet.proofs.Meaning.{ran-reports, reports-unique}
@@ -129,7 +129,7 @@ module _ (page : List ℕ) (n : ℕ) {text out out′ : List ℕ} {r : ℕ} (is 
 pub page-unique : (page : List ℕ) (n : ℕ) → length page ≤ PAGE → {out o₁ o₂ : List ℕ} {r₁ r₂ : ℕ}
     → PageReports page n out o₁ r₁ → PageReports page n out o₂ r₂ → (r₁ ≡ r₂) × (o₁ ≡ o₂)
 page-unique page n h {r₁ = r₁} {r₂ = r₂} a b =
-    let e : Begins (take n page) page n = take-all PAGE (take n page) (omega (arith, length-take n page)) in
+    let e : OnPage (take n page) page n = take-all PAGE (take n page) (omega (arith, length-take n page)) in
     let w = reports-unique (a (take n page) e) (b (take n page) e) in
     let z : r₁ ≡ r₂ = ap count (w .0) in
     (z, w .1)

@@ -14,7 +14,7 @@ use Rattle.sheet.specs.Keys.{widthKey, levelsKey, entriesKey, bitsKey, h
 use Rattle.sheet.specs.Lines.{keyAt, countAt, digitsAt, close, bitsLine}
 use Rattle.sheet.specs.Entries.{entryFrom, addressFrom, afterEntries, afterQueries, entryBits, entryLength, entryHop, queryAddress, queryPlaces}
 use Rattle.sheet.specs.Sheet.{Sheet}
-use Rattle.sheet.specs.Text.{kindNamed, good, bad, start, widthItem, kindItem, levelsItem, entriesItem, queriesItem, lastSpot, sheetOf, textOf}
+use Rattle.sheet.specs.Text.{kindNamed, good, bad, textStart, widthItem, kindItem, levelsItem, entriesItem, queriesItem, lastSpot, sheetOf, textOf}
 use Rattle.sheet.specs.Spelling.{kindText, entryText, queryText, sheetText, Sound}
 use Rattle.sheet.specs.Printing.{decimalLength, lineOf, joined}
 use Rattle.sheet.proofs.Steps.{both, number-is, bits-is}
@@ -61,7 +61,7 @@ module _ (sh : Sheet) (sound : Sound sh) (extra : List ℕ) where
   kindRest = lineOf levelsKey (sh .levels) ++ (lineOf entriesKey n ++ countRest)
 
   module _ (s : List ℕ) (is : s ≡ sheetText sh ++ extra) where
-    all-ahead : Ahead s start (lineOf widthKey (sh .width) ++ (kindText (sh .kind) ++ kindRest))
+    all-ahead : Ahead s textStart (lineOf widthKey (sh .width) ++ (kindText (sh .kind) ++ kindRest))
     unfolding sheetText
     all-ahead =
         record {
@@ -74,7 +74,7 @@ module _ (sh : Sheet) (sound : Sound sh) (extra : List ℕ) where
 
     width-said : ReadAs s (kindText (sh .kind) ++ kindRest) (sh .width) (decimalLength (sh .width)) (widthItem s)
     unfolding widthItem
-    width-said = number-read widthKey s start (kindText (sh .kind) ++ kindRest) NUMBER (sh .width) (lit≤ tt) (sound .width-fits) all-ahead
+    width-said = number-read widthKey s textStart (kindText (sh .kind) ++ kindRest) NUMBER (sh .width) (lit≤ tt) (sound .width-fits) all-ahead
 
     kind-said : (kindNamed (kindItem s .value) ≡ sh .kind) × Ahead s (kindItem s .spot) kindRest
     unfolding kindItem

@@ -18,7 +18,7 @@ use Rattle.sheet.specs.declared.lines.Digits.{Digits}
 use Rattle.sheet.specs.declared.lines.Item.{Item}
 use Rattle.sheet.specs.Limits.{BITS}
 use Rattle.sheet.specs.Keys.{fixedKey, variableKey}
-use Rattle.sheet.specs.Lines.{byteAt, keyAt, countAt, valueAt, digitsAt, plain, badLine, close, numberLine, bitsLine, kindLine}
+use Rattle.sheet.specs.Lines.{byteAt, keyAt, countAt, valueAt, digitsAt, unpadded, badLine, close, numberLine, bitsLine, kindLine}
 use Rattle.sheet.specs.Text.{kindNamed}
 use Rattle.sheet.specs.Spelling.{kindText}
 use Rattle.sheet.specs.Printing.{decimal, binary, lineOf, bitsLineOf}
@@ -77,9 +77,9 @@ module _ (b k : ℕ) (s : List ℕ) (p : ℕ) (low : 0 < b) (high : b ≤ 10) wh
   lead (suc m) h f = rw pow-suc (omega (arith, mul-le-mul-right b (lead m (omega arith) f)))
 
   -- where it is plain, no fewer digits would hold it
-  plain-fewest : plain (byteAt s p) (countAt b k s p) ≡ true → Fewest b 1 (valueAt b (countAt b k s p) s p) (countAt b k s p)
-  unfolding plain
-  plain-fewest e = go (eqb (byteAt s p) 48) refl (countAt b k s p) refl e
+  unpadded-fewest : unpadded (byteAt s p) (countAt b k s p) ≡ true → Fewest b 1 (valueAt b (countAt b k s p) s p) (countAt b k s p)
+  unfolding unpadded
+  unpadded-fewest e = go (eqb (byteAt s p) 48) refl (countAt b k s p) refl e
     where
       go : (t : Bool) → eqb (byteAt s p) 48 ≡ t → (n : ℕ) → countAt b k s p ≡ n → cond t (eqb n 1) (ltb 0 n) ≡ true → Fewest b 1 (valueAt b n s p) n
       go true f n g h =
@@ -148,16 +148,16 @@ module _ (key s : List ℕ) (p : Spot) where
   unfolding numberLine digitsAt lineOf
   number-spelled k most few e =
       tested-good s p R
-      (keyAt key s (p .at) && plain (byteAt s here) (countAt 10 k s here) && leb (valueAt 10 (countAt 10 k s here) s here) most)
+      (keyAt key s (p .at) && unpadded (byteAt s here) (countAt 10 k s here) && leb (valueAt 10 (countAt 10 k s here) s here) most)
       (close s p (here + countAt 10 k s here) (digitsAt 10 k s here))
       (λ t g.
-      let w = both (keyAt key s (p .at) && plain (byteAt s here) (countAt 10 k s here)) (leb (valueAt 10 (countAt 10 k s here) s here) most) t in
-      let v = both (keyAt key s (p .at)) (plain (byteAt s here) (countAt 10 k s here)) (w .0) in
+      let w = both (keyAt key s (p .at) && unpadded (byteAt s here) (countAt 10 k s here)) (leb (valueAt 10 (countAt 10 k s here) s here) most) t in
+      let v = both (keyAt key s (p .at)) (unpadded (byteAt s here) (countAt 10 k s here)) (w .0) in
       close-good s p R (here + countAt 10 k s here) (digitsAt 10 k s here)
       (λ pg lf.
       rw (sym
       (fewest-decimal (valueAt 10 (countAt 10 k s here) s here) (countAt 10 k s here)
-      (plain-fewest 10 k s here (lit< tt) (lit≤ tt) (v .1)) (omega (arith, count-most 10 k s here))))
+      (unpadded-fewest 10 k s here (lit< tt) (lit≤ tt) (v .1)) (omega (arith, count-most 10 k s here))))
       (line-stretch 10 k (suc (p .line)) (lit< tt) (lit≤ tt) (v .0) pg lf))
       g)
       e

@@ -13,7 +13,7 @@ use Rattle.sheet.specs.declared.lines.Digits.{Digits}
 use Rattle.sheet.specs.declared.lines.Item.{Item}
 use Rattle.sheet.specs.Limits.{BITS}
 use Rattle.sheet.specs.Keys.{fixedKey, variableKey}
-use Rattle.sheet.specs.Lines.{byteAt, keyAt, countAt, digitsAt, plain, badLine, close, numberLine, bitsLine, kindLine}
+use Rattle.sheet.specs.Lines.{byteAt, keyAt, countAt, digitsAt, unpadded, badLine, close, numberLine, bitsLine, kindLine}
 use Rattle.sheet.proofs.Keys.{byte-inside}
 use Rattle.sheet.proofs.Digits.{count-most, value-below}
 
@@ -91,11 +91,11 @@ module _ (key s : List ℕ) (p : Spot) where
   unfolding numberLine digitsAt
   number-is k most =
       let size = length key + k + 1 in
-      tested-is s p size (UpTo most) (omega arith) (keyAt key s (p .at) && plain (byteAt s here) (read 10 k .count) && leb (read 10 k .value) most)
+      tested-is s p size (UpTo most) (omega arith) (keyAt key s (p .at) && unpadded (byteAt s here) (read 10 k .count) && leb (read 10 k .value) most)
       (close s p (here + read 10 k .count) (read 10 k))
       (λ e.
       close-is s p size (UpTo most) (omega arith) (here + read 10 k .count) (read 10 k) (omega (arith, count-most 10 k s here))
-      (leb-true _ _ (both (keyAt key s (p .at) && plain (byteAt s here) (read 10 k .count)) (leb (read 10 k .value) most) e .1)))
+      (leb-true _ _ (both (keyAt key s (p .at) && unpadded (byteAt s here) (read 10 k .count)) (leb (read 10 k .value) most) e .1)))
 
   pub bits-is : (least : ℕ) → Line s p (length key + BITS + 1) Spells (bitsLine least key s p)
   unfolding bitsLine digitsAt

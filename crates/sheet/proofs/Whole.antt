@@ -18,7 +18,7 @@ use Rattle.sheet.specs.Keys.{widthKey, levelsKey, entriesKey, queriesKey
 use Rattle.sheet.specs.Lines.{numberLine, kindLine}
 use Rattle.table.specs.Lists.{listed}
 use Rattle.sheet.specs.Entries.{afterEntries, afterQueries, addressFrom, entryBits, entryLength, queryAddress, queryPlaces, HoldsEntries, HoldsQueries}
-use Rattle.sheet.specs.Text.{kindNamed, good, bad, start, widthItem, kindItem, levelsItem, entriesItem, queriesItem, lastSpot, sheetOf, headOf, textOf, concluded, parsedText, Small}
+use Rattle.sheet.specs.Text.{kindNamed, good, bad, textStart, widthItem, kindItem, levelsItem, entriesItem, queriesItem, lastSpot, sheetOf, headOf, textOf, concluded, parsedText, Small}
 use Rattle.sheet.proofs.Steps.{Line, Step, step-then, step-widen, UpTo, number-is, bits-is, kind-is}
 use Rattle.table.proofs.Lists.{listed-at}
 use Rattle.sheet.proofs.Listing.{entry-spells, entries-step, queries-step}
@@ -26,9 +26,9 @@ use Rattle.sheet.proofs.Listing.{entry-spells, entries-step, queries-st
 -- ---- the single lines
 
 module _ (s : List ℕ) where
-  pub width-line : Line s start 12 (UpTo NUMBER) (widthItem s)
+  pub width-line : Line s textStart 12 (UpTo NUMBER) (widthItem s)
   unfolding widthItem
-  width-line = number-is widthKey s start NUMBER-DIGITS NUMBER
+  width-line = number-is widthKey s textStart NUMBER-DIGITS NUMBER
 
   pub kind-line : Line s (widthItem s .spot) 9 (UpTo 1) (kindItem s)
   unfolding kindItem
@@ -50,14 +50,14 @@ module _ (s : List ℕ) where
   queries-line = number-is queriesKey s (afterEntries s (entriesItem s .spot) (entriesItem s .value)) NUMBER-DIGITS COUNT
 
   -- the steps from the start: to after the first four lines, to `queries=`, and to the end
-  pub to-entries : Step s start 48 4 (entriesItem s .spot)
+  pub to-entries : Step s textStart 48 4 (entriesItem s .spot)
   to-entries = step-then (step-then (step-then (width-line .step) (kind-line .step)) (levels-line .step)) (entries-line .step)
 
-  pub to-queries : Step s start (62 + COUNT * 48) (5 + COUNT * 2) (queriesItem s .spot)
+  pub to-queries : Step s textStart (62 + COUNT * 48) (5 + COUNT * 2) (queriesItem s .spot)
   to-queries =
       step-widen (step-then (step-then to-entries after-entries) (queries-line .step)) (omega (arith, entries-line .value)) (omega (arith, entries-line .value))
 
-  pub to-last : Step s start LONGEST LINES (lastSpot s)
+  pub to-last : Step s textStart LONGEST LINES (lastSpot s)
   unfolding lastSpot
   to-last =
       step-widen (step-then to-queries (queries-step s (queriesItem s .spot) (queriesItem s .value)))
@@ -76,7 +76,7 @@ kind-variable (suc n) h = refl
 
 -- ---- the first four lines, as they were read
 
-module _ (s : List ℕ) {w k l n : Item} (w-read : w ≡ numberLine NUMBER-DIGITS NUMBER widthKey s start) (k-read : k ≡ kindLine s (w .spot))
+module _ (s : List ℕ) {w k l n : Item} (w-read : w ≡ numberLine NUMBER-DIGITS NUMBER widthKey s textStart) (k-read : k ≡ kindLine s (w .spot))
     (l-read : l ≡ numberLine NUMBER-DIGITS NUMBER levelsKey s (k .spot)) (n-read : n ≡ numberLine NUMBER-DIGITS COUNT entriesKey s (l .spot)) {c : Kind} (c-read : c ≡ kindNamed (k .value)) where
   w-is : w ≡ widthItem s
   unfolding widthItem
@@ -99,7 +99,7 @@ module _ (s : List ℕ) {w k l n : Item} (w-read : w ≡ numberLine NUMBER-DIGIT
   head-read = rw (w-is, c-read, k-is, l-is, n-is)
 
 module _ (s : List ℕ) {h : Head} (h-read : h ≡ headOf s) where
-  pub head-step : Step s start 48 4 (h .spot)
+  pub head-step : Step s textStart 48 4 (h .spot)
   unfolding headOf
   head-step = rw h-read (to-entries s)
 
@@ -119,7 +119,7 @@ module _ (s vs ls hs : List ℕ) {h : Head} {after : Spot} {q : Item} (h-read : 
   unfolding queriesItem
   q-is = q-read ∙ ap (numberLine NUMBER-DIGITS COUNT queriesKey s) (entries-held .spot)
 
-  pub queries-step-read : Step s start (62 + COUNT * 48) (5 + COUNT * 2) (q .spot)
+  pub queries-step-read : Step s textStart (62 + COUNT * 48) (5 + COUNT * 2) (q .spot)
   queries-step-read = rw q-is (to-queries s)
 
   pub queries-few : q .value ≤ COUNT

@@ -4,7 +4,7 @@ use mathlib.Core.List.{List, [], _∷_, _++_}
 use Prim.Native.Nat.{ℕ}
 use lib.ListN.{take}
 use Rattle.tries.specs.declared.chooser.Kind.the-variants.{Variable}
-use Rattle.sheet.specs.Lines.{byteAt, keyAt, isDigit, countAt, valueAt, digitsAt, plain, badLine, close, numberLine, bitsLine, kindLine}
+use Rattle.sheet.specs.Lines.{byteAt, keyAt, isDigit, countAt, valueAt, digitsAt, unpadded, badLine, close, numberLine, bitsLine, kindLine}
 use Rattle.table.specs.Lists.{listed}
 use Rattle.sheet.specs.Entries.{entryFrom, addressFrom, afterEntries, afterQueries, entryBits, entryLength, entryHop, queryAddress, queryPlaces}
 use Rattle.sheet.specs.Sheet.{Sheet}
@@ -36,7 +36,7 @@ runSheet =
 -- read; cut inside line 10; cut after line 2; a byte after the end; and `width=03`
 texts : (textOf run ≡ good runSheet) × (textOf (take 83 run) ≡ bad 10) × (textOf (take 17 run) ≡ bad 3)
     × (textOf (run ++ (32 ∷ [])) ≡ bad 13) × (textOf (119 ∷ 105 ∷ 100 ∷ 116 ∷ 104 ∷ 61 ∷ 48 ∷ 51 ∷ 10 ∷ []) ≡ bad 1)
-unfolding byteAt keyAt isDigit countAt valueAt digitsAt plain badLine close numberLine bitsLine kindLine
+unfolding byteAt keyAt isDigit countAt valueAt digitsAt unpadded badLine close numberLine bitsLine kindLine
     listed entryFrom addressFrom afterEntries afterQueries entryBits entryLength entryHop queryAddress queryPlaces
     widthItem kindItem levelsItem entriesItem queriesItem lastSpot kindNamed sheetOf textOf
 texts = (refl, refl, refl, refl, refl)

@@ -39,8 +39,8 @@ unfoldable pub digitsAt : ℕ → ℕ → List ℕ → ℕ → Digits
 digitsAt b k s p = record { value = valueAt b (countAt b k s p) s p; count = countAt b k s p }
 
 -- n digits that begin with the byte `first` are one at least, and no leading zero
-unfoldable pub plain : ℕ → ℕ → Bool
-plain first n = cond (eqb first 48) (eqb n 1) (ltb 0 n)
+unfoldable pub unpadded : ℕ → ℕ → Bool
+unpadded first n = cond (eqb first 48) (eqb n 1) (ltb 0 n)
 
 -- a bad line: the reading stays there
 unfoldable pub badLine : Spot → Item
@@ -58,7 +58,7 @@ unfoldable pub numberLine : (k most : ℕ) → List ℕ → List ℕ → Spot �
 numberLine k most key s p =
     let q = p .at + length key in
     let d = digitsAt 10 k s q in
-    cond (keyAt key s (p .at) && plain (byteAt s q) (d .count) && leb (d .value) most) (close s p (q + d .count) d) (badLine p)
+    cond (keyAt key s (p .at) && unpadded (byteAt s q) (d .count) && leb (d .value) most) (close s p (q + d .count) d) (badLine p)
 
 -- a key and binary digits, `least` at least
 unfoldable pub bitsLine : (least : ℕ) → List ℕ → List ℕ → Spot → Item

@@ -24,7 +24,7 @@ use Rattle.sheet.specs.Sheet.{Sheet}
 use Rattle.sheet.specs.Spelling.{sheetText, Sound}
 use Rattle.sheet.specs.FirstBad.{FirstBad}
 use Rattle.sheet.specs.Solved.{reportBy}
-use Rattle.sheet.specs.Tablet.{answerFor, leftFor, Begins}
+use Rattle.sheet.specs.Tablet.{answerFor, leftFor, OnPage}
 
 -- the report of a table and its queries
 pub record Solves (kind : Kind) (W k : ℕ) (vs ls hs xs ds bytes : List ℕ) : Type 0 where
@@ -54,4 +54,4 @@ pub record Reports (s out out′ : List ℕ) (r : Report) : Type 0 where
 
 -- what a call of `run_page` answers and leaves: such a report of every text that begins with what stands on the page
 abbrev pub PageReports : (page : List ℕ) (n : ℕ) (out out′ : List ℕ) (r : ℕ) → Type 0
-PageReports page n out out′ r = (s : List ℕ) → Begins s page n → Reports s out out′ (Report.Written r)
+PageReports page n out out′ r = (s : List ℕ) → OnPage s page n → Reports s out out′ (Report.Written r)

@@ -44,9 +44,9 @@ Fits (Report.Room n) out = Unit {0}
 -- ---- a text that was read to a page
 
 -- what n bytes of the page hold is the text s as far as a page goes: all of it, or the page is full
-abbrev pub Begins : (s page : List ℕ) (n : ℕ) → Type 0
-Begins s page n = take PAGE s ≡ take n page
+abbrev pub OnPage : (s page : List ℕ) (n : ℕ) → Type 0
+OnPage s page n = take PAGE s ≡ take n page
 
 -- what a call of `run_page` answers and leaves: the report of every such text, all r bytes of it
 abbrev pub PageRan : (page : List ℕ) (n : ℕ) (out out′ : List ℕ) (r : ℕ) → Type 0
-PageRan page n out out′ r = (s : List ℕ) → Begins s page n → Ran s out out′ (Report.Written r)
+PageRan page n out out′ r = (s : List ℕ) → OnPage s page n → Ran s out out′ (Report.Written r)

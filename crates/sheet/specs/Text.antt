@@ -30,13 +30,13 @@ kindNamed zero = Fixed
 kindNamed (suc n) = Variable
 
 -- lines are numbered from 1
-abbrev pub start : Spot
-start = record { at = 0; line = 1; good = true }
+abbrev pub textStart : Spot
+textStart = record { at = 0; line = 1; good = true }
 
 module _ (s : List ℕ) where
   -- the single lines, in their order
   unfoldable pub widthItem : Item
-  widthItem = numberLine NUMBER-DIGITS NUMBER widthKey s start
+  widthItem = numberLine NUMBER-DIGITS NUMBER widthKey s textStart
 
   unfoldable pub kindItem : Item
   kindItem = kindLine s (widthItem .spot)

@@ -4,7 +4,7 @@ ghost use mathlib.Core.Path.{_≡_};
 ghost use Prim.Native.Nat.{_+_, _^_, _≤_};
 ghost use lib.ListN.{length};
 ghost use Rattle.sheet.specs.Limits.{BITS, KEY, LINES};
-ghost use Rattle.sheet.specs.Lines.{byteAt, keyAt, isDigit, digitsAt, plain, badLine, close, numberLine, bitsLine, kindLine};
+ghost use Rattle.sheet.specs.Lines.{byteAt, keyAt, isDigit, digitsAt, unpadded, badLine, close, numberLine, bitsLine, kindLine};
 use crate::limits::BITS;
 
 // Where the reading stands: the next byte and the number of the next line; after a bad line, its number.
@@ -82,8 +82,8 @@ fn read_digits(s: &[u8], p: usize, base: u64, most: u32) -> Digits
 }
 
 // Whether a number whose first byte and count of digits these are has a digit, and no leading zero.
-fn is_plain(first: u8, count: u32) -> bool
-    ensures { λ r. ⌜ r ≡ plain first count ⌝ }
+fn is_unpadded(first: u8, count: u32) -> bool
+    ensures { λ r. ⌜ r ≡ unpadded first count ⌝ }
 {
     if first == 48 {
         return count == 1;
@@ -139,7 +139,7 @@ pub(crate) fn number_line(s: &[u8], spot: Spot, key: &[u8], digits: u32, most: u
     }
     let q = p + key.len();
     let read = read_digits(s, q, 10, digits);
-    if !is_plain(byte(s, q), read.count) {
+    if !is_unpadded(byte(s, q), read.count) {
         return bad_line(spot);
     }
     if most < read.value {

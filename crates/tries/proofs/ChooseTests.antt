@@ -1,4 +1,4 @@
--- The tests 1 to 6 of a chooser: what each return of `tested` says of them, and what is known where all of them pass.
+-- The tests 1 to 6 of a chooser: what each return of `choose_outcome` says of them, and what is known where all of them pass.
 use mathlib.Core.Path.{_≡_, ap, sym, _∙_}
 use mathlib.Core.Bool.{true, false}
 use mathlib.Core.List.{List, [], _∷_, _++_}
@@ -69,20 +69,20 @@ module _ (W k : ℕ) (vs ls hs : List ℕ) (words : ℕ) where
       tests-table e = tests-rest ∙ rw e
 
       -- the count from neighbours is the trie's size
-      pub count-size : Table W vs ls hs → (c : ℕ) → c ≡ nodeCount W (at vs) (at ls) (length vs) → c ≡ size (tableTrie W vs ls hs)
+      count-size : Table W vs ls hs → (c : ℕ) → c ≡ nodeCount W (at vs) (at ls) (length vs) → c ≡ size (tableTrie W vs ls hs)
       count-size t c e =
           let p = table-prefixes W vs ls hs t in
           e ∙ node-count W (at vs) (at ls) (length vs) (p .prefix) (p .rises) (at hs) (length vs) (le-refl (length vs))
 
-      pub tests-scratch : checkOf W vs ls hs ≡ Accepted → (c : ℕ) → c ≡ size (tableTrie W vs ls hs) → words / ROW < c
+      pub tests-scratch : checkOf W vs ls hs ≡ Accepted → (c : ℕ) → c ≡ nodeCount W (at vs) (at ls) (length vs) → words / ROW < c
           → outcome (chooseTests W k vs ls hs words) ≡ Refused 6 c
       unfolding andThen outcome
-      tests-scratch e c q h = tests-rest ∙ rw (e, ← q, lt-ltb (words / ROW) c h)
+      tests-scratch e c q h = tests-rest ∙ rw (e, ← count-size (accepted-table W vs ls hs e) c q, lt-ltb (words / ROW) c h)
 
-      pub tests-pass : checkOf W vs ls hs ≡ Accepted → (c : ℕ) → c ≡ size (tableTrie W vs ls hs) → c ≤ words / ROW
+      pub tests-pass : checkOf W vs ls hs ≡ Accepted → (c : ℕ) → c ≡ nodeCount W (at vs) (at ls) (length vs) → c ≤ words / ROW
           → outcome (chooseTests W k vs ls hs words) ≡ Accepted
       unfolding andThen outcome
-      tests-pass e c q h = tests-rest ∙ rw (e, ← q, le-ltb (words / ROW) c h)
+      tests-pass e c q h = tests-rest ∙ rw (e, ← count-size (accepted-table W vs ls hs e) c q, le-ltb (words / ROW) c h)
 
 pub numbered-choose : (most : ℕ) → 6 ≤ most → (W k : ℕ) (vs ls hs : List ℕ) (words : ℕ) → Numbered most (chooseTests W k vs ls hs words)
 unfolding chooseTests

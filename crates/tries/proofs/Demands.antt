@@ -55,7 +55,7 @@ use Rattle.layout.proofs.PathBlocks.{blocks-are}
 use Rattle.layout.proofs.RowRule.{row-rule}
 use Rattle.layout.proofs.Laid.{blocks, accepted, laid-longest, no-route, rows-exactly, reads-blocks, reads-few, rows-alone, elements-cost, one-answer}
 use Rattle.tries.proofs.ChooseTests.{numbered-choose}
-use Rattle.tries.proofs.Builds.{early, late}
+use Rattle.tries.proofs.BuildSteps.{early, late}
 
 -- ==== demand 1: bad input is refused by number, in a fixed order; the numbers say what is returned and what each list then holds
 

@@ -14,7 +14,7 @@ use Rattle.strides.specs.Trie.{Trie, depth, nodesAt}
 use Rattle.strides.specs.Entries.{longestLength}
 use Rattle.strides.specs.Cheapest.{fixed}
 use Rattle.strides.specs.Recurrence.{scan, withFirstFixed, fixBy, pickFixedBy, listBy, leastBy, stridesBy, fixedStrides}
-use Rattle.strides.proofs.Scan.{found}
+use Rattle.strides.proofs.Scan.{scanned}
 use Rattle.strides.proofs.Sums.{nodes-deep}
 use Rattle.walk.specs.Limits.{WIDTH, LEVELS, Within}
 use Rattle.tries.specs.Limits.{ENTRIES}
@@ -32,8 +32,8 @@ longest-next len i = rw (add-one i)
 -- ---- one level of the table of fixed strides
 
 module _ (n d i : ℕ) (costs strides sums : List ℕ) where
-  pub row-start : RowFilled 0 n d i costs strides costs strides sums
-  row-start = record {
+  pub fill-start : RowFilled 0 n d i costs strides costs strides sums
+  fill-start = record {
     long-costs = refl;
     long-strides = refl;
     cost = λ r h. absurd (omega arith);
@@ -42,9 +42,9 @@ module _ (n d i : ℕ) (costs strides sums : List ℕ) where
     strides-below = λ x h. refl;
   }
 
-  pub row-next : (costs1 strides1 : List ℕ) (m c s : ℕ) → m < LEVELS → (i + 1) * LEVELS ≤ length costs → (i + 1) * LEVELS ≤ length strides → RowFilled m n d i costs strides costs1 strides1 sums
+  pub fill-next : (costs1 strides1 : List ℕ) (m c s : ℕ) → m < LEVELS → (i + 1) * LEVELS ≤ length costs → (i + 1) * LEVELS ≤ length strides → RowFilled m n d i costs strides costs1 strides1 sums
       → c ≡ bestCost sums n d m → s ≡ bestStride sums n d m → RowFilled (m + 1) n d i costs strides (set costs1 (i * LEVELS + m) c) (set strides1 (i * LEVELS + m) s) sums
-  row-next costs1 strides1 m c s hm fc fs a ec es =
+  fill-next costs1 strides1 m c s hm fc fs a ec es =
       let at = i * LEVELS + m in
       let cost-off : (x : ℕ) → (x ≡ at → ⊥) → getD (set costs1 at c) x 0 ≡ getD costs1 x 0 = λ x ne. getD-set-other costs1 at x c 0 ne in
       let stride-off : (x : ℕ) → (x ≡ at → ⊥) → getD (set strides1 at s) x 0 ≡ getD strides1 x 0 = λ x ne. getD-set-other strides1 at x s 0 ne in
@@ -141,7 +141,7 @@ pub pick-within : (nodes : ℕ → ℕ) (m i n : ℕ) → pickFixedBy held nodes
 unfolding pickFixedBy
 pick-within nodes zero i n = le-refl n
 pick-within nodes (suc m) i zero = le-refl 0
-pick-within nodes (suc m) i (suc n) = omega (arith, found (withFirstFixed held (fixBy held nodes m) nodes i n) n .within)
+pick-within nodes (suc m) i (suc n) = omega (arith, scanned (withFirstFixed held (fixBy held nodes m) nodes i n) n .within)
 
 pub list-head : (nodes : ℕ → ℕ) (m i n : ℕ) → getD (listBy held nodes m i n) 0 0 ≡ pickFixedBy held nodes m i n
 unfolding listBy pickFixedBy

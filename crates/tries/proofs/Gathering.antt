@@ -22,12 +22,12 @@ same? a b = elim (decLe a b) [ yes p ↦ elim (decLe b a) [ yes q ↦ inl (omega
 
 -- ---- one row
 
-pub row-start : (rows : List ℕ) (k d : ℕ) (sums : List ℕ) → RowAdded 0 rows k d sums sums
-row-start rows k d sums = record { here = λ r h. absurd (omega arith); later = λ r h g. refl; other = λ j r h g. refl }
+pub add-start : (rows : List ℕ) (k d : ℕ) (sums : List ℕ) → RowAdded 0 rows k d sums sums
+add-start rows k d sums = record { here = λ r h. absurd (omega arith); later = λ r h g. refl; other = λ j r h g. refl }
 
-pub row-next : (rows : List ℕ) (k d : ℕ) (sums sums1 sums2 : List ℕ) (m v : ℕ) → length sums1 ≡ CELLS → d < WIDTH → m < LEVELS → RowAdded m rows k d sums sums1
+pub add-next : (rows : List ℕ) (k d : ℕ) (sums sums1 sums2 : List ℕ) (m v : ℕ) → length sums1 ≡ CELLS → d < WIDTH → m < LEVELS → RowAdded m rows k d sums sums1
     → v ≡ ask rows k (COST + m) → sums2 ≡ set sums1 (d * LEVELS + m) (held (slot sums1 d m + v)) → RowAdded (m + 1) rows k d sums sums2
-row-next rows k d sums sums1 sums2 m v len hd hm a e f =
+add-next rows k d sums sums1 sums2 m v len hd hm a e f =
     let new : slot sums2 d m ≡ held (slot sums1 d m + v) = ap (λ (l : List ℕ). slot l d m) f ∙ getD-set-same sums1 (d * LEVELS + m) _ 0 (omega arith) in
     let far : (j r : ℕ) → (j * LEVELS + r ≡ d * LEVELS + m → ⊥) → slot sums2 j r ≡ slot sums1 j r
     = λ j r ne. ap (λ (l : List ℕ). slot l j r) f ∙ getD-set-other sums1 (d * LEVELS + m) (j * LEVELS + r) _ 0 ne in

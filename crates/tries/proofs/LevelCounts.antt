@@ -14,80 +14,80 @@ use Rattle.strides.specs.Insertion.{insertT, place, markFor, met}
 use Rattle.strides.proofs.Insertion.{met-none}
 use Rattle.strides.proofs.Sums.{nodes-bound}
 use Rattle.walk.specs.Limits.{WIDTH}
-use Rattle.tries.specs.LevelCounts.{within, CanCount, LevelsAdded, CountsOf}
+use Rattle.tries.specs.LevelCounts.{inLevels, CanCount, LevelsAdded, CountsOf}
 use Rattle.tries.proofs.Gathering.{same?}
 
 -- ---- a run of levels
 
-pub within-same : (a i : ℕ) → within a a i ≡ 0
-unfolding within
-within-same zero i = refl
-within-same (suc a) zero = refl
-within-same (suc a) (suc i) = within-same a i
+pub in-levels-same : (a i : ℕ) → inLevels a a i ≡ 0
+unfolding inLevels
+in-levels-same zero i = refl
+in-levels-same (suc a) zero = refl
+in-levels-same (suc a) (suc i) = in-levels-same a i
 
-within-own : (a j : ℕ) → a ≤ j → within a (suc j) j ≡ 1
-unfolding within
-within-own zero zero h = refl
-within-own zero (suc j) h = within-own zero j (omega arith)
-within-own (suc a) zero h = absurd (omega arith)
-within-own (suc a) (suc j) h = within-own a j (omega arith)
+in-levels-own : (a j : ℕ) → a ≤ j → inLevels a (suc j) j ≡ 1
+unfolding inLevels
+in-levels-own zero zero h = refl
+in-levels-own zero (suc j) h = in-levels-own zero j (omega arith)
+in-levels-own (suc a) zero h = absurd (omega arith)
+in-levels-own (suc a) (suc j) h = in-levels-own a j (omega arith)
 
-within-end : (a j : ℕ) → within a j j ≡ 0
-unfolding within
-within-end a zero = refl
-within-end zero (suc j) = within-end zero j
-within-end (suc a) (suc j) = within-end a j
+in-levels-end : (a j : ℕ) → inLevels a j j ≡ 0
+unfolding inLevels
+in-levels-end a zero = refl
+in-levels-end zero (suc j) = in-levels-end zero j
+in-levels-end (suc a) (suc j) = in-levels-end a j
 
-within-off : (a j i : ℕ) → (i ≡ j → ⊥) → within a (suc j) i ≡ within a j i
-unfolding within
-within-off zero zero zero ne = absurd (ne refl)
-within-off zero zero (suc i) ne = refl
-within-off zero (suc j) zero ne = refl
-within-off zero (suc j) (suc i) ne = within-off zero j i (λ e. ne (ap suc e))
-within-off (suc a) zero zero ne = refl
-within-off (suc a) zero (suc i) ne = refl
-within-off (suc a) (suc j) zero ne = refl
-within-off (suc a) (suc j) (suc i) ne = within-off a j i (λ e. ne (ap suc e))
+in-levels-off : (a j i : ℕ) → (i ≡ j → ⊥) → inLevels a (suc j) i ≡ inLevels a j i
+unfolding inLevels
+in-levels-off zero zero zero ne = absurd (ne refl)
+in-levels-off zero zero (suc i) ne = refl
+in-levels-off zero (suc j) zero ne = refl
+in-levels-off zero (suc j) (suc i) ne = in-levels-off zero j i (λ e. ne (ap suc e))
+in-levels-off (suc a) zero zero ne = refl
+in-levels-off (suc a) zero (suc i) ne = refl
+in-levels-off (suc a) (suc j) zero ne = refl
+in-levels-off (suc a) (suc j) (suc i) ne = in-levels-off a j i (λ e. ne (ap suc e))
 
-pub within-one : (a b i : ℕ) → within a b i ≤ 1
-unfolding within
-within-one a zero i = omega arith
-within-one zero (suc b) zero = omega arith
-within-one zero (suc b) (suc i) = within-one zero b i
-within-one (suc a) (suc b) zero = omega arith
-within-one (suc a) (suc b) (suc i) = within-one a b i
+pub in-levels-one : (a b i : ℕ) → inLevels a b i ≤ 1
+unfolding inLevels
+in-levels-one a zero i = omega arith
+in-levels-one zero (suc b) zero = omega arith
+in-levels-one zero (suc b) (suc i) = in-levels-one zero b i
+in-levels-one (suc a) (suc b) zero = omega arith
+in-levels-one (suc a) (suc b) (suc i) = in-levels-one a b i
 
 -- one level more in the run
 pub run-next : (counts counts1 : List ℕ) (a j : ℕ) → length counts1 ≡ WIDTH → j < WIDTH → a ≤ j
-    → ((i : ℕ) → i < WIDTH → getD counts1 i 0 ≡ getD counts i 0 + within a j i)
-    → (i : ℕ) → i < WIDTH → getD (set counts1 j (getD counts1 j 0 + 1)) i 0 ≡ getD counts i 0 + within a (j + 1) i
+    → ((i : ℕ) → i < WIDTH → getD counts1 i 0 ≡ getD counts i 0 + inLevels a j i)
+    → (i : ℕ) → i < WIDTH → getD (set counts1 j (getD counts1 j 0 + 1)) i 0 ≡ getD counts i 0 + inLevels a (j + 1) i
 run-next counts counts1 a j len hj ha inv i hi =
     rw (add-one j)
     (⊎-elim
-    (λ (z : i ≡ j). rw z (getD-set-same counts1 j (getD counts1 j 0 + 1) 0 (omega arith) ∙ omega (arith, inv j hj, within-own a j ha, within-end a j)))
-    (λ (z : i ≡ j → ⊥). getD-set-other counts1 j i (getD counts1 j 0 + 1) 0 z ∙ omega (arith, inv i hi, within-off a j i z)) (same? i j))
+    (λ (z : i ≡ j). rw z (getD-set-same counts1 j (getD counts1 j 0 + 1) 0 (omega arith) ∙ omega (arith, inv j hj, in-levels-own a j ha, in-levels-end a j)))
+    (λ (z : i ≡ j → ⊥). getD-set-other counts1 j i (getD counts1 j 0 + 1) 0 z ∙ omega (arith, inv i hi, in-levels-off a j i z)) (same? i j))
 
 -- ---- an entry's new nodes
 
-pub insert-levels : (l v mark : ℕ) (t : Trie) (j : ℕ) → nodesAt j (insertT l v mark t) ≡ nodesAt j t + within (met l v t) l j
-unfolding insertT met nodesAt sumBy within
+pub insert-levels : (l v mark : ℕ) (t : Trie) (j : ℕ) → nodesAt j (insertT l v mark t) ≡ nodesAt j t + inLevels (met l v t) l j
+unfolding insertT met nodesAt sumBy inLevels
 insert-levels zero v mark t j = omega arith
 insert-levels (suc l) v mark none j = go (bit l v) j (insert-levels l v mark none)
   where
-    go : (i j : ℕ) → ((j : ℕ) → nodesAt j (insertT l v mark none) ≡ nodesAt j none + within (met l v none) l j)
-        → nodesAt j (place i (markFor l mark (markOn i none)) (insertT l v mark (kid i none)) none) ≡ 0 + within 0 (suc l) j
+    go : (i j : ℕ) → ((j : ℕ) → nodesAt j (insertT l v mark none) ≡ nodesAt j none + inLevels (met l v none) l j)
+        → nodesAt j (place i (markFor l mark (markOn i none)) (insertT l v mark (kid i none)) none) ≡ 0 + inLevels 0 (suc l) j
     go zero zero h = refl
     go (suc i) zero h = refl
-    go zero (suc j) h = omega (arith, h j, ap (λ (m : ℕ). within m l j) (met-none l v))
-    go (suc i) (suc j) h = omega (arith, h j, ap (λ (m : ℕ). within m l j) (met-none l v))
+    go zero (suc j) h = omega (arith, h j, ap (λ (m : ℕ). inLevels m l j) (met-none l v))
+    go (suc i) (suc j) h = omega (arith, h j, ap (λ (m : ℕ). inLevels m l j) (met-none l v))
 insert-levels (suc l) v mark (node p a q b) j = go (bit l v) j (insert-levels l v mark a) (insert-levels l v mark b)
   where
     t : Trie
     t = node p a q b
 
-    go : (i j : ℕ) → ((j : ℕ) → nodesAt j (insertT l v mark a) ≡ nodesAt j a + within (met l v a) l j)
-        → ((j : ℕ) → nodesAt j (insertT l v mark b) ≡ nodesAt j b + within (met l v b) l j)
-        → nodesAt j (place i (markFor l mark (markOn i t)) (insertT l v mark (kid i t)) t) ≡ nodesAt j t + within (suc (met l v (kid i t))) (suc l) j
+    go : (i j : ℕ) → ((j : ℕ) → nodesAt j (insertT l v mark a) ≡ nodesAt j a + inLevels (met l v a) l j)
+        → ((j : ℕ) → nodesAt j (insertT l v mark b) ≡ nodesAt j b + inLevels (met l v b) l j)
+        → nodesAt j (place i (markFor l mark (markOn i t)) (insertT l v mark (kid i t)) t) ≡ nodesAt j t + inLevels (suc (met l v (kid i t))) (suc l) j
     go zero zero h g = refl
     go (suc i) zero h g = refl
     go zero (suc j) h g = omega (arith, h j)

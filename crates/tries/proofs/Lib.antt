@@ -15,6 +15,6 @@ pub mod ChooseTests
 pub mod PlanRows
 pub mod Plans
 pub mod Choosing
-pub mod Builds
-pub mod OneBuild
+pub mod BuildSteps
+pub mod Unique
 pub mod Demands

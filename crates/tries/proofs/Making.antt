@@ -16,7 +16,7 @@ use Rattle.strides.proofs.Insertion.{trie-insert, trie-empty, insert-size, met-
 use Rattle.strides.proofs.Counting.{node-count}
 use Rattle.walk.specs.Limits.{WIDTH}
 use Rattle.tries.specs.Scratch.{ROW}
-use Rattle.tries.specs.Trees.{Tree, nil, fork, shape, linkOf, rowFor, next, side, setSide, setMark, lt, rt, lmark, rmark, Stand, Has, Apart, Under, insertR, countR, addEntry, treeOf}
+use Rattle.tries.specs.Trees.{Tree, nil, fork, shape, linkOf, rowFor, next, side, setSide, setMark, lt, rt, lmark, rmark, Stand, RowIn, Apart, Under, insertR, countR, addEntry, treeOf}
 use Rattle.tries.specs.Inserting.{InsertIn, Inserted}
 use Rattle.tries.specs.Making.{Prefixes, InRows, AddIn, AddOut, Added, CountIn, AddCounted, MakeOut}
 use Rattle.tries.specs.LevelCounts.{LevelsAdded, CountsOf}

@@ -16,8 +16,9 @@ use Rattle.strides.specs.Recurrence.{optBy, pickBy, pickFixedBy, leastBy, strid
 use Rattle.strides.specs.Strides.{variableStride}
 use Rattle.strides.proofs.Strides.{pick-variable}
 use Rattle.walk.specs.Limits.{WIDTH, LEVELS}
+use Rattle.tries.specs.Limits.{BYTE}
 use Rattle.tries.specs.Scratch.{ROW, ask, strideAt, Stands, BEFORE-STRIDES, COST, MARKS, STRIDE}
-use Rattle.tries.specs.Trees.{Tree, nil, fork, shape, linkOf, Stand, Has, lt, rt, lmark, rmark, rowFor, next, side, setSide, setMark, insertR, addEntry, treeOf}
+use Rattle.tries.specs.Trees.{Tree, nil, fork, shape, linkOf, Stand, RowIn, lt, rt, lmark, rmark, rowFor, next, side, setSide, setMark, insertR, addEntry, treeOf}
 use Rattle.tries.specs.Costs.{held, Costed, AllPriced}
 use Rattle.tries.specs.Chooser.{padded}
 use Rattle.tries.proofs.Settling.{ask-col}
@@ -67,7 +68,7 @@ StridesIn σ rows plan nil = Unit {0}
 StridesIn σ rows plan (fork x p l q r) =
     ((i : ℕ) → 1 ≤ i → i ≤ length plan → strideAt rows plan (x + 1) i ≡ σ i (node p (shape l) q (shape r))) × StridesIn σ rows plan l × StridesIn σ rows plan r
 
-pub tree-stands : (σ : ℕ → Trie → ℕ) (rows plan : List ℕ) (t : Tree) → Stand rows t → SmallMarks t → ((y : ℕ) → Has y t → (y + 1) * ROW ≤ length rows)
+pub tree-stands : (σ : ℕ → Trie → ℕ) (rows plan : List ℕ) (t : Tree) → Stand rows t → SmallMarks t → ((y : ℕ) → RowIn y t → (y + 1) * ROW ≤ length rows)
     → StridesIn σ rows plan t → Stands σ rows plan (linkOf t) (shape t)
 unfolding shape
 tree-stands σ rows plan nil s m f i = refl
@@ -140,12 +141,12 @@ pick-small (suc m) (node p a q b) = pick-variable held .most (suc m) (node p a q
 
 -- a variable choice names the root's stride only
 pub root-stride : (k : ℕ) (t : Trie) (stride : ℕ) → 1 ≤ k → stride ≡ pickBy held (k - 1) t → depth t ≤ WIDTH
-    → set (replicate LEVELS 0) 0 (stride % 256) ≡ padded LEVELS (stridesBy held variable k t)
+    → set (replicate LEVELS 0) 0 (stride % BYTE) ≡ padded LEVELS (stridesBy held variable k t)
 unfolding stridesBy padded pickBy
 root-stride zero t stride h e w = absurd (omega arith)
 root-stride (suc m) t stride h e w =
     let m1 : suc m - 1 ≡ m = omega arith in
-    let small : stride % 256 ≡ stride = mod-eq-of-lt (omega (arith, e, pick-small (suc m - 1) t)) in
+    let small : stride % BYTE ≡ stride = mod-eq-of-lt (omega (arith, e, pick-small (suc m - 1) t)) in
     ap (λ (x : ℕ). set (replicate LEVELS 0) 0 x) (small ∙ e ∙ ap (λ (x : ℕ). pickBy held x t) m1) ∙ at-root m t
   where
     at-root : (m : ℕ) (t : Trie) → set (replicate LEVELS 0) 0 (pickBy held m t) ≡ padded LEVELS (stridesBy held variable (suc m) t)

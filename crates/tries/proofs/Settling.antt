@@ -17,7 +17,7 @@ use Rattle.strides.specs.Recurrence.{optBy, pickBy}
 use Rattle.walk.specs.Limits.{WIDTH, LEVELS}
 use Rattle.tries.specs.Limits.{COST-CAP}
 use Rattle.tries.specs.Scratch.{ROW, ask, COST, DEPTH, STRIDE}
-use Rattle.tries.specs.Trees.{Tree, nil, fork, shape, linkOf, col, NodeRow, Stand, Has, Apart}
+use Rattle.tries.specs.Trees.{Tree, nil, fork, shape, linkOf, col, NodeRow, Stand, RowIn, Apart}
 use Rattle.tries.specs.Costs.{held, Priced, Costed, CELLS, slot, sumAt, GatherIn, Gathered, Summed, DepthOver, bestCost, bestStride, Stored, SettleIn, Settled, AllPriced, AboveZero}
 use Rattle.tries.specs.Costs.{TreeIn, TreeOut, TreeAsk, TreeDone}
 use Rattle.tries.proofs.Zeroes.{zeros-read}
@@ -46,15 +46,15 @@ unfolding sumAt
 sum-root j f t = rw (le-ltb j 0 zero-le, sub-zero)
 
 module _ (levels : ℕ) (rows : List ℕ) (k : ℕ) (g : SettleIn levels rows k) where
-  pub left-below : (sums : List ℕ) → length sums ≡ CELLS → GatherIn levels rows (ask rows k 0) 0 sums
-  left-below sums len = record { trie = g .a; costed = g .left; deep = omega (arith, g .deep); long = len; few = g .few }
+  pub sum-left : (sums : List ℕ) → length sums ≡ CELLS → GatherIn levels rows (ask rows k 0) 0 sums
+  sum-left sums len = record { trie = g .a; costed = g .left; deep = omega (arith, g .deep); long = len; few = g .few }
 
-  pub right-below : (sums : List ℕ) → length sums ≡ CELLS → GatherIn levels rows (ask rows k 1) 0 sums
-  right-below sums len = record { trie = g .b; costed = g .right; deep = omega (arith, g .deep); long = len; few = g .few }
+  pub sum-right : (sums : List ℕ) → length sums ≡ CELLS → GatherIn levels rows (ask rows k 1) 0 sums
+  sum-right sums len = record { trie = g .b; costed = g .right; deep = omega (arith, g .deep); long = len; few = g .few }
 
-  pub both-below : (sums sums1 sums2 : List ℕ) → Gathered levels rows (ask rows k 0) 0 sums sums1 → Gathered levels rows (ask rows k 1) 0 sums1 sums2
+  pub sum-both : (sums sums1 sums2 : List ℕ) → Gathered levels rows (ask rows k 0) 0 sums sums1 → Gathered levels rows (ask rows k 1) 0 sums1 sums2
       → Summed levels rows k sums sums2
-  both-below sums sums1 sums2 left right a b ca cb zeros j r hj hr =
+  sum-both sums sums1 sums2 left right a b ca cb zeros j r hj hr =
       let l : (j r : ℕ) → j < WIDTH → r < levels → slot sums1 j r ≡ held (slot sums j r + sumAt 0 j (optBy held r) a)
       = left a ca (λ j r hj hr. omega (arith, zeros j r hj hr)) in
       omega (
@@ -126,7 +126,7 @@ module _ (levels : ℕ) (rows : List ℕ) (k : ℕ) (g : SettleIn levels rows k)
 -- ---- the tree
 
 -- a tree that stands and is priced is costed, link by link
-pub tree-costed : (levels : ℕ) (rows : List ℕ) (t : Tree) → Stand rows t → AllPriced levels rows t → ((y : ℕ) → Has y t → (y + 1) * ROW ≤ length rows)
+pub tree-costed : (levels : ℕ) (rows : List ℕ) (t : Tree) → Stand rows t → AllPriced levels rows t → ((y : ℕ) → RowIn y t → (y + 1) * ROW ≤ length rows)
     → Costed levels rows (linkOf t) (shape t)
 unfolding shape
 tree-costed levels rows nil s p f = refl
@@ -140,10 +140,10 @@ tree-costed levels rows (fork x m l n r) s p f = (
 
 module _ (levels : ℕ) (rows rows′ : List ℕ) where
   -- what no row of the tree loses
-  abbrev Keeps : Tree → Type 0
-  Keeps t = (y c : ℕ) → Has y t → c < ROW → col rows′ y c ≡ col rows y c
+  abbrev KeepsTree : Tree → Type 0
+  KeepsTree t = (y c : ℕ) → RowIn y t → c < ROW → col rows′ y c ≡ col rows y c
 
-  keep-stand : (t : Tree) → Keeps t → Stand rows t → Stand rows′ t
+  keep-stand : (t : Tree) → KeepsTree t → Stand rows t → Stand rows′ t
   keep-stand nil k s = tt
   keep-stand (fork x p l q r) k s = (
     record {
@@ -156,7 +156,7 @@ module _ (levels : ℕ) (rows rows′ : List ℕ) where
     keep-stand r (λ y c h. k y c (inr (inr h))) (s .2),
   )
 
-  keep-priced : (t : Tree) → levels ≤ LEVELS → Keeps t → AllPriced levels rows t → AllPriced levels rows′ t
+  keep-priced : (t : Tree) → levels ≤ LEVELS → KeepsTree t → AllPriced levels rows t → AllPriced levels rows′ t
   keep-priced nil few k p = tt
   keep-priced (fork x m l n r) few k p =
       let at : (c : ℕ) → c < ROW → ask rows′ (x + 1) c ≡ ask rows (x + 1) c = λ c h. ask-col rows′ x c ∙ k x c (inl refl) h ∙ sym (ask-col rows x c) in (
@@ -191,7 +191,7 @@ module _ (levels : ℕ) (rows : List ℕ) (k d x p : ℕ) (l : Tree) (q : ℕ) (
 
   module _ (rows1 : List ℕ) (len1 : length rows1 ≡ length rows) (o1 : TreeOut levels rows rows1 l) where
     -- the node's row and the right tree are as they were
-    right-kept : (y c : ℕ) → Has y r → c < ROW → col rows1 y c ≡ col rows y c
+    right-kept : (y c : ℕ) → RowIn y r → c < ROW → col rows1 y c ≡ col rows y c
     right-kept y c h hc = o1 .others y c (λ z. g .apart .2 y z h) hc
 
     right-tree : TreeIn levels rows1 (ask rows1 k 1) (d + 1) r
@@ -206,7 +206,7 @@ module _ (levels : ℕ) (rows : List ℕ) (k d x p : ℕ) (l : Tree) (q : ℕ) (
     }
 
     module _ (rows2 : List ℕ) (len2 : length rows2 ≡ length rows1) (o2 : TreeOut levels rows1 rows2 r) where
-      left-kept : (y c : ℕ) → Has y l → c < ROW → col rows2 y c ≡ col rows1 y c
+      left-kept : (y c : ℕ) → RowIn y l → c < ROW → col rows2 y c ≡ col rows1 y c
       left-kept y c h hc = o2 .others y c (λ z. g .apart .2 y h z) hc
 
       own-kept : (c : ℕ) → c < ROW → col rows2 x c ≡ col rows x c
@@ -235,16 +235,16 @@ module _ (levels : ℕ) (rows : List ℕ) (k d x p : ℕ) (l : Tree) (q : ℕ) (
         last-kept : (y c : ℕ) → (y ≡ x → ⊥) → c < ROW → col rows3 y c ≡ col rows2 y c
         last-kept y c ne hc = s .others y c (not-own y ne) hc
 
-        in-left : (y : ℕ) → Has y l → y ≡ x → ⊥
-        in-left y h e = g .apart .0 (subst (λ (z : ℕ). Has z l) e h)
+        in-left : (y : ℕ) → RowIn y l → y ≡ x → ⊥
+        in-left y h e = g .apart .0 (subst (λ (z : ℕ). RowIn z l) e h)
 
-        in-right : (y : ℕ) → Has y r → y ≡ x → ⊥
-        in-right y h e = g .apart .1 (subst (λ (z : ℕ). Has z r) e h)
+        in-right : (y : ℕ) → RowIn y r → y ≡ x → ⊥
+        in-right y h e = g .apart .1 (subst (λ (z : ℕ). RowIn z r) e h)
 
-        left-last : (y c : ℕ) → Has y l → c < ROW → col rows3 y c ≡ col rows1 y c
+        left-last : (y c : ℕ) → RowIn y l → c < ROW → col rows3 y c ≡ col rows1 y c
         left-last y c h hc = last-kept y c (in-left y h) hc ∙ left-kept y c h hc
 
-        right-last : (y c : ℕ) → Has y r → c < ROW → col rows3 y c ≡ col rows2 y c
+        right-last : (y c : ℕ) → RowIn y r → c < ROW → col rows3 y c ≡ col rows2 y c
         right-last y c h hc = last-kept y c (in-right y h) hc
 
         own-link : (c : ℕ) → c < DEPTH → col rows3 x c ≡ col rows x c

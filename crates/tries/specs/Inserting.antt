@@ -4,7 +4,7 @@ use mathlib.Core.List.{List}
 use Prim.Native.Nat.{ℕ, _+_, _*_, _≤_, _<_}
 use lib.ListN.{length, getD, set}
 use Rattle.tries.specs.Scratch.{DEPTH, ROW}
-use Rattle.tries.specs.Trees.{Tree, fork, col, Stand, Has, Apart, Under, insertR, countR}
+use Rattle.tries.specs.Trees.{Tree, fork, col, Stand, RowIn, Apart, Under, insertR, countR}
 
 -- the way to the child at a side of row x, which is made at row `used` where there is none
 pub record Downed (rows : List ℕ) (x s used y : ℕ) (rows′ : List ℕ) : Type 0 where
@@ -26,7 +26,7 @@ pub record InsertIn (rows : List ℕ) (x used v n : ℕ) : Type 0 where
 pub record InsertOut (rows : List ℕ) (x used v n h used′ : ℕ) (rows′ : List ℕ) (t : Tree) : Type 0 where
   pub stands : Stand rows′ (insertR n used t v h)
   pub count : countR n used t v ≡ used′
-  pub keeps : (y : ℕ) → (Has y t → ⊥) → y < used → (c : ℕ) → c < ROW → col rows′ y c ≡ col rows y c
+  pub keeps : (y : ℕ) → (RowIn y t → ⊥) → y < used → (c : ℕ) → c < ROW → col rows′ y c ≡ col rows y c
 
 -- of a row's columns only links and marks are written
 pub record Inserted (rows : List ℕ) (x used v n h used′ : ℕ) (rows′ : List ℕ) : Type 0 where

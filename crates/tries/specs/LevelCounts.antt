@@ -9,12 +9,12 @@ use Rattle.strides.specs.Trie.{Trie, nodesAt}
 use Rattle.walk.specs.Limits.{WIDTH}
 
 -- 1 where from ≤ j < to
-unfoldable pub within : (from to j : ℕ) → ℕ
-within from zero j = 0
-within zero (suc to) zero = 1
-within zero (suc to) (suc j) = within zero to j
-within (suc from) (suc to) zero = 0
-within (suc from) (suc to) (suc j) = within from to j
+unfoldable pub inLevels : (from to j : ℕ) → ℕ
+inLevels from zero j = 0
+inLevels zero (suc to) zero = 1
+inLevels zero (suc to) (suc j) = inLevels zero to j
+inLevels (suc from) (suc to) zero = 0
+inLevels (suc from) (suc to) (suc j) = inLevels from to j
 
 -- counts that have a place for each level, and can grow
 pub record CanCount (counts : List ℕ) : Type 0 where
@@ -24,7 +24,7 @@ pub record CanCount (counts : List ℕ) : Type 0 where
 -- each level from `from` up to but not `to` has one more
 pub record LevelsAdded (counts : List ℕ) (from to : ℕ) (counts′ : List ℕ) : Type 0 where
   pub long : length counts′ ≡ WIDTH
-  pub more : (j : ℕ) → j < WIDTH → at counts′ j ≡ at counts j + within from to j
+  pub more : (j : ℕ) → j < WIDTH → at counts′ j ≡ at counts j + inLevels from to j
 
 -- the counts of the nodes of t, level by level
 pub record CountsOf (counts : List ℕ) (t : Trie) : Type 0 where

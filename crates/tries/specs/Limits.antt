@@ -11,6 +11,10 @@ ENTRIES = entryLimit
 abbrev pub ELEMENTS : ℕ
 ELEMENTS = 16777216
 
+-- a stride is held in a byte: it is below this
+abbrev pub BYTE : ℕ
+BYTE = 256
+
 -- costs are held here: above what any choice for an address of the widest width costs, so it never bites
 abbrev pub COST-CAP : ℕ
 COST-CAP = 8589934592

@@ -5,6 +5,7 @@ ghost use mathlib.Core.Path.{_≡_};
 ghost use Prim.Native.Nat.{_+_, _*_, _^_, _<_, _≤_};
 ghost use lib.ListN.{length, set};
 ghost use Rattle.walk.specs.Limits.{WIDTH};
+ghost use Rattle.tries.specs.Limits.{BYTE};
 ghost use Rattle.walk.specs.Rows.{lists, shortest};
 ghost use Rattle.strides.specs.Trie.{newer};
 ghost use Rattle.tries.specs.Scratch.{ROW, MARKS, ask};
@@ -41,7 +42,7 @@ fn best_below(rows: &[u64], k: usize, side: usize, best: u16) -> u16
 
 // Writes element row i: the only place that does.
 fn write(hop: &mut [u16], link: &mut [u32], stride: &mut [u8], i: usize, h: u16, l: usize, s: usize)
-    requires { ⌜ (i < length (now hop)) × (i < length (now link)) × (i < length (now stride)) × (l < 2 ^ 32) × (s < 256) ⌝ }
+    requires { ⌜ (i < length (now hop)) × (i < length (now link)) × (i < length (now stride)) × (l < 2 ^ 32) × (s < BYTE) ⌝ }
     ensures hops { λ _. ⌜ now (hop .exit) ≡ set (now (hop .entry)) i h ⌝ }
     ensures links { λ _. ⌜ now (link .exit) ≡ set (now (link .entry)) i l ⌝ }
     ensures strides { λ _. ⌜ now (stride .exit) ≡ set (now (stride .entry)) i s ⌝ }

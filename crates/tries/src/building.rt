@@ -12,10 +12,10 @@ ghost use Rattle.walk.specs.Rows.{lists};
 ghost use Rattle.layout.specs.Laid.{tableFloor};
 ghost use Rattle.tries.specs.Plans.{PlanIn};
 ghost use Rattle.tries.specs.Build.{NoRecord, RowsBuilt, BuildIs, Builds};
-use crate::builder::lay;
+use crate::blocks::lay;
 use crate::chooser::Kind;
+use crate::chooser::choose_outcome;
 use crate::chooser::planned;
-use crate::chooser::tested;
 use crate::limits::ELEMENTS;
 use crate::scratch::zero;
 use table::Outcome;
@@ -141,7 +141,7 @@ pub fn build(
         (lists (now (hops .entry)) (now (links .entry)) (now (strides .entry))) (r .outcome) (r .record) (now (scratch .exit))
         (lists (now (hops .exit)) (now (links .exit)) (now (strides .exit))) ⌝ }
 {
-    let outcome = tested(width, levels, value, length, hop, scratch.len());
+    let outcome = choose_outcome(width, levels, value, length, hop, scratch.len());
     if let Outcome::Refused { number, detail } = outcome {
         return refused(number, detail);
     }

@@ -11,6 +11,7 @@ use crate::costs::settle_tree;
 use crate::counting::node_count;
 use crate::fixed::fixed_choice;
 use crate::fixed::longest_length;
+use crate::limits::BYTE;
 use crate::rows::make_rows;
 use crate::scratch::BEFORE_COSTS;
 use crate::scratch::BEFORE_STRIDES;
@@ -35,7 +36,7 @@ pub struct Chosen {
 }
 
 // Tests 1 to 6, in order: `words` is the length of the lent scratch. No list is touched.
-pub(crate) fn tested(
+pub(crate) fn choose_outcome(
     width: u32,
     levels: u32,
     value: &[u32],
@@ -100,7 +101,7 @@ fn plan_variable(
     let k = levels as usize;
     settle_tree(scratch, root, 0, k);
     let mut strides = [0u8; LEVELS as usize];
-    strides[0] = (asked(scratch, root, BEFORE_STRIDES + k) % 256) as u8;
+    strides[0] = (asked(scratch, root, BEFORE_STRIDES + k) % BYTE) as u8;
     Plan {
         cost: asked(scratch, root, BEFORE_COSTS + k) as u64,
         strides: strides,
@@ -172,7 +173,7 @@ fn choose(
         ChosenIs (kindOf kind) width levels (now (value .entry)) (now (length .entry)) (now (hop .entry)) (now (scratch .entry)) (r .outcome)
         (r .cost) (r .strides) (now (scratch .exit)) ⌝ }
 {
-    let outcome = tested(width, levels, value, length, hop, scratch.len());
+    let outcome = choose_outcome(width, levels, value, length, hop, scratch.len());
     if let Outcome::Refused { number, detail } = outcome {
         return Chosen {
             outcome: Outcome::Refused { number, detail },

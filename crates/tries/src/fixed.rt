@@ -13,6 +13,7 @@ ghost use Rattle.tries.specs.FixedChoice.{LEVEL-CELLS, Filled, RowFilled
 ghost use Rattle.tries.specs.Chooser.{padded};
 use crate::costs::choice;
 use crate::costs::larger;
+use crate::limits::BYTE;
 use crate::limits::SLOTS;
 use table::WIDTH;
 
@@ -74,9 +75,9 @@ fn read_list(strides: &[u64], levels: usize, depth: usize) -> [u8; SLOTS]
     let mut i = 0;
     let mut p = 0;
     while p < levels {
-        let s = strides[i * SLOTS + (levels - 1 - p)];
-        list[p] = (s % 256) as u8;
-        i += s as usize;
+        let s = strides[i * SLOTS + (levels - 1 - p)] as usize;
+        list[p] = (s % BYTE) as u8;
+        i += s;
         p += 1;
     }
     list

@@ -1,6 +1,6 @@
 // The tries: the stride choosers, the builder of element rows, and the build. The record and the lookup are `walk`'s, and stand here
 // too, so that a caller who builds needs no other name.
-mod builder;
+mod blocks;
 mod building;
 mod caps;
 mod chooser;

@@ -8,5 +8,8 @@ pub(crate) const SLOTS: usize = LEVELS as usize;
 // The most element rows.
 pub const ELEMENTS: u32 = 16777216;
 
+// A stride is held in a byte: it is below this.
+pub(crate) const BYTE: usize = 256;
+
 // Costs are held here: above what any choice for the widest address costs, so it never bites.
 pub(crate) const COST_CAP: u64 = 8589934592;

@@ -68,8 +68,8 @@ module _ (most : ℕ) (rec : Record) (n address : ℕ) where
       unfit-cases (rec .elements) n (root rec) (λ (t : Bool). P (cond t 9 0)) (f9 w k a)
       (λ e r. f0 (record { width = w; levels = k; inside = a; enough = e; rooted = r })))))
 
-  pub passed : refusalOf most rec n address ≡ 0 → Passed most rec n address
-  passed =
+  pub tests-passed : refusalOf most rec n address ≡ 0 → Passed most rec n address
+  tests-passed =
       refusal-cases (λ (m : ℕ). m ≡ 0 → Passed most rec n address) (λ o e. absurd (omega arith)) (λ w o e. absurd (omega arith))
       (λ w k o e. absurd (omega arith)) (λ w k a d e. absurd (omega arith)) (λ p e. p)
 

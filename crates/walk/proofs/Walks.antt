@@ -70,9 +70,9 @@ module _ (rec : Record) (ls : Lists) (address : ℕ) where
   path-root z = rw (ne-eqb _ _ z)
 
 module _ (most : ℕ) (rec : Record) (ls : Lists) (address : ℕ) where
-  pub lookup-refused : {n : ℕ} → n ≡ refusalOf most rec (shortest ls) address → (n ≡ 0 → ⊥) → lookupOf most rec ls address ≡ Refused n
+  pub lookup-early : {n : ℕ} → n ≡ refusalOf most rec (shortest ls) address → (n ≡ 0 → ⊥) → lookupOf most rec ls address ≡ Refused n
   unfolding lookupOf
-  lookup-refused e h = rw (← e, ne-eqb _ _ h)
+  lookup-early e h = rw (← e, ne-eqb _ _ h)
 
   module _ (e : refusalOf most rec (shortest ls) address ≡ 0) where
     pub lookup-empty : root rec ≡ 0 → lookupOf most rec ls address ≡ answer (rec .floor) 0

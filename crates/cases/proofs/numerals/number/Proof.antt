@@ -4,8 +4,8 @@ use Prim.Native.Nat.{_-_}
 use native.Mathlib.Omega.{arith}
 use borrow.Author.Needs.{needs}
 use lib.ListN.{length, drop}
-use Rattle.cases.specs.Numerals.{digitsIn, digitsAt, numberAt}
-use Rattle.cases.proofs.Reading.{digits-on, digits-stop, digits-end, within-bounds}
+use Rattle.cases.specs.Numerals.{digitsIn, numeralAt, numberAt}
+use Rattle.cases.proofs.Reading.{digits-on, digits-stop, digits-end, between-bounds}
 use Rattle.cases.proofs.numerals.number.Statement.{statement}
 use Rattle.cases.proofs.numerals.number.Tie as tie
 
@@ -20,7 +20,7 @@ seek-requires c κs = search needs
 
 loop-holds : tie.Need-loop-holds Inv-loop μ-loop
 unfolding numberAt
-loop-holds c = ap (digitsAt (c .before .before .args .text .now)) (c .seek .ensures)
+loop-holds c = ap (numeralAt (c .before .before .args .text .now)) (c .seek .ensures)
 
 shared-slice-read-byte : tie.Need-shared-slice-read-byte Inv-loop μ-loop
 shared-slice-read-byte c = search needs
@@ -29,7 +29,7 @@ is-within-requires : tie.Need-is-within-requires Inv-loop μ-loop
 is-within-requires c κs = search needs
 
 with-digit-requires : tie.Need-with-digit-requires Inv-loop μ-loop
-with-digit-requires c κs = within-bounds _ _ _ (sym (c .before .is-within .ensures) ∙ c .if1 .taken)
+with-digit-requires c κs = between-bounds _ _ _ (sym (c .before .is-within .ensures) ∙ c .if1 .taken)
 
 add-i : tie.Need-add-i Inv-loop μ-loop
 add-i c = search needs

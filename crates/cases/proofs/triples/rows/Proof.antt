@@ -2,13 +2,13 @@
 use Prim.Native.Nat.{_-_}
 use native.Mathlib.Omega.{arith}
 use borrow.Author.Needs.{needs}
-use Rattle.cases.proofs.Filling.{Filled, filled-start, filled-on, filled-reads}
+use Rattle.cases.proofs.Filling.{RowsRead, rows-read-start, rows-read-on, rows-read-all}
 use Rattle.cases.proofs.triples.rows.Statement.{statement}
 use Rattle.cases.proofs.triples.rows.Tie as tie
 
 abbrev Inv-loop : tie.InvT-loop
 Inv-loop text at first₀ second₀ third₀ room n next₀ i₀ first second third next i =
-    Filled text n next₀ first₀ second₀ third₀ next i first second third
+    RowsRead text n next₀ first₀ second₀ third₀ next i first second third
 
 abbrev μ-loop : tie.MeasureT-loop
 μ-loop text at first₀ second₀ third₀ room n next₀ i₀ first second third next i = n - i
@@ -26,7 +26,7 @@ least-requires-3 : tie.Need-least-requires-3 Inv-loop μ-loop
 least-requires-3 c κs = search needs
 
 loop-holds : tie.Need-loop-holds Inv-loop μ-loop
-loop-holds c = filled-start _ _ _ _ _ _
+loop-holds c = rows-read-start _ _ _ _ _ _
 
 number-requires-2 : tie.Need-number-requires-2 Inv-loop μ-loop
 number-requires-2 c κs = search needs
@@ -74,7 +74,7 @@ loop-again : tie.Need-loop-again Inv-loop μ-loop
 loop-again c =
     let read = c .before .before .before in
     let turn = read .before .before .before in
-    filled-on
+    rows-read-on
     (read .before .before .number2 .result)
     (read .before .number3 .result)
     (read .number4 .result)
@@ -102,7 +102,7 @@ same-length-3 c = c .before .loop .inv .third
 returns : tie.Need-returns Inv-loop μ-loop
 returns c =
     let counted = c .before .before .before .before .before in
-    filled-reads (counted .number .result) (c .before .loop .inv) (c .loop-test .left) (counted .number .ensures) (omega arith)
+    rows-read-all (counted .number .result) (c .before .loop .inv) (c .loop-test .left) (counted .number .ensures) (omega arith)
 
 pub rows-spec : {M : Type 1} → statement M
 rows-spec =

@@ -4,7 +4,7 @@ use Prim.Native.Nat.{_-_, _≤_}
 use native.Mathlib.Omega.{arith}
 use lib.Dec.{lit≤}
 use Rattle.sheet.proofs.Digits.{read-most, tens-fit}
-use Rattle.sheet.proofs.Reading.{number-keyless, number-unplain, number-above, number-fine}
+use Rattle.sheet.proofs.Reading.{number-keyless, number-padded, number-above, number-fine}
 use borrow.Author.Needs.{needs}
 use Rattle.sheet.proofs.lines.number_line.Statement.{statement}
 use Rattle.sheet.proofs.lines.number_line.Tie as tie
@@ -27,8 +27,8 @@ read-digits-requires c κs = (omega arith, lit≤ tt, lit≤ tt, tens-fit _ (ome
 byte-requires : tie.Need-byte-requires
 byte-requires c κs = search needs
 
-is-plain-requires : tie.Need-is-plain-requires
-is-plain-requires c κs = search needs
+is-unpadded-requires : tie.Need-is-unpadded-requires
+is-unpadded-requires c κs = search needs
 
 bad-line-requires-2 : tie.Need-bad-line-requires-2
 bad-line-requires-2 c κs = search needs
@@ -40,7 +40,7 @@ returns-2 c =
     let d = b .before in
     let e = d .before in
     let f = e .before in
-    c .bad-line2 .ensures ∙ number-unplain _ _ _ _ _ (f .key-at .ensures) (e .if1 .left) (d .read-digits .ensures) (b .byte .ensures) (a .is-plain .ensures) (c .before .if2 .taken)
+    c .bad-line2 .ensures ∙ number-padded _ _ _ _ _ (f .key-at .ensures) (e .if1 .left) (d .read-digits .ensures) (b .byte .ensures) (a .is-unpadded .ensures) (c .before .if2 .taken)
 
 bad-line-requires-3 : tie.Need-bad-line-requires-3
 bad-line-requires-3 c κs = search needs
@@ -53,7 +53,7 @@ returns-3 c =
     let e = d .before in
     let f = e .before in
     let g = f .before in
-    c .bad-line3 .ensures ∙ number-above _ _ _ _ _ (g .key-at .ensures) (f .if1 .left) (e .read-digits .ensures) (d .byte .ensures) (b .is-plain .ensures) (a .if2 .left) (c .before .if3 .taken)
+    c .bad-line3 .ensures ∙ number-above _ _ _ _ _ (g .key-at .ensures) (f .if1 .left) (e .read-digits .ensures) (d .byte .ensures) (b .is-unpadded .ensures) (a .if2 .left) (c .before .if3 .taken)
 
 cast-close-line : tie.Need-cast-close-line
 cast-close-line c = search needs
@@ -73,7 +73,7 @@ returns-4 c =
     let f = e .before in
     let g = f .before in
     let h = g .before in
-    c .close-line .ensures ∙ number-fine _ _ _ _ _ (h .key-at .ensures) (g .if1 .left) (f .read-digits .ensures) (e .byte .ensures) (d .is-plain .ensures) (b .if2 .left) (a .if3 .left)
+    c .close-line .ensures ∙ number-fine _ _ _ _ _ (h .key-at .ensures) (g .if1 .left) (f .read-digits .ensures) (e .byte .ensures) (d .is-unpadded .ensures) (b .if2 .left) (a .if3 .left)
 
 pub number-line-spec : {M : Type 1} → statement M
 number-line-spec =
@@ -85,7 +85,7 @@ number-line-spec =
     add-q
     read-digits-requires
     byte-requires
-    is-plain-requires
+    is-unpadded-requires
     bad-line-requires-2
     returns-2
     bad-line-requires-3

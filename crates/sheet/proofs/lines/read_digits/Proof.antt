@@ -5,7 +5,7 @@ use native.Mathlib.Omega.{arith}
 use denote.Ref.{now}
 use lib.ListN.{length}
 use Rattle.sheet.specs.Lines.{byteAt, countAt, valueAt}
-use Rattle.sheet.proofs.Digits.{IsDigit, seen, seen-inside, value-more, count-go, count-stop, count-start, count-end, value-start, value-go, value-fits, digits-are}
+use Rattle.sheet.proofs.Digits.{IsDigit, seen, seen-inside, value-more, count-go, count-stop, count-start, count-end, value-none, value-go, value-fits, digits-are}
 use Rattle.sheet.proofs.Digits.{none-more, one-more}
 use borrow.Author.Needs.{needs}
 use Rattle.sheet.proofs.lines.read_digits.Statement.{statement}
@@ -39,7 +39,7 @@ fits-of c =
 
 loop-holds : tie.Need-loop-holds Inv-loop μ-loop
 unfolding valueAt
-loop-holds c = (omega arith, omega arith, omega arith, value-start _, refl, count-start _ _ _ _)
+loop-holds c = (omega arith, omega arith, omega arith, value-none _, refl, count-start _ _ _ _)
 
 byte-requires : tie.Need-byte-requires Inv-loop μ-loop
 byte-requires c κs = search needs

@@ -5,7 +5,7 @@ use denote.Ref.{now}
 use lib.Dec.{lit≤}
 use Rattle.sheet.specs.Limits.{NUMBER-DIGITS, NUMBER}
 use Rattle.sheet.specs.Keys.{widthKey, levelsKey}
-use Rattle.sheet.specs.Text.{start}
+use Rattle.sheet.specs.Text.{textStart}
 use Rattle.sheet.proofs.Steps.{Line, step-then, UpTo, number-is, kind-is, line-of}
 use Rattle.sheet.proofs.Whole.{head-read}
 use borrow.Author.Needs.{needs}
@@ -13,7 +13,7 @@ use Rattle.sheet.proofs.parsing.read_head.Statement.{statement}
 use Rattle.sheet.proofs.parsing.read_head.Tie as tie
 
 -- the four lines, and what is known of them
-first : (x : tie.After-number-line) → Line (now (x .before .before .before .args .s)) start 12 (UpTo NUMBER) (x .number-line .result)
+first : (x : tie.After-number-line) → Line (now (x .before .before .before .args .s)) textStart 12 (UpTo NUMBER) (x .number-line .result)
 first x = line-of (x .number-line .ensures) (number-is widthKey _ _ NUMBER-DIGITS NUMBER)
 
 second : (x : tie.After-kind-line) → let w = x .before in

@@ -7,16 +7,16 @@ use Rattle.tries.proofs.Filling.{power-most, bare-end, bare-gives, at-l
 use Prim.Native.Nat.{ℕ, _<_}
 use borrow.Fn.Kinds.{In}
 use borrow.Fn.PlainCycle.{Measures, is, falls, and}
-use Rattle.tries.proofs.builder.fill.Reads as fill
-use Rattle.tries.proofs.builder.fill.Kinds as fill-kinds
-use Rattle.tries.proofs.builder.+fill.Lts-fill as fill-lts
-use Rattle.tries.proofs.builder.bare.Reads as bare-reads
-use Rattle.tries.proofs.builder.best_below.Reads as best-below-reads
-use Rattle.tries.proofs.builder.leaf.Reads as leaf-reads
-use Rattle.tries.proofs.builder.power.Reads as power-reads
+use Rattle.tries.proofs.blocks.fill.Reads as fill
+use Rattle.tries.proofs.blocks.fill.Kinds as fill-kinds
+use Rattle.tries.proofs.blocks.+fill.Lts-fill as fill-lts
+use Rattle.tries.proofs.blocks.bare.Reads as bare-reads
+use Rattle.tries.proofs.blocks.best_below.Reads as best-below-reads
+use Rattle.tries.proofs.blocks.leaf.Reads as leaf-reads
+use Rattle.tries.proofs.blocks.power.Reads as power-reads
 use Rattle.tries.proofs.scratch.asked.Reads as asked-reads
-use Rattle.tries.proofs.builder.+fill.{statement}
-use Rattle.tries.proofs.builder.+fill.Tie.{close}
+use Rattle.tries.proofs.blocks.+fill.{statement}
+use Rattle.tries.proofs.blocks.+fill.Tie.{close}
 
 abbrev μ-fill : Measures 5 fill-kinds.ps ℕ
 μ-fill κs a = a .1 .1 .1 .0
@@ -175,9 +175,7 @@ fill-returns-3 t c =
     λ σ u g.
     let o = F .ensures σ (left u) (left-asks g e (c22 .asked .ensures)) in
     halves-give g e (omega (arith, F .kept)) o P
-    (c23 .before .best-below .ensures)
-    (c23
-    .best-below2 .ensures)
+    (c23 .before .best-below .ensures) (c23 .best-below2 .ensures)
     (c6 .fill2 .ensures σ (right u)
     (right-asks g e (omega (arith, F .kept)) o P
     (c21 .asked2

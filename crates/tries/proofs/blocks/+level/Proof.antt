@@ -8,14 +8,14 @@ use Rattle.tries.proofs.Leveling.{sides-give}
 use Prim.Native.Nat.{ℕ, _<_}
 use borrow.Fn.Kinds.{In}
 use borrow.Fn.PlainCycle.{Measures, is, falls, and}
-use Rattle.tries.proofs.builder.level.Reads as level
-use Rattle.tries.proofs.builder.level.Kinds as level-kinds
-use Rattle.tries.proofs.builder.+level.Lts-level as level-lts
-use Rattle.tries.proofs.builder.block.Reads as block-reads
+use Rattle.tries.proofs.blocks.level.Reads as level
+use Rattle.tries.proofs.blocks.level.Kinds as level-kinds
+use Rattle.tries.proofs.blocks.+level.Lts-level as level-lts
+use Rattle.tries.proofs.blocks.block.Reads as block-reads
 use Rattle.tries.proofs.scratch.asked.Reads as asked-reads
 use Rattle.tries.proofs.scratch.stride_at.Reads as stride-at-reads
-use Rattle.tries.proofs.builder.+level.{statement}
-use Rattle.tries.proofs.builder.+level.Tie.{close}
+use Rattle.tries.proofs.blocks.+level.{statement}
+use Rattle.tries.proofs.blocks.+level.Tie.{close}
 
 abbrev μ-level : Measures 5 level-kinds.ps ℕ
 μ-level κs a = a .1 .1 .1 .0 * 2 + (1 - a .1 .1 .1 .1 .0)

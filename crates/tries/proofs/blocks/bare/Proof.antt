@@ -7,8 +7,8 @@ use borrow.Author.Needs.{needs}
 use Rattle.walk.specs.Rows.{lists}
 use Rattle.tries.specs.Filling.{Bare}
 use Rattle.tries.proofs.Filling.{bare-none, bare-more}
-use Rattle.tries.proofs.builder.bare.Statement.{statement}
-use Rattle.tries.proofs.builder.bare.Tie as tie
+use Rattle.tries.proofs.blocks.bare.Statement.{statement}
+use Rattle.tries.proofs.blocks.bare.Tie as tie
 
 abbrev Inv-loop : tie.InvT-loop
 Inv-loop hop₀ link₀ stride₀ base end best i₀ hop link stride i =

@@ -4,8 +4,8 @@ use native.Mathlib.Omega.{arith}
 use Rattle.tries.proofs.Filling.{power-most}
 use Rattle.tries.proofs.Leveling.{block-bounds, own-asks, own-gives}
 use borrow.Author.Needs.{needs}
-use Rattle.tries.proofs.builder.block.Statement.{statement}
-use Rattle.tries.proofs.builder.block.Tie as tie
+use Rattle.tries.proofs.blocks.block.Statement.{statement}
+use Rattle.tries.proofs.blocks.block.Tie as tie
 
 stride-at-requires : tie.Need-stride-at-requires
 stride-at-requires c κs =

@@ -8,8 +8,8 @@ use Rattle.walk.specs.Rows.{lists}
 use Rattle.layout.specs.Blocks.{Strides}
 use Rattle.tries.specs.Filling.{LayAsks}
 use Rattle.tries.proofs.Leveling.{Done, lay-bounds, done-none, next-asks, done-more, done-all}
-use Rattle.tries.proofs.builder.lay.Statement.{statement}
-use Rattle.tries.proofs.builder.lay.Tie as tie
+use Rattle.tries.proofs.blocks.lay.Statement.{statement}
+use Rattle.tries.proofs.blocks.lay.Tie as tie
 
 abbrev Inv-loop : tie.InvT-loop
 Inv-loop rows plan root width levels hop₀ link₀ stride₀ first to₀ n₀ hop link stride to n =

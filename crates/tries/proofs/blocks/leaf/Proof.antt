@@ -1,8 +1,8 @@
 use native.Mathlib.Omega.{arith}
 use Rattle.tries.proofs.Filling.{power-most, leaf-bounds, leaf-gives}
 use borrow.Author.Needs.{needs}
-use Rattle.tries.proofs.builder.leaf.Statement.{statement}
-use Rattle.tries.proofs.builder.leaf.Tie as tie
+use Rattle.tries.proofs.blocks.leaf.Statement.{statement}
+use Rattle.tries.proofs.blocks.leaf.Tie as tie
 
 stride-at-requires : tie.Need-stride-at-requires
 stride-at-requires c κs =

@@ -1,14 +1,12 @@
 use native.Mathlib.Omega.{arith}
 use Rattle.table.proofs.Shifts.{one-shl}
 use borrow.Author.Needs.{needs}
-use Rattle.tries.proofs.builder.power.Statement.{statement}
-use Rattle.tries.proofs.builder.power.Tie as tie
+use Rattle.tries.proofs.blocks.power.Statement.{statement}
+use Rattle.tries.proofs.blocks.power.Tie as tie
 
--- src/builder.rt:19:5
 shl-result : tie.Need-shl-result
 shl-result c = search needs
 
--- src/builder.rt:15:1
 returns : tie.Need-returns
 returns c = one-shl 64 (c .args .n) (omega arith)
 

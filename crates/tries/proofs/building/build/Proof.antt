@@ -4,13 +4,13 @@ use lib.ListN.{length, replicate}
 use native.Mathlib.Omega.{arith}
 use Rattle.walk.specs.Rows.{lists}
 use Rattle.tries.proofs.ChooseTests.{accepted-plan}
-use Rattle.tries.proofs.Builds.{early-is, past-is, build-means}
+use Rattle.tries.proofs.BuildSteps.{early-is, past-is, build-means}
 use borrow.Author.Needs.{needs}
 use Rattle.tries.proofs.building.build.Statement.{statement}
 use Rattle.tries.proofs.building.build.Tie as tie
 
-tested-requires : tie.Need-tested-requires
-tested-requires c κs = search needs
+choose-outcome-requires : tie.Need-choose-outcome-requires
+choose-outcome-requires c κs = search needs
 
 enum-known-outcome : tie.Need-enum-known-outcome
 enum-known-outcome c = search needs
@@ -24,7 +24,7 @@ returns c =
     let c12 = c4 .before .before .before .before .before .before .before .before in
     let S = c12 in
     let b = early-is _ (S .args .width) (S .args .levels) (S .args .value .now) (S .args .length .now) (S .args .hop .now) (S .args .scratch .now)
-    (lists (S .args .hops .now) (S .args .links .now) (S .args .strides .now)) (c4 .tested .ensures) (c .before .before .outcome .given .1) (c .refused .ensures .0) (c .refused .ensures .1)
+    (lists (S .args .hops .now) (S .args .links .now) (S .args .strides .now)) (c4 .choose-outcome .ensures) (c .before .before .outcome .given .1) (c .refused .ensures .0) (c .refused .ensures .1)
     in
     (b, build-means b)
 
@@ -36,7 +36,7 @@ build-rows-requires c κs =
     let S = c .before .before .before .before .before .before .before .before .before .before .before .before .before .before in
     accepted-plan (S .args .width) (S .args .levels) (S .args .value .now) (S .args .length .now) (S .args .hop .now) (S .args .scratch .now)
     (λ i. omega (arith, c .before .before .before .before .before .before .before .before .before .before .before .shared-slice-known3 .given i))
-    (sym (c .before .before .before .before .before .before .tested .ensures) ∙ c .before .before .before .before .enum-told .given .1)
+    (sym (c .before .before .before .before .before .before .choose-outcome .ensures) ∙ c .before .before .before .before .enum-told .given .1)
 
 zero-requires : tie.Need-zero-requires
 zero-requires c κs = search needs
@@ -62,7 +62,7 @@ returns-2 c =
     let S = c27 in
     let e : length (c12 .build-rows .last .1 .1 .1 .1 .1 .1 .0) ≡ length (S .args .scratch .now) = omega (arith, c12 .build-rows .kept) in
     let b = past-is _ (S .args .width) (S .args .levels) (S .args .value .now) (S .args .length .now) (S .args .hop .now) (S .args .scratch .now)
-    (lists (S .args .hops .now) (S .args .links .now) (S .args .strides .now)) (sym (c19 .tested .ensures) ∙ c17 .enum-told .given .1) (c12 .build-rows .ensures)
+    (lists (S .args .hops .now) (S .args .links .now) (S .args .strides .now)) (sym (c19 .choose-outcome .ensures) ∙ c17 .enum-told .given .1) (c12 .build-rows .ensures)
     (c .before .before .zero .ensures ∙ ap (λ (n : ℕ). replicate n 0) e) in
     (b, build-means b)
 
@@ -70,7 +70,7 @@ pub build-spec : {M : Type 1} → statement M
 build-spec =
     tie.close
     (tie.spec
-    tested-requires
+    choose-outcome-requires
     enum-known-outcome
     refused-requires
     returns

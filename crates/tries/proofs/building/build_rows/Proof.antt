@@ -2,7 +2,7 @@ use mathlib.Core.Path.{refl, sym, _∙_}
 use lib.ListN.{length-take}
 use native.Mathlib.Omega.{arith}
 use Rattle.walk.specs.Rows.{lists}
-use Rattle.tries.proofs.Builds.{crowded-is, built-is, may-lay, few-rows}
+use Rattle.tries.proofs.BuildSteps.{crowded-is, built-is, may-lay, few-rows}
 use borrow.Author.Needs.{needs}
 use Rattle.tries.proofs.building.build_rows.Statement.{statement}
 use Rattle.tries.proofs.building.build_rows.Tie as tie

@@ -1,7 +1,7 @@
 use mathlib.Core.Path.{_≡_, sym, _∙_}
 use native.Mathlib.Omega.{arith}
 use borrow.Author.Tests.{eq-eqb, ne-eqb}
-use Rattle.tries.proofs.Builds.{floor-none, floor-first}
+use Rattle.tries.proofs.BuildSteps.{floor-none, floor-first}
 use borrow.Author.Needs.{needs}
 use Rattle.tries.proofs.building.floor_hop.Statement.{statement}
 use Rattle.tries.proofs.building.floor_hop.Tie as tie

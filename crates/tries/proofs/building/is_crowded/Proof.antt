@@ -1,7 +1,7 @@
 use Prim.Native.Nat.{min}
 use native.Mathlib.Omega.{arith}
 use Rattle.tries.specs.Limits.{ELEMENTS}
-use Rattle.tries.proofs.Builds.{crowded, roomy}
+use Rattle.tries.proofs.BuildSteps.{crowded, roomy}
 use borrow.Author.Needs.{needs}
 use Rattle.tries.proofs.building.is_crowded.Statement.{statement}
 use Rattle.tries.proofs.building.is_crowded.Tie as tie

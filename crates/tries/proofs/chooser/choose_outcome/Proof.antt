@@ -1,9 +1,9 @@
 use mathlib.Core.Path.{_≡_, sym, _∙_}
 use Rattle.table.proofs.Table.{accepted-table}
-use Rattle.tries.proofs.ChooseTests.{table-prefixes, tests-width, tests-levels, tests-table, count-size, tests-scratch, tests-pass}
+use Rattle.tries.proofs.ChooseTests.{table-prefixes, tests-width, tests-levels, tests-table, tests-scratch, tests-pass}
 use borrow.Author.Needs.{needs}
-use Rattle.tries.proofs.chooser.tested.Statement.{statement}
-use Rattle.tries.proofs.chooser.tested.Tie as tie
+use Rattle.tries.proofs.chooser.choose_outcome.Statement.{statement}
+use Rattle.tries.proofs.chooser.choose_outcome.Tie as tie
 
 is-outside-requires : tie.Need-is-outside-requires
 is-outside-requires c κs = search needs
@@ -57,39 +57,27 @@ node-count-requires c κs =
 returns-4 : tie.Need-returns-4
 returns-4 c =
     let c4 = c .before .before .before .before in
-    let c5 = c4 .before in
-    let c6 = c5 .before in
-    let c7 = c6 .before in
-    let c8 = c7 .before in
-    let c12 = c8 .before .before .before .before in
-    let S = c12 in
-    let e = sym (c4 .check-table .ensures .0) ∙ c .before .before .enum-told .given .1 in
-    let n = count-size (S .args .width) (S .args .levels) (S .args .value .now) (S .args .length .now) (S .args .hop .now) (S .args .words) (sym (c8 .is-outside .ensures) ∙ c7 .if1 .left)
-    (sym (c6 .is-outside2 .ensures) ∙ c5 .if2 .left) (accepted-table _ _ _ _ e) _ (c .before .node-count .ensures) in
+    let c6 = c4 .before .before in
+    let c8 = c6 .before .before in
+    let S = c8 .before .before .before .before in
     sym
     (tests-scratch (S .args .width) (S .args .levels) (S .args .value .now) (S .args .length .now) (S .args .hop .now) (S .args .words)
-    (sym (c8 .is-outside .ensures) ∙ c7 .if1 .left)
-    (sym (c6 .is-outside2 .ensures) ∙ c5 .if2 .left) e _ n (c .if3 .taken))
+    (sym (c8 .is-outside .ensures) ∙ c6 .before .if1 .left) (sym (c6 .is-outside2 .ensures) ∙ c4 .before .if2 .left)
+    (sym (c4 .check-table .ensures .0) ∙ c .before .before .enum-told .given .1) _ (c .before .node-count .ensures) (c .if3 .taken))
 
 returns-5 : tie.Need-returns-5
 returns-5 c =
     let c4 = c .before .before .before .before in
-    let c5 = c4 .before in
-    let c6 = c5 .before in
-    let c7 = c6 .before in
-    let c8 = c7 .before in
-    let c12 = c8 .before .before .before .before in
-    let S = c12 in
-    let e = sym (c4 .check-table .ensures .0) ∙ c .before .before .enum-told .given .1 in
-    let n = count-size (S .args .width) (S .args .levels) (S .args .value .now) (S .args .length .now) (S .args .hop .now) (S .args .words) (sym (c8 .is-outside .ensures) ∙ c7 .if1 .left)
-    (sym (c6 .is-outside2 .ensures) ∙ c5 .if2 .left) (accepted-table _ _ _ _ e) _ (c .before .node-count .ensures) in
+    let c6 = c4 .before .before in
+    let c8 = c6 .before .before in
+    let S = c8 .before .before .before .before in
     sym
     (tests-pass (S .args .width) (S .args .levels) (S .args .value .now) (S .args .length .now) (S .args .hop .now) (S .args .words)
-    (sym (c8 .is-outside .ensures) ∙ c7 .if1 .left)
-    (sym (c6 .is-outside2 .ensures) ∙ c5 .if2 .left) e _ n (c .if3 .left))
+    (sym (c8 .is-outside .ensures) ∙ c6 .before .if1 .left) (sym (c6 .is-outside2 .ensures) ∙ c4 .before .if2 .left)
+    (sym (c4 .check-table .ensures .0) ∙ c .before .before .enum-told .given .1) _ (c .before .node-count .ensures) (c .if3 .left))
 
-pub tested-spec : {M : Type 1} → statement M
-tested-spec =
+pub choose-outcome-spec : {M : Type 1} → statement M
+choose-outcome-spec =
     tie.close
     (tie.spec
     is-outside-requires

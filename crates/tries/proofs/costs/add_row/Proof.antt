@@ -5,7 +5,7 @@ use native.Mathlib.Omega.{arith}
 use lib.ListN.{length, length-set}
 use Rattle.walk.specs.Limits.{LEVELS}
 use Rattle.tries.specs.Costs.{CELLS, RowAdded}
-use Rattle.tries.proofs.Gathering.{row-start, row-next}
+use Rattle.tries.proofs.Gathering.{add-start, add-next}
 use borrow.Author.Needs.{needs}
 use Rattle.tries.proofs.costs.add_row.Statement.{statement}
 use Rattle.tries.proofs.costs.add_row.Tie as tie
@@ -17,7 +17,7 @@ abbrev μ-loop : tie.MeasureT-loop
 μ-loop rows k d levels sums₀ r₀ sums r = levels - r
 
 loop-holds : tie.Need-loop-holds Inv-loop μ-loop
-loop-holds c = let S = c .before .before in (omega arith, S .pre .4, row-start _ _ _ _)
+loop-holds c = let S = c .before .before in (omega arith, S .pre .4, add-start _ _ _ _)
 
 add-asked : tie.Need-add-asked Inv-loop μ-loop
 add-asked c = search needs
@@ -41,7 +41,7 @@ loop-again c =
     let B = c .before .before .bump in (
       omega arith,
       ap length (B .ensures) ∙ length-set (l .sums) (S .args .d * LEVELS + l .r) _ ∙ l .inv .1,
-      row-next _ _ _ _ _ _ (l .r) _ (l .inv .1) (S .pre .2) (omega arith) (l .inv .2)
+      add-next _ _ _ _ _ _ (l .r) _ (l .inv .1) (S .pre .2) (omega arith) (l .inv .2)
           (c .before .before .before .asked .ensures) (B .ensures),
     )
 

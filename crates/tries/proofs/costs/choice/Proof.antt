@@ -2,7 +2,7 @@ use Prim.Native.Nat.{ℕ, _+_, _-_}
 use mathlib.Core.Path.{_≡_, ap, _∙_}
 use native.Mathlib.Nat.{add-zero}
 use native.Mathlib.Omega.{arith}
-use Rattle.strides.proofs.Scan.{found}
+use Rattle.strides.proofs.Scan.{scanned}
 use Rattle.tries.specs.Costs.{price, bestCost, bestStride}
 use Rattle.tries.proofs.Pricing.{blocks-fit, choice-more}
 use borrow.Author.Needs.{needs}
@@ -37,7 +37,7 @@ returns-2 : tie.Need-returns-2
 returns-2 c =
     let S = c .before .before .before in
     let b = choice-more (S .args .sums .now) (S .args .n) (S .args .depth) (S .args .r) (c .before .if1 .left) in
-    let w = found (price (S .args .sums .now) (S .args .n) (S .args .r - 1)) (S .args .depth - 1) .within in
+    let w = scanned (price (S .args .sums .now) (S .args .n) (S .args .r - 1)) (S .args .depth - 1) .within in
     (c .cheapest .ensures .0 ∙ b .0, (ap (λ (x : ℕ). x + 1) (c .cheapest .ensures .1) ∙ b .1, omega (arith, c .cheapest .ensures .1)))
 
 pub choice-spec : {M : Type 1} → statement M

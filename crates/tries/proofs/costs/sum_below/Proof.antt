@@ -1,5 +1,5 @@
 use native.Mathlib.Omega.{arith}
-use Rattle.tries.proofs.Settling.{left-below, right-below, both-below}
+use Rattle.tries.proofs.Settling.{sum-left, sum-right, sum-both}
 use borrow.Author.Needs.{needs}
 use Rattle.tries.proofs.costs.sum_below.Statement.{statement}
 use Rattle.tries.proofs.costs.sum_below.Tie as tie
@@ -10,7 +10,7 @@ asked-requires c κs = search needs
 gather-requires : tie.Need-gather-requires
 gather-requires c κs =
     let S = c .before .before .before .before in
-    rw (c .before .asked .ensures) (left-below (S .args .levels) (S .args .rows .now) (S .args .k) (S .pre .0) _ (S .pre .1))
+    rw (c .before .asked .ensures) (sum-left (S .args .levels) (S .args .rows .now) (S .args .k) (S .pre .0) _ (S .pre .1))
 
 asked-requires-2 : tie.Need-asked-requires-2
 asked-requires-2 c κs = search needs
@@ -18,7 +18,7 @@ asked-requires-2 c κs = search needs
 gather-requires-2 : tie.Need-gather-requires-2
 gather-requires-2 c κs =
     let S = c .before .before .before .before .before .before .before .before .before in
-    rw (c .before .asked2 .ensures) (right-below (S .args .levels) (S .args .rows .now) (S .args .k) (S .pre .0) _ (omega arith))
+    rw (c .before .asked2 .ensures) (sum-right (S .args .levels) (S .args .rows .now) (S .args .k) (S .pre .0) _ (omega arith))
 
 same-length : tie.Need-same-length
 same-length c = search needs
@@ -28,7 +28,7 @@ returns c =
     let S = c .before .before .before .before .before .before .before .before .before .before .before .before in
     let G = c .before .before .before .before .before .before .before .gather in
     let H = c .before .before .gather2 in
-    both-below (S .args .levels) (S .args .rows .now) (S .args .k) (S .pre .0) (S .args .sums .now) (G .last .1 .1 .1 .1 .0) (H .last .1 .1 .1 .1 .0)
+    sum-both (S .args .levels) (S .args .rows .now) (S .args .k) (S .pre .0) (S .args .sums .now) (G .last .1 .1 .1 .1 .0) (H .last .1 .1 .1 .1 .0)
     (rw (c .before .before .before .before .before .before .before .before .before .asked .ensures) at (G .ensures)) (rw (c .before .before .before .before .asked2 .ensures) at (H .ensures))
 
 pub sum-below-spec : {M : Type 1} → statement M

@@ -8,7 +8,7 @@ use lib.Seq.{drop-set-lt}
 use Rattle.walk.specs.Limits.{LEVELS}
 use Rattle.tries.specs.Costs.{bestCost, bestStride}
 use Rattle.tries.specs.FixedChoice.{LEVEL-CELLS, RowFilled}
-use Rattle.tries.proofs.FixedChoice.{rest-all, row-start, row-next}
+use Rattle.tries.proofs.FixedChoice.{rest-all, fill-start, fill-next}
 use borrow.Author.Needs.{needs}
 use Rattle.tries.proofs.fixed.fill_row.Statement.{statement}
 use Rattle.tries.proofs.fixed.fill_row.Tie as tie
@@ -28,7 +28,7 @@ loop-holds c =
       omega arith,
       S .pre .0 .0,
       S .pre .0 .1,
-      row-start (S .args .n) (S .args .d) (S .args .i) (S .args .costs .now) (S .args .strides .now)
+      fill-start (S .args .n) (S .args .d) (S .args .i) (S .args .costs .now) (S .args .strides .now)
           (drop ((S .args .i + 1) * LEVELS) (S .args .costs .now)),
       refl,
     )
@@ -94,7 +94,7 @@ loop-again c =
       omega arith,
       length-set (l .costs) (S .args .i * LEVELS + l .r) _ ∙ l .inv .1,
       length-set (l .strides) (S .args .i * LEVELS + l .r) _ ∙ l .inv .2,
-      row-next (S .args .n) (S .args .d) (S .args .i) (S .args .costs .now) (S .args .strides .now) (drop ((S .args .i + 1) * LEVELS) (S .args .costs .now)) (l .costs) (l .strides) (l .r) _
+      fill-next (S .args .n) (S .args .d) (S .args .i) (S .args .costs .now) (S .args .strides .now) (drop ((S .args .i + 1) * LEVELS) (S .args .costs .now)) (l .costs) (l .strides) (l .r) _
           _ (omega arith) (omega (arith, S .pre .0 .0)) (omega (arith, S .pre .0 .1)) (l .inv .3)
           (C .ensures .0 ∙ ap (λ (y : List ℕ). bestCost y (S .args .n) (S .args .d) (l .r)) e) (C .ensures .1 .0 ∙ ap (λ (y : List ℕ). bestStride y (S .args .n) (S .args .d) (l .r)) e),
       drop-set-lt ((S .args .i + 1) * LEVELS) (l .costs) (S .args .i * LEVELS + l .r) _ (omega arith) ∙ l .inv .4,

@@ -5,6 +5,7 @@ use native.Mathlib.Nat.{mod-eq-of-lt}
 use native.Mathlib.Omega.{arith}
 use lib.ListN.{length, getD, length-set}
 use Rattle.walk.specs.Limits.{LEVELS}
+use Rattle.tries.specs.Limits.{BYTE}
 use Rattle.tries.specs.FixedChoice.{StridesFilled, Reading}
 use Rattle.tries.proofs.FixedChoice.{pick-within, reading-start, reading-next, reading-done}
 use borrow.Author.Needs.{needs}
@@ -69,7 +70,7 @@ loop-again c =
     let N = S .pre .4 in
     let e = N .1 (l .i) (S .args .levels - 1 - l .p) (l .inv .0) (omega arith) in
     let w = pick-within (N .0) (S .args .levels - 1 - l .p) (l .i) (S .args .depth - l .i) in
-    let d : getD (S .args .strides .now) (l .i * LEVELS + (S .args .levels - 1 - l .p)) 0 % 256 ≡ getD (S .args .strides .now) (l .i * LEVELS + (S .args .levels - 1 - l .p)) 0 = mod-eq-of-lt
+    let d : getD (S .args .strides .now) (l .i * LEVELS + (S .args .levels - 1 - l .p)) 0 % BYTE ≡ getD (S .args .strides .now) (l .i * LEVELS + (S .args .levels - 1 - l .p)) 0 = mod-eq-of-lt
     (omega arith) in (
       omega arith,
       omega arith,

@@ -5,20 +5,20 @@ use native.Mathlib.Omega.{arith}
 use borrow.Author.Needs.{needs}
 use lib.ListN.{length, getD, length-set}
 use Rattle.walk.specs.Limits.{WIDTH}
-use Rattle.tries.specs.LevelCounts.{within}
-use Rattle.tries.proofs.LevelCounts.{within-same, within-one, run-next}
+use Rattle.tries.specs.LevelCounts.{inLevels}
+use Rattle.tries.proofs.LevelCounts.{in-levels-same, in-levels-one, run-next}
 use Rattle.tries.proofs.rows.add_levels.Statement.{statement}
 use Rattle.tries.proofs.rows.add_levels.Tie as tie
 
 abbrev Inv-loop : tie.InvT-loop
 Inv-loop counts₀ from to j₀ counts j =
-    (from ≤ j) × (j ≤ to) × (length counts ≡ WIDTH) × ((i : ℕ) → i < WIDTH → getD counts i 0 ≡ getD counts₀ i 0 + within from j i)
+    (from ≤ j) × (j ≤ to) × (length counts ≡ WIDTH) × ((i : ℕ) → i < WIDTH → getD counts i 0 ≡ getD counts₀ i 0 + inLevels from j i)
 
 abbrev μ-loop : tie.MeasureT-loop
 μ-loop counts₀ from to j₀ counts j = to - j
 
 loop-holds : tie.Need-loop-holds Inv-loop μ-loop
-loop-holds c = (omega arith, omega arith, c .pre .2 .long, λ i h. omega (arith, within-same (c .args .from) i))
+loop-holds c = (omega arith, omega arith, c .pre .2 .long, λ i h. omega (arith, in-levels-same (c .args .from) i))
 
 mul-counts : tie.Need-mul-counts Inv-loop μ-loop
 mul-counts c = search needs
@@ -31,7 +31,7 @@ add-counts c =
     let S = c .before .before .before in
     let l = c .before .before .loop in
     let w : l .j < WIDTH = omega arith in
-    omega (arith, l .inv .3 (l .j) w, S .pre .2 .small (l .j) w, within-one (S .args .from) (l .j) (l .j))
+    omega (arith, l .inv .3 (l .j) w, S .pre .2 .small (l .j) w, in-levels-one (S .args .from) (l .j) (l .j))
 
 slice-write-counts : tie.Need-slice-write-counts Inv-loop μ-loop
 slice-write-counts c = search needs
@@ -58,7 +58,7 @@ returns c =
     let e : l .j ≡ S .args .to = omega arith in
     record {
       long = l .inv .2;
-      more = subst (λ (x : ℕ). (i : ℕ) → i < WIDTH → getD (l .counts) i 0 ≡ getD (S .args .counts .now) i 0 + within (S .args .from) x i) e (l .inv .3);
+      more = subst (λ (x : ℕ). (i : ℕ) → i < WIDTH → getD (l .counts) i 0 ≡ getD (S .args .counts .now) i 0 + inLevels (S .args .from) x i) e (l .inv .3);
     }
 
 pub add-levels-spec : {M : Type 1} → statement M

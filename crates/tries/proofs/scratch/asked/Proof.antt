@@ -4,32 +4,25 @@ use borrow.Author.Needs.{needs}
 use Rattle.tries.proofs.scratch.asked.Statement.{statement}
 use Rattle.tries.proofs.scratch.asked.Tie as tie
 
--- src/scratch.rt:18:9
 returns : tie.Need-returns
 unfolding ask
 returns c = simp (eq-eqb _ _ (c .if1 .taken))
 
--- src/scratch.rt:20:11
 sub-result : tie.Need-sub-result
 sub-result c = search needs
 
--- src/scratch.rt:20:10
 mul-result : tie.Need-mul-result
 mul-result c = search needs
 
--- src/scratch.rt:20:10
 add-result : tie.Need-add-result
 add-result c = search needs
 
--- src/scratch.rt:20:5
 mul-result-2 : tie.Need-mul-result-2
 mul-result-2 c = search needs
 
--- src/scratch.rt:20:5
 shared-slice-read-result : tie.Need-shared-slice-read-result
 shared-slice-read-result c = search needs
 
--- src/scratch.rt:13:1
 returns-2 : tie.Need-returns-2
 unfolding ask
 returns-2 c = simp (ne-eqb _ _ (c .before .if1 .left))

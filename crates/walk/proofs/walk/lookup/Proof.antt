@@ -3,8 +3,8 @@ use borrow.Author.Needs.{needs}
 use Rattle.walk.specs.Limits.{WIDTH}
 use Rattle.walk.specs.Rows.{lists, shortest}
 use Rattle.walk.specs.Lookup.{refusalOf}
-use Rattle.walk.proofs.Tests.{passed}
-use Rattle.walk.proofs.Walks.{lookup-refused, lookup-empty, lookup-walks}
+use Rattle.walk.proofs.Tests.{tests-passed}
+use Rattle.walk.proofs.Walks.{lookup-early, lookup-empty, lookup-walks}
 use Rattle.walk.proofs.Looked.{promised}
 use Rattle.walk.proofs.walk.lookup.Statement.{statement}
 use Rattle.walk.proofs.walk.lookup.Tie as tie
@@ -29,7 +29,7 @@ first-refusal-requires : tie.Need-first-refusal-requires
 first-refusal-requires c κs = search needs
 
 returns : tie.Need-returns
-returns c = promised _ _ _ _ (sym (lookup-refused _ _ _ _ (number (c .before)) (c .if1 .taken)))
+returns c = promised _ _ _ _ (sym (lookup-early _ _ _ _ (number (c .before)) (c .if1 .taken)))
 
 element-copy-out-root : tie.Need-element-copy-out-root
 element-copy-out-root c = search needs
@@ -47,7 +47,7 @@ cast-follow : tie.Need-cast-follow
 cast-follow c = search needs
 
 follow-requires : tie.Need-follow-requires
-follow-requires c κs = let p = passed _ _ _ _ (zero-number (c .before .before)) in (p .enough, p .width .1)
+follow-requires c κs = let p = tests-passed _ _ _ _ (zero-number (c .before .before)) in (p .enough, p .width .1)
 
 returns-3 : tie.Need-returns-3
 returns-3 c = promised _ _ _ _ (c .follow .ensures ∙ sym (lookup-walks _ _ _ _ (zero-number (c .before .before .before)) (c .before .if2 .left)))
