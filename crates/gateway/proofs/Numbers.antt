@@ -5,15 +5,12 @@ use mathlib.Core.List.{List}
 use mathlib.Core.Logic.{inl, inr}
 use Prim.Native.Nat.{ℕ, _<_, _≤_}
 use native.Mathlib.Omega.{arith}
-use native.Mathlib.Decide.{decLe}
 use lib.ListN.{length}
-use Rattle.table.specs.Refusals.{Test, Gives}
+use Rattle.table.specs.Refusals.{outcomeNumber, outcomeDetail, Gives, Tells}
 use Rattle.table.specs.Table.{tableTests}
 use Rattle.table.specs.Answers.{sharedOutcome, sharedTests, Shares, spanOutcome, zoneTests, Spans}
 use Rattle.table.specs.declared.entry.Outcome.{Outcome}
-use Rattle.table.specs.declared.entry.Outcome.the-variants.{Accepted, Refused}
-use Rattle.table.proofs.Refusals.{gives-unique, refused-not-accepted}
-use Rattle.table.proofs.Numbered.{Numbered, refused-number, numbered-table, numbered-zone, numbered-shared}
+use Rattle.table.proofs.Numbered.{gives-tells, numbered-table, numbered-zone, numbered-shared}
 use Rattle.strides.specs.Cheapest.{Kind, Cheapest}
 use Rattle.walk.specs.Limits.{WIDTH}
 use Rattle.walk.specs.Rows.{Lists, shortest}
@@ -24,7 +21,6 @@ use Rattle.walk.specs.Meaning.{Tested, Looked}
 use Rattle.tries.proofs.ChooseTests.{numbered-choose}
 use Rattle.tries.proofs.BuildSteps.{numbered-build}
 use Rattle.walk.specs.declared.record.Record.{Record}
-use Rattle.table.specs.Refusals.{outcomeNumber, outcomeDetail}
 use Rattle.gateway.specs.Numbers.{Told, outcomeNumbers, sharedNumbers, spanNumbers, choiceNumbers, buildNumbers, answerNumbers}
 use Rattle.gateway.specs.Allowed.{AllowedChoice, AllowedBuild}
 use Rattle.gateway.specs.declared.entries.Checked.{Checked}
@@ -34,26 +30,11 @@ use Rattle.gateway.specs.declared.choosing.ChosenNumbers.{ChosenNumbers}
 use Rattle.gateway.specs.declared.making.BuiltNumbers.{BuiltNumbers}
 use Rattle.gateway.specs.declared.looking.AnswerNumbers.{AnswerNumbers}
 
--- the tests accept where the number is 0; else the test of that number is the first to fail, with that detail
-pub record Tells (ts : List Test) (number detail : ℕ) : Type 0 where
-  pub accepts : number ≡ 0 → Gives ts Accepted
-  pub refuses : 0 < number → Gives ts (Refused number detail)
-
-outcome-tells : (most : ℕ) (ts : List Test) → Numbered most ts → (o : Outcome) → Gives ts o → Tells ts (outcomeNumber o) (outcomeDetail o)
-outcome-tells most ts p Accepted g = record { accepts = λ e. g; refuses = λ h. absurd (omega arith) }
-outcome-tells most ts p (Refused n d) g = record { accepts = λ e. absurd (omega (arith, refused-number most ts n d p g .0)); refuses = λ h. g }
-
-pub tells-zero : (ts : List Test) (n d : ℕ) → Tells ts n d → Gives ts Accepted → n ≡ 0
-tells-zero ts n d t g = elim (decLe 1 n) [
-  | yes p ↦ absurd (refused-not-accepted (gives-unique ts (Refused n d) Accepted (t .refuses p) g))
-  | no p ↦ omega arith
-]
-
 -- ---- each call's numbers
 
 pub checked-tells : (W : ℕ) (vs ls hs : List ℕ) {r : Checked} → Told (Gives (tableTests W vs ls hs)) outcomeNumbers r
     → Tells (tableTests W vs ls hs) (r .number) (r .detail)
-checked-tells W vs ls hs t = rw (t .2) (outcome-tells 5 (tableTests W vs ls hs) (numbered-table 5 (omega arith) W vs ls hs) (t .0) (t .1))
+checked-tells W vs ls hs t = rw (t .2) (gives-tells 5 (tableTests W vs ls hs) (numbered-table 5 (omega arith) W vs ls hs) (t .0) (t .1))
 
 -- a refused shared length has detail 0
 shared-detail : (W a l b m : ℕ) (o : Outcome) → Gives (sharedTests W a l b m) o → outcomeDetail o ≡ 0
@@ -67,18 +48,18 @@ pub shared-bits-tells : (W a l b m : ℕ) {r : SharedNumbers} → Told (Shares W
 shared-bits-tells W a l b m t =
     let o = sharedOutcome (t .0) in
     let g = t .1 .tested in
-    rw (t .2) (subst (Tells (sharedTests W a l b m) (outcomeNumber o)) (shared-detail W a l b m o g) (outcome-tells 10 (sharedTests W a l b m) (numbered-shared W a l b m) o g))
+    rw (t .2) (subst (Tells (sharedTests W a l b m) (outcomeNumber o)) (shared-detail W a l b m o g) (gives-tells 10 (sharedTests W a l b m) (numbered-shared W a l b m) o g))
 
 pub zone-span-tells : (W : ℕ) (vs ls hs : List ℕ) (p b : ℕ) {r : SpanNumbers} → Told (Spans W vs ls hs p b) spanNumbers r
     → Tells (zoneTests W vs ls hs p b) (r .number) (r .detail)
 zone-span-tells W vs ls hs p b t =
-    rw (t .2) (outcome-tells 10 (zoneTests W vs ls hs p b) (numbered-zone W vs ls hs p b) (spanOutcome (t .0)) (t .1 .tested))
+    rw (t .2) (gives-tells 10 (zoneTests W vs ls hs p b) (numbered-zone W vs ls hs p b) (spanOutcome (t .0)) (t .1 .tested))
 
 module _ (kind : Kind) (W k : ℕ) (vs ls hs scratch : List ℕ) where
   pub choice-tells : {s : List ℕ} {r : ChosenNumbers} → Told (AllowedChoice kind W k vs ls hs scratch s) choiceNumbers r
       → Tells (chooseTests W k vs ls hs (length scratch)) (r .number) (r .detail)
   choice-tells t =
-      rw (t .2) (outcome-tells 6 (chooseTests W k vs ls hs (length scratch)) (numbered-choose 6 (omega arith) W k vs ls hs (length scratch)) (t .0 .outcome) (t .1 .tested))
+      rw (t .2) (gives-tells 6 (chooseTests W k vs ls hs (length scratch)) (numbered-choose 6 (omega arith) W k vs ls hs (length scratch)) (t .0 .outcome) (t .1 .tested))
 
   -- where the cheapest choice costs `least`
   pub built-tells : {rows rows′ : Lists} {s : List ℕ} {r : BuiltNumbers} → Told (AllowedBuild kind W k vs ls hs scratch rows s rows′) buildNumbers r
@@ -86,11 +67,11 @@ module _ (kind : Kind) (W k : ℕ) (vs ls hs scratch : List ℕ) where
       → Tells (buildTests W k vs ls hs (length scratch) (shortest rows) least) (r .number) (r .detail)
   built-tells {rows} t least c =
       rw (t .2)
-      (outcome-tells 7 (buildTests W k vs ls hs (length scratch) (shortest rows) least) (numbered-build W k vs ls hs (length scratch) (shortest rows) least) (t .0 .outcome) (t .1 .tested least c))
+      (gives-tells 7 (buildTests W k vs ls hs (length scratch) (shortest rows) least) (numbered-build W k vs ls hs (length scratch) (shortest rows) least) (t .0 .outcome) (t .1 .tested least c))
 
 -- ---- a lookup's number
 
 -- its tests are passed where it is 0; else the test of that number is the first to fail
-pub found-tells : (rec : Record) (ls : Lists) (address : ℕ) {r : AnswerNumbers} → Told (Looked WIDTH rec ls address) answerNumbers r
+pub lookup-tells : (rec : Record) (ls : Lists) (address : ℕ) {r : AnswerNumbers} → Told (Looked WIDTH rec ls address) answerNumbers r
     → Tested WIDTH rec ls address (r .number)
-found-tells rec ls address t = rw (t .2) (t .1 .tested)
+lookup-tells rec ls address t = rw (t .2) (t .1 .tested)

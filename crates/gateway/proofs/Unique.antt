@@ -21,7 +21,7 @@ use Rattle.tries.proofs.Unique.{builds-unique}
 use Rattle.walk.proofs.Unique.{looked-unique}
 use Rattle.gateway.specs.Numbers.{Told, outcomeNumbers, sharedNumbers, spanNumbers, choiceNumbers, buildNumbers, answerNumbers}
 use Rattle.gateway.specs.Allowed.{AllowedChoice, AllowedBuild}
-use Rattle.gateway.specs.Batch.{Columns, columns, foundAt, Written, Answered}
+use Rattle.gateway.specs.Batch.{Columns, columns, answerAt, BatchWritten, Answered}
 use Rattle.gateway.specs.declared.entries.Checked.{Checked}
 use Rattle.gateway.specs.declared.entries.SharedNumbers.{SharedNumbers}
 use Rattle.gateway.specs.declared.entries.SpanNumbers.{SpanNumbers}
@@ -45,9 +45,9 @@ pub zone-span-unique : (W : ℕ) (vs ls hs : List ℕ) (p b : ℕ) {r r′ : Spa
     → Told (Spans W vs ls hs p b) spanNumbers r → Told (Spans W vs ls hs p b) spanNumbers r′ → r ≡ r′
 zone-span-unique W vs ls hs p b = told-unique (spans-unique W vs ls hs p b)
 
-pub found-unique : (rec : Record) (ls : Lists) (address : ℕ) {r r′ : AnswerNumbers}
+pub lookup-unique : (rec : Record) (ls : Lists) (address : ℕ) {r r′ : AnswerNumbers}
     → Told (Looked WIDTH rec ls address) answerNumbers r → Told (Looked WIDTH rec ls address) answerNumbers r′ → r ≡ r′
-found-unique rec ls address = told-unique (λ a b p q. looked-unique p q)
+lookup-unique rec ls address = told-unique (λ a b p q. looked-unique p q)
 
 -- ---- with what is left in the lists
 
@@ -75,8 +75,8 @@ columns-same p q r = rw (p, q, r)
 
 module _ (rec : Record) (ls : Lists) (xs : List ℕ) (cs : Columns) where
   -- the same at every index
-  places-one : {cs1 cs2 : Columns} {n : ℕ} → Written (Looked WIDTH rec ls) xs cs cs1 n → Written (Looked WIDTH rec ls) xs cs cs2 n
-      → (i : ℕ) → foundAt cs1 i ≡ foundAt cs2 i
+  places-one : {cs1 cs2 : Columns} {n : ℕ} → BatchWritten (Looked WIDTH rec ls) xs cs cs1 n → BatchWritten (Looked WIDTH rec ls) xs cs cs2 n
+      → (i : ℕ) → answerAt cs1 i ≡ answerAt cs2 i
   places-one {n = n} w w′ i = elim (decLe n i) [
     | yes p ↦ w .later i p ∙ sym (w′ .later i p)
     | no p ↦ told-unique (λ a b p q. looked-unique p q) (w .told i (omega arith)) (w′ .told i (omega arith))
@@ -87,7 +87,7 @@ module _ (rec : Record) (ls : Lists) (xs : List ℕ) (cs : Columns) where
   answered-unique {cs1} {cs2} {n} {m} a a′ =
       let e : n ≡ m = a .count ∙ sym (a′ .count) in
       let w = a .written in
-      let w′ : Written (Looked WIDTH rec ls) xs cs cs2 n = rw e (a′ .written) in
+      let w′ : BatchWritten (Looked WIDTH rec ls) xs cs cs2 n = rw e (a′ .written) in
       let one = places-one w w′ in (
         e,
         columns-same

@@ -13,12 +13,12 @@ use Rattle.walk.specs.Meaning.{Looked}
 use Rattle.walk.specs.declared.record.Record.{Record}
 use Rattle.walk.specs.declared.walk.Answer.{Answer}
 use Rattle.gateway.specs.Numbers.{Told, answerNumbers}
-use Rattle.gateway.specs.Batch.{Columns, columns, foundAt, Exactly, Written}
+use Rattle.gateway.specs.Batch.{Columns, columns, answerAt, ExactAnswer, BatchWritten}
 use Rattle.gateway.specs.declared.looking.AnswerNumbers.{AnswerNumbers}
 
 -- both clauses of the lookup's promise
 abbrev pub Promised : Record → Lists → (address : ℕ) → Answer → Type 0
-Promised rec ls address a = Exactly rec ls address a × Looked WIDTH rec ls address a
+Promised rec ls address a = ExactAnswer rec ls address a × Looked WIDTH rec ls address a
 
 -- an answer put at index i of the lists
 abbrev pub putAnswer : Columns → ℕ → AnswerNumbers → Columns
@@ -27,11 +27,11 @@ putAnswer cs i f = columns (set (cs .number) i (f .number)) (set (cs .hop) i (f 
 found-same : {a a′ b b′ c c′ : ℕ} → a ≡ a′ → b ≡ b′ → c ≡ c′ → _≡_ {A = AnswerNumbers} (record { number = a; hop = b; reads = c }) (record { number = a′; hop = b′; reads = c′ })
 found-same p q r = rw (p, q, r)
 
-put-here : (cs : Columns) (i : ℕ) (f : AnswerNumbers) → i < length (cs .number) → i < length (cs .hop) → i < length (cs .reads) → foundAt (putAnswer cs i f) i ≡ f
+put-here : (cs : Columns) (i : ℕ) (f : AnswerNumbers) → i < length (cs .number) → i < length (cs .hop) → i < length (cs .reads) → answerAt (putAnswer cs i f) i ≡ f
 put-here cs i f a b c =
     found-same (getD-set-same (cs .number) i (f .number) 0 a) (getD-set-same (cs .hop) i (f .hop) 0 b) (getD-set-same (cs .reads) i (f .reads) 0 c)
 
-put-elsewhere : (cs : Columns) (i k : ℕ) (f : AnswerNumbers) → (k ≡ i → ⊥) → foundAt (putAnswer cs i f) k ≡ foundAt cs k
+put-elsewhere : (cs : Columns) (i k : ℕ) (f : AnswerNumbers) → (k ≡ i → ⊥) → answerAt (putAnswer cs i f) k ≡ answerAt cs k
 put-elsewhere cs i k f ne =
     found-same
     (getD-set-other (cs .number) i k (f .number) 0 ne)
@@ -39,14 +39,14 @@ put-elsewhere cs i k f ne =
     (getD-set-other (cs .reads) i k (f .reads) 0 ne)
 
 module _ {Allows : (address : ℕ) → Answer → Type 0} {xs : List ℕ} {cs : Columns} where
-  pub written-none : Written Allows xs cs cs 0
+  pub written-none : BatchWritten Allows xs cs cs 0
   written-none = record { told = λ i h. absurd (omega arith); later = λ i h. refl; numbers = refl; hops = refl; counts = refl }
 
-  pub written-more : {now : Columns} {i : ℕ} {f : AnswerNumbers} → Written Allows xs cs now i
+  pub written-more : {now : Columns} {i : ℕ} {f : AnswerNumbers} → BatchWritten Allows xs cs now i
       → i < length (now .number) → i < length (now .hop) → i < length (now .reads)
-      → Told (Allows (at xs i)) answerNumbers f → Written Allows xs cs (putAnswer now i f) (i + 1)
+      → Told (Allows (at xs i)) answerNumbers f → BatchWritten Allows xs cs (putAnswer now i f) (i + 1)
   written-more {now} {i} {f} w a b c t = record {
-    told = below-more (λ (k : ℕ). Told (Allows (at xs k)) answerNumbers (foundAt (putAnswer now i f) k)) i
+    told = below-more (λ (k : ℕ). Told (Allows (at xs k)) answerNumbers (answerAt (putAnswer now i f) k)) i
         (λ k h. let u = w .told k h in (u .0, u .1, put-elsewhere now i k f (λ e. omega arith) ∙ u .2))
         (t .0, t .1, put-here now i f a b c ∙ t .2);
     later = λ k h. put-elsewhere now i k f (λ e. omega arith) ∙ w .later k (omega arith);
@@ -57,7 +57,7 @@ module _ {Allows : (address : ℕ) → Answer → Type 0} {xs : List ℕ} {cs : 
 
 -- what is written by a promise is written by one that follows from it
 pub written-by : {Allows Also : (address : ℕ) → Answer → Type 0} {xs : List ℕ} {cs cs′ : Columns} {n : ℕ}
-    → ((x : ℕ) (a : Answer) → Allows x a → Also x a) → Written Allows xs cs cs′ n → Written Also xs cs cs′ n
+    → ((x : ℕ) (a : Answer) → Allows x a → Also x a) → BatchWritten Allows xs cs cs′ n → BatchWritten Also xs cs cs′ n
 written-by {xs = xs} f w = record {
   told = λ i h. let u = w .told i h in (u .0, f (at xs i) (u .0) (u .1), u .2);
   later = w .later;

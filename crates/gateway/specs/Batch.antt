@@ -22,18 +22,18 @@ abbrev pub columns : (number hop reads : List ℕ) → Columns
 columns number hop reads = record { number = number; hop = hop; reads = reads }
 
 -- what stands at an index of them
-abbrev pub foundAt : Columns → ℕ → AnswerNumbers
-foundAt cs i = record { number = at (cs .number) i; hop = at (cs .hop) i; reads = at (cs .reads) i }
+abbrev pub answerAt : Columns → ℕ → AnswerNumbers
+answerAt cs i = record { number = at (cs .number) i; hop = at (cs .hop) i; reads = at (cs .reads) i }
 
 -- the answer of a lookup, as a function
-abbrev pub Exactly : Record → Lists → (address : ℕ) → Answer → Type 0
-Exactly rec ls address a = a ≡ lookupOf WIDTH rec ls address
+abbrev pub ExactAnswer : Record → Lists → (address : ℕ) → Answer → Type 0
+ExactAnswer rec ls address a = a ≡ lookupOf WIDTH rec ls address
 
 -- the first n addresses are answered: at each index stand the numbers of an answer that the lookup's promise allows for that
 -- address, and every later place is kept
-pub record Written (Allows : (address : ℕ) → Answer → Type 0) (xs : List ℕ) (cs cs′ : Columns) (n : ℕ) : Type 0 where
-  pub told : (i : ℕ) → i < n → Told (Allows (at xs i)) answerNumbers (foundAt cs′ i)
-  pub later : (i : ℕ) → n ≤ i → foundAt cs′ i ≡ foundAt cs i
+pub record BatchWritten (Allows : (address : ℕ) → Answer → Type 0) (xs : List ℕ) (cs cs′ : Columns) (n : ℕ) : Type 0 where
+  pub told : (i : ℕ) → i < n → Told (Allows (at xs i)) answerNumbers (answerAt cs′ i)
+  pub later : (i : ℕ) → n ≤ i → answerAt cs′ i ≡ answerAt cs i
   pub numbers : length (cs′ .number) ≡ length (cs .number)
   pub hops : length (cs′ .hop) ≡ length (cs .hop)
   pub counts : length (cs′ .reads) ≡ length (cs .reads)
@@ -41,4 +41,4 @@ pub record Written (Allows : (address : ℕ) → Answer → Type 0) (xs : List �
 -- as many as the shortest of the address list and the answer lists has
 pub record Answered (Allows : (address : ℕ) → Answer → Type 0) (xs : List ℕ) (cs cs′ : Columns) (n : ℕ) : Type 0 where
   pub count : n ≡ min (length xs) (min (length (cs .number)) (min (length (cs .hop)) (length (cs .reads))))
-  pub written : Written Allows xs cs cs′ n
+  pub written : BatchWritten Allows xs cs cs′ n

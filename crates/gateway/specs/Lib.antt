@@ -1,3 +1,4 @@
+-- What a caller in C reads: the numbers of each answer; what the choosers and builds may answer and leave; the batch.
 pub mod Numbers
 pub mod Allowed
 pub mod Batch

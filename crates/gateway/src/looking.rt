@@ -6,7 +6,7 @@ ghost use Rattle.walk.specs.Answers.{hopOf};
 ghost use Rattle.walk.specs.Lookup.{lookupOf};
 ghost use Rattle.walk.specs.Meaning.{Looked};
 ghost use Rattle.gateway.specs.Numbers.{Told, answerNumbers};
-ghost use Rattle.gateway.specs.Batch.{columns, Exactly, Answered};
+ghost use Rattle.gateway.specs.Batch.{columns, ExactAnswer, Answered};
 use table::smaller;
 use tries::Answer;
 use tries::Record;
@@ -88,7 +88,7 @@ pub extern "C" fn hongsamuk_lookup_batch(
     reads: &mut [u32],
 ) -> usize
     ensures exact { λ r. ⌜
-        Answered (Exactly rec (lists (now (hops .entry)) (now (links .entry)) (now (strides .entry)))) (now (address .entry))
+        Answered (ExactAnswer rec (lists (now (hops .entry)) (now (links .entry)) (now (strides .entry)))) (now (address .entry))
         (columns (now (number .entry)) (now (hop .entry)) (now (reads .entry)))
         (columns (now (number .exit)) (now (hop .exit)) (now (reads .exit))) r ⌝ }
     ensures meaning { λ r. ⌜

@@ -11,7 +11,7 @@ use Rattle.walk.specs.Rows.{Row}
 use Rattle.walk.specs.declared.record.Record.{Record}
 use Rattle.walk.specs.Rows.{Lists}
 use Rattle.layout.specs.Laid.{tableTrie, Laid}
-use Rattle.layout.specs.Blocks.{Hold, Strides, wide, passed, leftOf, linkTo, strideOf, rowBelow, listOf, blockRows, levelRows, firstRow, levelsRows, rowsOf, rowCount, Begun, blocksAlong}
+use Rattle.layout.specs.Blocks.{Hold, Strides, wide, passed, leftOf, linkTo, strideOf, rowBelow, listOf, blockRows, levelRows, firstRow, levelsRows, rowsOf, rowCount, Begun, blocksAlong, Agree}
 
 -- one step along a path, with what stands left of it
 at-none : (i : ℕ) (f : Trie → ℕ) → f none ≡ 0 → passed i 0 + f (kid i none) ≡ 0
@@ -24,18 +24,7 @@ at-node zero p a q b f g e l r = ap (λ (y : ℕ). 0 + y) l
 at-node (suc i) p a q b f g e l r = ap₂ (λ (y z : ℕ). y + z) e r
 
 module _ (σ τ : Strides) where
-  -- they agree wherever a block begins, and each block has a stride
-  abbrev pub Agree : Trie → (c r : ℕ) → Type 0
-  Agree none c r = Unit {0}
-  Agree (node p a q b) (suc c) r = Agree a c r × Agree b c r
-  Agree (node p a q b) zero zero = ⊥
-  Agree (node p a q b) zero (suc r) =
-      (1 ≤ σ (suc r) (node p a q b))
-      × (σ (suc r) (node p a q b) ≡ τ (suc r) (node p a q b))
-      × Agree a (pred (σ (suc r) (node p a q b))) r
-      × Agree b (pred (σ (suc r) (node p a q b))) r
-
-  pub same-agree : (t : Trie) (w c r : ℕ) → Good σ t w c r → SameBlocks t c (choiceBy σ t c r) (choiceBy τ t c r) → Agree t c r
+  pub same-agree : (t : Trie) (w c r : ℕ) → Good σ t w c r → SameBlocks t c (choiceBy σ t c r) (choiceBy τ t c r) → Agree σ τ t c r
   unfolding choiceBy
   same-agree none w c r g s = tt
   same-agree (node p a q b) zero c r g s = absurd g
@@ -49,7 +38,7 @@ module _ (σ τ : Strides) where
       (g .0, e, same-agree a w (pred x) r (g .2) l, same-agree b w (pred x) r (g .3) m)
 
   -- strides agree with themselves
-  pub good-agree : ((r : ℕ) (u : Trie) → σ r u ≡ τ r u) → (t : Trie) (w c r : ℕ) → Good σ t w c r → Agree t c r
+  pub good-agree : ((r : ℕ) (u : Trie) → σ r u ≡ τ r u) → (t : Trie) (w c r : ℕ) → Good σ t w c r → Agree σ τ t c r
   good-agree e none w c r g = tt
   good-agree e (node p a q b) zero c r g = absurd g
   good-agree e (node p a q b) (suc w) (suc c) r g = (good-agree e a w c r (g .0), good-agree e b w c r (g .1))
@@ -57,7 +46,7 @@ module _ (σ τ : Strides) where
   good-agree e (node p a q b) (suc w) zero (suc r) g =
       let s = pred (σ (suc r) (node p a q b)) in (g .0, e (suc r) (node p a q b), good-agree e a w s r (g .2), good-agree e b w s r (g .3))
 
-  pub wide-same : (t : Trie) (c n r : ℕ) → Agree t c r → wide σ t c n r ≡ wide τ t c n r
+  pub wide-same : (t : Trie) (c n r : ℕ) → Agree σ τ t c r → wide σ t c n r ≡ wide τ t c n r
   unfolding wide
   wide-same none c n r g = refl
   wide-same (node p a q b) (suc c) n r g = ap₂ (λ (x y : ℕ). x + y) (wide-same a c n r (g .0)) (wide-same b c n r (g .1))
@@ -76,7 +65,7 @@ module _ (σ τ : Strides) where
   left-none ρ (suc w) zero (suc n) (suc r) x =
       let c = pred (ρ (suc r) none) in at-none (bit w x) (λ u. leftOf ρ w u c n r x) (left-none ρ w c n r x)
 
-  left-agree : (w : ℕ) (t : Trie) (c n r x : ℕ) → Agree t c r → leftOf σ w t c n r x ≡ leftOf τ w t c n r x
+  left-agree : (w : ℕ) (t : Trie) (c n r x : ℕ) → Agree σ τ t c r → leftOf σ w t c n r x ≡ leftOf τ w t c n r x
   unfolding leftOf
   left-agree w none c n r x g = left-none σ w c n r x ∙ sym (left-none τ w c n r x)
   left-agree zero (node p a q b) c n r x g = refl
@@ -91,24 +80,24 @@ module _ (σ τ : Strides) where
       (left-agree w a c n r x (g .2)) (left-agree w b c n r x (g .3)))
 
   -- where the next blocks begin
-  kid-agree : (i : ℕ) (t : Trie) (c r : ℕ) → Agree t (suc c) r → Agree (kid i t) c r
+  kid-agree : (i : ℕ) (t : Trie) (c r : ℕ) → Agree σ τ t (suc c) r → Agree σ τ (kid i t) c r
   kid-agree zero none c r g = tt
   kid-agree (suc i) none c r g = tt
   kid-agree zero (node p a q b) c r g = g .0
   kid-agree (suc i) (node p a q b) c r g = g .1
 
-  sub-agree : (c : ℕ) (t : Trie) (r x : ℕ) → Agree t c r → Agree (subAlong c t x) 0 r
+  sub-agree : (c : ℕ) (t : Trie) (r x : ℕ) → Agree σ τ t c r → Agree σ τ (subAlong c t x) 0 r
   unfolding subAlong
   sub-agree zero t r x g = g
   sub-agree (suc c) t r x g = sub-agree c (kid (bit c x) t) r x (kid-agree (bit c x) t c r g)
 
-  pub stride-same : (t : Trie) (r : ℕ) → Agree t 0 r → strideOf σ r t ≡ strideOf τ r t
+  pub stride-same : (t : Trie) (r : ℕ) → Agree σ τ t 0 r → strideOf σ r t ≡ strideOf τ r t
   stride-same none r g = refl
   stride-same (node p a q b) zero g = absurd g
   stride-same (node p a q b) (suc r) g = g .1
 
   -- the blocks on an address's path
-  pub blocks-same : (w : ℕ) (t : Trie) (c n r x : ℕ) → Agree t c r → blocksAlong σ w t c n r x ≡ blocksAlong τ w t c n r x
+  pub blocks-same : (w : ℕ) (t : Trie) (c n r x : ℕ) → Agree σ τ t c r → blocksAlong σ w t c n r x ≡ blocksAlong τ w t c n r x
   unfolding blocksAlong
   blocks-same zero t c n r x g = refl
   blocks-same (suc w) none c n r x g = refl
@@ -119,7 +108,7 @@ module _ (σ τ : Strides) where
       let rest = blocks-same w (kid (bit w x) (node p a q b)) s (suc n) r x (kid-agree (bit w x) (node p a q b) s r (g .2, g .3)) in
       rw (sym (g .1)) (ap (λ (bs : List Begun). record { level = n; stride = σ (suc r) (node p a q b); bits = suc w } ∷ bs) rest)
 
-  row-same : (c r : ℕ) (t : Trie) (best free x : ℕ) → Agree t c r → rowBelow σ c r t best free x ≡ rowBelow τ c r t best free x
+  row-same : (c r : ℕ) (t : Trie) (best free x : ℕ) → Agree σ τ t c r → rowBelow σ c r t best free x ≡ rowBelow τ c r t best free x
   unfolding rowBelow
   row-same c r t best free x g = rw (left-agree c t c 0 r x g, stride-same (subAlong c t x) r (sub-agree c t r x g)) refl
 
@@ -128,16 +117,16 @@ module _ (σ τ : Strides) where
   list-same zero f g h = refl
   list-same (suc n) f g h = ap₂ (λ (y : Row) (ys : List Row). y ∷ ys) (h 0) (list-same n (λ i. f (suc i)) (λ i. g (suc i)) (λ i. h (suc i)))
 
-  block-same : (r : ℕ) (p : ℕ) (a : Trie) (q : ℕ) (b : Trie) (free : ℕ) → Agree (node p a q b) 0 (suc r) → blockRows σ r (node p a q b) free ≡ blockRows τ r (node p a q b) free
+  block-same : (r : ℕ) (p : ℕ) (a : Trie) (q : ℕ) (b : Trie) (free : ℕ) → Agree σ τ (node p a q b) 0 (suc r) → blockRows σ r (node p a q b) free ≡ blockRows τ r (node p a q b) free
   unfolding blockRows
   block-same r p a q b free g =
       let t = node p a q b in
       let s = σ (suc r) t in
       let e : suc (pred s) ≡ s = omega (arith, g .0) in
-      let under : Agree t s r = subst (λ (y : ℕ). Agree t y r) e (g .2, g .3) in
+      let under : Agree σ τ t s r = subst (λ (y : ℕ). Agree σ τ t y r) e (g .2, g .3) in
       rw (sym (g .1)) (list-same (2 ^ s) (rowBelow σ s r t 0 free) (rowBelow τ s r t 0 free) (λ i. row-same s r t 0 free i under))
 
-  level-same : (t : Trie) (c n r free : ℕ) → Agree t c r → levelRows σ t c n r free ≡ levelRows τ t c n r free
+  level-same : (t : Trie) (c n r free : ℕ) → Agree σ τ t c r → levelRows σ t c n r free ≡ levelRows τ t c n r free
   unfolding levelRows
   level-same none c n r free g = refl
   level-same (node p a q b) (suc c) n r free g =
@@ -150,7 +139,7 @@ module _ (σ τ : Strides) where
       rw (sym (g .1)) (ap₂ (λ (y z : List Row). y ++ z) (level-same a s n r free (g .2))
       (level-same b s n r (free + wide σ a s (suc n) r) (g .3) ∙ ap (λ (y : ℕ). levelRows τ b s n r (free + y)) (wide-same a s (suc n) r (g .2))))
 
-  module _ (t : Trie) (k : ℕ) (g : Agree t 0 k) where
+  module _ (t : Trie) (k : ℕ) (g : Agree σ τ t 0 k) where
     first-same : (n : ℕ) → firstRow σ t k n ≡ firstRow τ t k n
     unfolding firstRow
     first-same zero = refl

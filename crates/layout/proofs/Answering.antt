@@ -10,18 +10,18 @@ use native.Mathlib.Nat.{mod-lt}
 use native.Mathlib.Decide.{decLe}
 use lib.ListN.{length, length-map}
 use lib.Pow.{pow-pos, shr-shr}
-use Rattle.strides.specs.Trie.{Trie, none, node, Some, left, right, kid, bit, newer, markAlong, subAlong}
+use Rattle.table.specs.Longest.{newer}
+use Rattle.strides.specs.Trie.{Trie, none, node, Some, left, right, kid, bit, markAlong, subAlong}
 use Rattle.strides.specs.Strides.{Good}
 use Rattle.strides.proofs.Paths.{bit-mod, bit-shr, some?, SameBits, sub-none, mark-none, sub-split, mark-same, sub-same, mark-newer, mark-split}
 use Rattle.walk.specs.declared.record.Record.{Record}
 use Rattle.walk.specs.Rows.{Row, Lists, shortest, rowAt, root, rowOf}
-use Rattle.walk.specs.Answers.{better, latest, answer}
+use Rattle.walk.specs.Answers.{latest, answer}
 use Rattle.walk.specs.Lookup.{pathRows, lookupOf}
-use Rattle.walk.specs.Meaning.{Readable, Path, last, on, OnPath, empty, walked}
+use Rattle.walk.specs.Meaning.{Passed, Readable, Path, last, on, OnPath, empty, walked}
 use Rattle.layout.specs.Blocks.{Strides, wide, passed, leftOf, linkTo, strideOf, rowBelow, blockRows, levelRows, firstRow, levelsRows, rowsOf, rowCount, Hold, Begun, blocksAlong}
 use Rattle.layout.specs.Blocks.{blockRow, rowIn, rowsAlong}
 use Rattle.layout.specs.Laid.{LaidTrie}
-use Rattle.walk.proofs.Tests.{Passed}
 use Rattle.walk.proofs.Looked.{path-answer}
 use Rattle.walk.proofs.Reading.{path-rows}
 use Rattle.layout.proofs.GoodStrides.{good-level, good-root, good-block}
@@ -133,7 +133,7 @@ module _ (σ : Strides) (ls : Lists) (e : ℕ) where
   abbrev rowsHere : (x k w : ℕ) → Trie → (ℕ → ℕ) → List ℕ
   rowsHere x k w t at = map (rowIn x (λ n. at n + leftOf σ w t 0 n k x)) (blocksAlong σ w t 0 0 k x)
 
-  record Reached (x k w : ℕ) (t : Trie) (at : ℕ → ℕ) : Type 0 where
+  record PathRead (x k w : ℕ) (t : Trie) (at : ℕ → ℕ) : Type 0 where
     pub path : Path e x (rowAt ls) k (at 0) (σ k t) w (rowsHere x k w t at) true
     pub best : (b : ℕ) → latest (rowAt ls) b (rowsHere x k w t at) ≡ markAlong w t x b
 
@@ -149,8 +149,8 @@ module _ (σ : Strides) (ls : Lists) (e : ℕ) where
     abbrev row : ℕ
     row = rowOf x (at 0) (suc s) w
 
-    abbrev next : ℕ → ℕ
-    next n = at (suc n) + leftOf σ (suc s) t (suc s) n r cut
+    abbrev nextFirst : ℕ → ℕ
+    nextFirst n = at (suc n) + leftOf σ (suc s) t (suc s) n r cut
 
     index-lt : cut % 2 ^ suc s < 2 ^ suc s
     index-lt = mod-lt cut (pow-pos (suc s))
@@ -171,7 +171,7 @@ module _ (σ : Strides) (ls : Lists) (e : ℕ) where
     unfolding rowOf
     readable = record { stride = omega arith; fits = le; within = omega (arith, rw (wide-own σ t r some, h) at (l .fits 0), index-lt) }
 
-    pub lies-next : Lies sub 0 r next
+    pub lies-next : Lies sub 0 r nextFirst
     lies-next = lies-along (suc s) t r (λ n. at (suc n)) cut (lies-below t r s at h l)
 
     -- the rows on the path from here, and from the child block
@@ -183,7 +183,7 @@ module _ (σ : Strides) (ls : Lists) (e : ℕ) where
         ∙ ap (λ (l : List ℕ). f (record { level = 0; stride = suc s; bits = w }) ∷ l)
         (ap (map f) (blocks-split σ (suc s) (w - suc s) w t 1 r x (omega arith)) ∙ blocks-deeper σ f (w - suc s) sub 0 0 r x)
 
-    rows-next : rowsHere x (suc r) w t at ≡ row ∷ rowsHere x r (w - suc s) sub next
+    rows-next : rowsHere x (suc r) w t at ≡ row ∷ rowsHere x r (w - suc s) sub nextFirst
     rows-next =
         let first : ℕ → ℕ = λ n. at n + leftOf σ w t 0 n (suc r) x in
         let own : first 0 ≡ at 0 = omega (arith, left-own σ w t (suc r) x) in
@@ -191,7 +191,7 @@ module _ (σ : Strides) (ls : Lists) (e : ℕ) where
         ∙ ap₂ (λ (b : ℕ) (rs : List ℕ). rowOf x b (suc s) w ∷ rs) own
         (map-same _ _ (blocksAlong σ (w - suc s) sub 0 0 r x) (λ b. ap (λ (v : ℕ). rowOf x v (b .stride) (b .bits)) (later (b .level))))
       where
-        later : (n : ℕ) → at (suc n) + leftOf σ w t 0 (suc n) (suc r) x ≡ next n + leftOf σ (w - suc s) sub 0 n r x
+        later : (n : ℕ) → at (suc n) + leftOf σ w t 0 (suc n) (suc r) x ≡ nextFirst n + leftOf σ (w - suc s) sub 0 n r x
         later n = omega (arith, left-below σ w t n r s x h, left-split σ (suc s) (w - suc s) w t n r x (omega arith))
 
     row-hop-is : rowAt ls row .hop ≡ markAlong (suc s) t cut 0
@@ -199,13 +199,12 @@ module _ (σ : Strides) (ls : Lists) (e : ℕ) where
     row-hop-is = ap (λ (v : Row). v .hop) row-is
 
     -- the best after the row
-    best-next : (best : ℕ) → markAlong w t x best ≡ markAlong (w - suc s) sub x (better (rowAt ls row .hop) best)
-    unfolding better
+    best-next : (best : ℕ) → markAlong w t x best ≡ markAlong (w - suc s) sub x (newer (rowAt ls row .hop) best)
     best-next best =
         mark-split (suc s) (w - suc s) w t x best (omega arith)
         ∙ ap (markAlong (w - suc s) sub x) (mark-newer (suc s) t cut best ∙ ap (λ (v : ℕ). newer v best) (sym row-hop-is))
 
-    link-is : rowAt ls row .link ≡ linkTo sub (next 0)
+    link-is : rowAt ls row .link ≡ linkTo sub (nextFirst 0)
     unfolding rowBelow
     link-is = ap (λ (v : Row). v .link) row-is
 
@@ -214,29 +213,29 @@ module _ (σ : Strides) (ls : Lists) (e : ℕ) where
     stride-is = ap (λ (v : Row). v .stride) row-is
 
     -- no child block: the path ends
-    reached-last : sub ≡ none → Reached x (suc r) w t at
+    reached-last : sub ≡ none → PathRead x (suc r) w t at
     unfolding latest
     reached-last z =
         let m = w - suc s in
-        let nothing : rowsHere x r m sub next ≡ [] = ap (map _) (ap (λ (u : Trie). blocksAlong σ m u 0 0 r x) z ∙ blocks-none σ m 0 0 r x) in
+        let nothing : rowsHere x r m sub nextFirst ≡ [] = ap (map _) (ap (λ (u : Trie). blocksAlong σ m u 0 0 r x) z ∙ blocks-none σ m 0 0 r x) in
         let list : rowsHere x (suc r) w t at ≡ row ∷ [] = rows-next ∙ ap (λ (rs : List ℕ). row ∷ rs) nothing in
         let ends : (b : ℕ) → markAlong m sub x b ≡ b = λ b. rw z (mark-none m x b) in
         record {
-          path = rw (list, h) (last readable (link-is ∙ ap (λ (u : Trie). linkTo u (next 0)) z));
-          best = λ b. rw list (sym (best-next b ∙ ends (better (rowAt ls row .hop) b)));
+          path = rw (list, h) (last readable (link-is ∙ ap (λ (u : Trie). linkTo u (nextFirst 0)) z));
+          best = λ b. rw list (sym (best-next b ∙ ends (newer (rowAt ls row .hop) b)));
         }
 
     -- a child block: the path goes on there
-    reached-on : Some sub → Reached x r (w - suc s) sub next → Reached x (suc r) w t at
+    reached-on : Some sub → PathRead x r (w - suc s) sub nextFirst → PathRead x (suc r) w t at
     unfolding latest
     reached-on g c =
-        let to : rowAt ls row .link ≡ next 0 = link-is ∙ link-some sub g (next 0) in
+        let to : rowAt ls row .link ≡ nextFirst 0 = link-is ∙ link-some sub g (nextFirst 0) in
         let st : rowAt ls row .stride ≡ σ r sub = stride-is ∙ stride-some sub g in
-        let there : Path e x (rowAt ls) r (rowAt ls row .link) (rowAt ls row .stride) (w - suc s) (rowsHere x r (w - suc s) sub next) true =
+        let there : Path e x (rowAt ls) r (rowAt ls row .link) (rowAt ls row .stride) (w - suc s) (rowsHere x r (w - suc s) sub nextFirst) true =
         rw (to, st) (c .path) in
         record {
           path = rw (rows-next, h) (on readable (rw to positive) there);
-          best = λ b. rw rows-next (c .best (better (rowAt ls row .hop) b) ∙ sym (best-next b));
+          best = λ b. rw rows-next (c .best (newer (rowAt ls row .hop) b) ∙ sym (best-next b));
         }
       where
         link-some : (u : Trie) → Some u → (v : ℕ) → linkTo u v ≡ v
@@ -247,10 +246,10 @@ module _ (σ : Strides) (ls : Lists) (e : ℕ) where
         stride-some none k = absurd k
         stride-some (node p a q b) k = refl
 
-        positive : 0 < next 0
+        positive : 0 < nextFirst 0
         positive = omega (arith, l .positive 0)
 
-  reached : (x k w : ℕ) (t : Trie) (at : ℕ → ℕ) → Some t → Good σ t w 0 k → Lies t 0 k at → Reached x k w t at
+  reached : (x k w : ℕ) (t : Trie) (at : ℕ → ℕ) → Some t → Good σ t w 0 k → Lies t 0 k at → PathRead x k w t at
   reached x zero w t at some good l = absurd (omega (arith, good-level σ t w 0 some good))
   reached x (suc r) w t at some good l =
       let b = good-block σ t w r some good in
@@ -264,8 +263,8 @@ module _ (σ : Strides) (ls : Lists) (e : ℕ) where
   -- address's path in the whole trie T of width W
   module _ (x W : ℕ) (T : Trie) (said : ℕ → ℕ → ℕ)
       (told : (d s : ℕ) → d + s ≤ W → markAlong s (subAlong d T (x / 2 ^ (W - d))) (x / 2 ^ (W - (d + s))) 0 ≡ said d (d + s)) where
-    abbrev hopIn : Begun → ℕ
-    hopIn b = said (W - b .bits) (W - b .bits + b .stride)
+    abbrev hopSaid : Begun → ℕ
+    hopSaid b = said (W - b .bits) (W - b .bits + b .stride)
 
     -- where w bits are left, the subtrie is that of the address's first bits
     abbrev At : (w : ℕ) → Trie → Type 0
@@ -285,17 +284,17 @@ module _ (σ : Strides) (ls : Lists) (e : ℕ) where
         rw (a .1) (rw (d, c) at (told (W - w) s (omega (arith, a .0))))
 
     hops-none : (k w : ℕ) (t : Trie) (at : ℕ → ℕ) → t ≡ none
-        → map (λ r. rowAt ls r .hop) (rowsHere x k w t at) ≡ map hopIn (blocksAlong σ w t 0 0 k x)
+        → map (λ r. rowAt ls r .hop) (rowsHere x k w t at) ≡ map hopSaid (blocksAlong σ w t 0 0 k x)
     hops-none k w t at z = let e : blocksAlong σ w t 0 0 k x ≡ [] = rw z (blocks-none σ w 0 0 k x) in rw e
 
     hops : (k w : ℕ) (t : Trie) (at : ℕ → ℕ) → At w t → Some t → Good σ t w 0 k → Lies t 0 k at
-        → map (λ r. rowAt ls r .hop) (rowsHere x k w t at) ≡ map hopIn (blocksAlong σ w t 0 0 k x)
+        → map (λ r. rowAt ls r .hop) (rowsHere x k w t at) ≡ map hopSaid (blocksAlong σ w t 0 0 k x)
     hops zero w t at a some good l = absurd (omega (arith, good-level σ t w 0 some good))
     hops (suc r) w t at a some good l =
         let b = good-block σ t w r some good in
         let s = b .s in
         let m = w - suc s in
-        let to = next x r s w t at some (b .stride) (b .fits) l in
+        let to = nextFirst x r s w t at some (b .stride) (b .fits) l in
         let u = subAlong (suc s) t (x / 2 ^ m) in
         ap (map (λ r. rowAt ls r .hop)) (rows-next x r s w t at some (b .stride) (b .fits) l)
         ∙ ap₂ (λ (v : ℕ) (vs : List ℕ). v ∷ vs)
@@ -303,7 +302,7 @@ module _ (σ : Strides) (ls : Lists) (e : ℕ) where
         (⊎-elim (hops-none r m u to)
         (λ k. hops r m u to (at-next w (suc s) t (b .fits) a) k (b .child (x / 2 ^ m)) (lies-next x r s w t at some (b .stride) (b .fits) l))
         (some? u))
-        ∙ sym (blocks-next x r s w t at some (b .stride) (b .fits) l hopIn)
+        ∙ sym (blocks-next x r s w t at some (b .stride) (b .fits) l hopSaid)
 
 -- ---- the whole trie
 module _ (σ : Strides) (t : Trie) (k : ℕ) (ls : Lists) where

@@ -48,7 +48,7 @@ module _ (σ : Strides) where
       go e h = rw e at h
 
   -- a block: its stride, and what is good for the child that bits lead to
-  pub record Block (w r : ℕ) (t : Trie) : Type 0 where
+  pub record GoodBlock (w r : ℕ) (t : Trie) : Type 0 where
     pub s : ℕ
     pub stride : σ (suc r) t ≡ suc s
     pub fits : suc s ≤ w
@@ -65,7 +65,7 @@ module _ (σ : Strides) where
       side zero a b = a
       side (suc i) a b = b
 
-  pub good-block : (t : Trie) (w r : ℕ) → Some t → Good σ t w 0 (suc r) → Block w r t
+  pub good-block : (t : Trie) (w r : ℕ) → Some t → Good σ t w 0 (suc r) → GoodBlock w r t
   good-block t w r some good =
       let g = good-stride t w r some good in
       let s = pred (σ (suc r) t) in

@@ -15,9 +15,9 @@ use Rattle.strides.proofs.Longest.{mark-block, last-mark-is-longest}
 use Rattle.walk.specs.declared.record.Record.{Record}
 use Rattle.walk.specs.declared.walk.Answer.the-variants.{NoRoute}
 use Rattle.walk.specs.Rows.{Lists, shortest, rowAt}
-use Rattle.walk.specs.Answers.{hopOf, readsOf, Accepted, answer}
+use Rattle.walk.specs.Answers.{hopOf, readsOf, NotRefused, answer}
 use Rattle.walk.specs.Lookup.{pathRows, lookupOf}
-use Rattle.layout.specs.Blocks.{Strides, blocksAlong, rowsAlong}
+use Rattle.layout.specs.Blocks.{Strides, blocksAlong, blockCount, rowsAlong}
 use Rattle.layout.specs.Laid.{tableTrie, Laid, NoPrefix, LongestHop}
 use Rattle.walk.proofs.Answers.{answer-has, answer-number}
 use Rattle.walk.proofs.Reading.{reads-most, lookup-local}
@@ -28,33 +28,29 @@ module _ {most W : ℕ} {vs ls hs : List ℕ} {σ : Strides} {k : ℕ} {rec : Re
   hop-some : (i : ℕ) → i < length vs → 0 < at hs i
   hop-some i h = g .table .entry i h .some-hop
 
-  -- the number of blocks on the address's path: of the nodes that begin it and at which the strides begin a block
-  abbrev pub blocks : (a : ℕ) → ℕ
-  blocks a = length (blocksAlong σ W (tableTrie W vs ls hs) 0 0 k a)
-
   -- ---- E is what the strides cost
   pub elements-cost : rec .elements ≡ costBy σ (tableTrie W vs ls hs) 0 k
   elements-cost = g .built .elements ∙ rw (g .levels) (count-cost σ (tableTrie W vs ls hs) k)
 
   module _ (a : ℕ) (small : a < 2 ^ W) where
     -- ---- the longest prefix
-    pub lookup-longest : lookupOf most rec rows a ≡ answer (longest W (at vs) (at ls) (at hs) (length vs) a) (blocks a)
+    pub lookup-longest : lookupOf most rec rows a ≡ answer (longest W (at vs) (at ls) (at hs) (length vs) a) (blockCount σ W (tableTrie W vs ls hs) k a)
     lookup-longest =
         let along = last-mark-is-longest W (at vs) (at ls) (at hs) (length vs) (λ i h. g .table .entry i h .prefix) hop-some a small in
         lookup-built (g .built) a (rw (g .width) small) ∙ rw (g .width, g .levels, g .floor, along)
 
-    pub accepted : Accepted (lookupOf most rec rows a)
-    accepted = rw lookup-longest (answer-number _ (blocks a))
+    pub accepted : NotRefused (lookupOf most rec rows a)
+    accepted = rw lookup-longest (answer-number _ (blockCount σ W (tableTrie W vs ls hs) k a))
 
     pub hop-longest : hopOf (lookupOf most rec rows a) ≡ longest W (at vs) (at ls) (at hs) (length vs) a
-    hop-longest = rw lookup-longest (answer-has _ (blocks a) .0)
+    hop-longest = rw lookup-longest (answer-has _ (blockCount σ W (tableTrie W vs ls hs) k a) .0)
 
     -- which is 0 or the hop of a prefix that begins the address and than which none that does is longer
     pub laid-longest : LongestHop W vs ls hs a (hopOf (lookupOf most rec rows a))
     laid-longest = rw hop-longest (longest-is W (at vs) (at ls) (at hs) (length vs) a)
 
     -- no route exactly when no prefix begins the address
-    pub no-route : (lookupOf most rec rows a ≡ NoRoute (blocks a)) ↔ NoPrefix W vs ls a
+    pub no-route : (lookupOf most rec rows a ≡ NoRoute (blockCount σ W (tableTrie W vs ls hs) k a)) ↔ NoPrefix W vs ls a
     unfolding answer
     no-route =
         let z = longest-zero W (at vs) (at ls) (at hs) (length vs) a hop-some in (
@@ -78,8 +74,8 @@ module _ {most W : ℕ} {vs ls hs : List ℕ} {σ : Strides} {k : ℕ} {rec : Re
         (rw (g .width) block)
         ∙ rw (g .width, g .levels)
 
-    pub reads-blocks : readsOf (lookupOf most rec rows a) ≡ blocks a
-    reads-blocks = rw lookup-longest (answer-has _ (blocks a) .1)
+    pub reads-blocks : readsOf (lookupOf most rec rows a) ≡ blockCount σ W (tableTrie W vs ls hs) k a
+    reads-blocks = rw lookup-longest (answer-has _ (blockCount σ W (tableTrie W vs ls hs) k a) .1)
 
     pub reads-few : readsOf (lookupOf most rec rows a) ≤ k
     reads-few = omega (arith, reads-most most rec rows a, g .levels)

@@ -7,6 +7,7 @@ use mathlib.Core.Logic.{_⊎_, inl, inr, ⊎-elim, _↔_}
 use mathlib.Core.List.{List, [], _∷_, _++_, append-assoc, List·Memᴰ, List·Memᴰ·head, List·Memᴰ·not-nil, List·Memᴰ·cases-cons, Memᴰ·append-right, Memᴰ·cast}
 use native.Mathlib.Omega.{arith}
 use native.Mathlib.Nat.{sub-zero, zero-add}
+use lib.ListN.{length}
 use lib.Pow.{shr-shr}
 use Rattle.table.specs.Prefix.{start}
 use Rattle.table.proofs.Starts.{start-start, start-less}
@@ -14,7 +15,7 @@ use Rattle.strides.specs.Trie.{Trie, none, node, Some, subAlong}
 use Rattle.strides.specs.Strides.{Good}
 use Rattle.strides.proofs.Paths.{some?, sub-split}
 use Rattle.walk.specs.Rows.{Lists}
-use Rattle.layout.specs.Blocks.{Strides, leftOf, firstRow, rowsOf, rowCount, Hold, Begun, blocksAlong, blockRow}
+use Rattle.layout.specs.Blocks.{Strides, leftOf, firstRow, rowsOf, rowCount, Hold, Begun, blocksAlong, blockCount, blockRow}
 use Rattle.layout.specs.PathBlocks.{nodeOn, BlockAt, at-root, after}
 use Rattle.layout.proofs.GoodStrides.{good-level, good-stride, good-block}
 use Rattle.layout.proofs.Blocks.{left-own, left-below, left-split}
@@ -33,7 +34,7 @@ module _ (σ : Strides) (W k : ℕ) (t : Trie) (good : Good σ t W 0 k) (x : ℕ
   u d = nodeOn W t x d
 
   -- r levels are left below it, and its stride is suc s
-  pub record Here (n d : ℕ) : Type 0 where
+  pub record BlockHere (n d : ℕ) : Type 0 where
     pub r : ℕ
     pub s : ℕ
     pub levels : k - n ≡ suc r
@@ -42,7 +43,7 @@ module _ (σ : Strides) (W k : ℕ) (t : Trie) (good : Good σ t W 0 k) (x : ℕ
     pub stride : σ (suc r) (u d) ≡ suc s
     pub fits : d + suc s ≤ W
 
-  here-of : (n d : ℕ) → d ≤ W → Some (u d) → Good σ (u d) (W - d) 0 (k - n) → Here n d
+  here-of : (n d : ℕ) → d ≤ W → Some (u d) → Good σ (u d) (W - d) 0 (k - n) → BlockHere n d
   here-of n d le some g =
       let l = good-level σ (u d) (W - d) (k - n) some g in
       let e : k - n ≡ suc (pred (k - n)) = omega arith in
@@ -51,7 +52,7 @@ module _ (σ : Strides) (W k : ℕ) (t : Trie) (good : Good σ t W 0 k) (x : ℕ
       record { r = pred (k - n); s = b .s; levels = e; some = some; fine = f; stride = b .stride; fits = omega (arith, b .fits) }
 
   -- what is good at a block is good at the next one
-  good-next : (n d : ℕ) (h : Here n d) → Good σ (u (d + suc (h .s))) (W - (d + suc (h .s))) 0 (k - suc n)
+  good-next : (n d : ℕ) (h : BlockHere n d) → Good σ (u (d + suc (h .s))) (W - (d + suc (h .s))) 0 (k - suc n)
   good-next n d h =
       let b = good-block σ (u d) (W - d) (h .r) (h .some) (h .fine) in
       let s = h .s in
@@ -61,7 +62,7 @@ module _ (σ : Strides) (W k : ℕ) (t : Trie) (good : Good σ t W 0 k) (x : ℕ
       let g : Good σ (subAlong (suc s) (u d) (start W (d + suc s) x)) (W - d - suc s) 0 (h .r) = rw bs at (b .child (start W (d + suc s) x)) in
       rw (← l, ← w, ← (next-node W t x d (suc s) (h .fits))) g
 
-  pub here : {n d : ℕ} → BlockAt σ W k t x n d → Here n d
+  pub here : {n d : ℕ} → BlockAt σ W k t x n d → BlockHere n d
   unfolding subAlong
   here (at-root some) = here-of 0 0 (omega arith) some (rw (sub-zero W, sub-zero k) good)
   here (after {n} {d} b some) =
@@ -70,10 +71,10 @@ module _ (σ : Strides) (W k : ℕ) (t : Trie) (good : Good σ t W 0 k) (x : ℕ
       rw e (here-of (suc n) (d + suc (h .s)) (h .fits) (rw e at some) (good-next n d h))
 
   -- ---- the list and the blocks
-  abbrev own : {n d : ℕ} (h : Here n d) → Begun
+  abbrev own : {n d : ℕ} (h : BlockHere n d) → Begun
   own {n} {d} h = record { level = n; stride = suc (h .s); bits = W - d }
 
-  list-own : {n d : ℕ} (h : Here n d)
+  list-own : {n d : ℕ} (h : BlockHere n d)
       → blocksAlong σ (W - d) (u d) 0 n (k - n) x ≡ own h ∷ blocksAlong σ (W - (d + suc (h .s))) (u (d + suc (h .s))) 0 (suc n) (k - suc n) x
   unfolding start
   list-own {n} {d} h =
@@ -144,3 +145,53 @@ module _ (σ : Strides) (W k : ℕ) (t : Trie) (good : Good σ t W 0 k) (x : ℕ
       to (inr some) i =
           let o = listed-block k (omega arith) (at-root some) b (rw (sub-zero W, sub-zero k) i) in
           (o .0, o .1, o .2, o .3 ∙ own-is (o .2))
+
+  -- ---- their number
+  -- a block further along, as many blocks as the list has
+  further : (m : ℕ) {n d : ℕ} → BlockAt σ W k t x n d → m < length (blocksAlong σ (W - d) (u d) 0 n (k - n) x) → (d′ : ℕ) × BlockAt σ W k t x (n + m) d′
+  further zero {n} {d} B h = let e : n ≡ n + 0 = omega arith in (d, subst (λ (l : ℕ). BlockAt σ W k t x l d) e B)
+  further (suc m) {n} {d} B h = go (λ C l. further m C l) (some? (u (d + suc s)))
+    where
+      s : ℕ
+      s = here B .s
+
+      e : σ (k - n) (u d) ≡ suc s
+      e = ap (λ (l : ℕ). σ l (u d)) (here B .levels) ∙ here B .stride
+
+      rest : List Begun
+      rest = blocksAlong σ (W - (d + suc s)) (u (d + suc s)) 0 (suc n) (k - suc n) x
+
+      more : m < length rest
+      more = omega (arith, ap length (list-own (here B)))
+
+      go : ((C : BlockAt σ W k t x (suc n) (d + suc s)) → m < length rest → (d′ : ℕ) × BlockAt σ W k t x (suc n + m) d′)
+          → (u (d + suc s) ≡ none) ⊎ Some (u (d + suc s)) → (d′ : ℕ) × BlockAt σ W k t x (n + suc m) d′
+      go on (inl z) =
+          let q : rest ≡ [] = rw z (blocks-none σ (W - (d + suc s)) 0 (suc n) (k - suc n) x) in
+          absurd (omega (arith, more, ap length q))
+      go on (inr some) =
+          let r = on (subst (λ (v : ℕ). BlockAt σ W k t x (suc n) (d + v)) e (after B (rw e some))) more in
+          let f : suc n + m ≡ n + suc m = omega arith in
+          (r .0, subst (λ (l : ℕ). BlockAt σ W k t x l (r .0)) f (r .1))
+
+  -- a block of level n has n blocks before it
+  listed-length : {n d : ℕ} → BlockAt σ W k t x n d → blockCount σ W t k x ≡ n + length (blocksAlong σ (W - d) (u d) 0 n (k - n) x)
+  unfolding subAlong
+  listed-length (at-root some) = rw (sub-zero W, sub-zero k) (omega arith)
+  listed-length (after {n} {d} b some) =
+      let h = here b in
+      let e : σ (k - n) (u d) ≡ suc (h .s) = ap (λ (l : ℕ). σ l (u d)) (h .levels) ∙ h .stride in
+      rw e (omega (arith, listed-length b, ap length (list-own h)))
+
+  -- there are as many blocks as levels on the path have one, and a level has one at most
+  pub blocks-counted : (n : ℕ) → (n < blockCount σ W t k x) ↔ ((d : ℕ) × BlockAt σ W k t x n d)
+  unfolding subAlong
+  blocks-counted n = (λ h. to (some? t) h, λ p. omega (arith, listed-length (p .1), ap length (list-own (here (p .1)))))
+    where
+      to : (t ≡ none) ⊎ Some t → n < blockCount σ W t k x → (d : ℕ) × BlockAt σ W k t x n d
+      to (inl z) h = absurd (omega (arith, rw (z, blocks-none σ W 0 0 k x) at h))
+      to (inr some) h = rw (zero-add n) at (further n (at-root some) (rw (sub-zero W, sub-zero k) h))
+
+pub block-one : {σ : Strides} {W k : ℕ} {t : Trie} {x n d d′ : ℕ} → BlockAt σ W k t x n d → BlockAt σ W k t x n d′ → d ≡ d′
+block-one (at-root s) (at-root s′) = refl
+block-one {σ} {W} {k} {t} {x} (after {n} {d} b s) (after {d = d′} b′ s′) = ap (λ (v : ℕ). v + σ (k - n) (nodeOn W t x v)) (block-one b b′)

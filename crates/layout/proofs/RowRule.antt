@@ -22,7 +22,7 @@ use Rattle.layout.specs.Laid.{tableTrie, Laid}
 use Rattle.layout.proofs.Blocks.{hold-at, level-own, left-same, left-own, left-below, left-split}
 use Rattle.layout.proofs.Answering.{Lies, lies-all, lies-next}
 use Rattle.layout.proofs.Hops.{path-lt, path-row, path-node, row-hop}
-use Rattle.layout.proofs.PathBlocks.{next-node, Here, here}
+use Rattle.layout.proofs.PathBlocks.{next-node, BlockHere, here}
 
 module _ (σ : Strides) (W k : ℕ) (t : Trie) (good : Good σ t W 0 k) (ls : Lists) (rows-held : Hold ls 0 (rowsOf σ k t)) where
   -- where the levels below a block lie, for two addresses that lead to it
@@ -84,11 +84,11 @@ module _ (σ : Strides) (W k : ℕ) (t : Trie) (good : Good σ t W 0 k) (ls : Li
     abbrev u : Trie
     u = nodeOn W t x d
 
-    abbrev h : Here σ W k t good x n d
+    abbrev h : BlockHere σ W k t good x n d
     h = here σ W k t good x b
 
-    stride-is : σ (k - n) u ≡ suc (h .s)
-    stride-is = ap (λ (l : ℕ). σ l u) (h .levels) ∙ h .stride
+    own-stride : σ (k - n) u ≡ suc (h .s)
+    own-stride = ap (λ (l : ℕ). σ l u) (h .levels) ∙ h .stride
 
     -- the row's path
     abbrev y : ℕ
@@ -99,7 +99,7 @@ module _ (σ : Strides) (W k : ℕ) (t : Trie) (good : Good σ t W 0 k) (ls : Li
     first-bits = let e : d + (W - d) ≡ W = omega (arith, h .fits) in shr-lt d (W - d) (rw e small)
 
     fits : i < 2 ^ suc (h .s)
-    fits = rw stride-is at index
+    fits = rw own-stride at index
 
     same-node : start W d x ≡ start W d y
     same-node = sym (path-node W d (suc (h .s)) (start W d x) i (h .fits) first-bits fits)
@@ -172,7 +172,7 @@ module _ {most W : ℕ} {vs ls hs : List ℕ} {σ : Strides} {k : ℕ} {rec : Re
       let r = here σ W k T fine x b .r in
       let u = nodeOn W T x d in
       let q = start W d x in
-      let e : σ (k - n) u ≡ suc s = stride-is σ W k T fine rows rows-held x n d small b i index in
+      let e : σ (k - n) u ≡ suc s = own-stride σ W k T fine rows rows-held x n d small b i index in
       let fits = here σ W k T fine x b .fits in
       let bits = first-bits σ W k T fine rows rows-held x n d small b i index in
       let inside = rw e at index in

@@ -2,9 +2,10 @@
 -- Blocks lie without gaps, breadth first, left to right, the root at row 0." The blocks of level n are those with n blocks
 -- above them; the levels lie one after the other (Order.antt: a queue of blocks takes them so). The stride of a block at the
 -- node t with r levels left is σ r t. Where c stands beside a trie, its next block begins c levels lower (0: here).
-use Prim.Native.Nat.{ℕ, zero, suc, pred, _+_, _^_}
+use Prim.Native.Nat.{ℕ, zero, suc, pred, _+_, _^_, _≤_}
 use mathlib.Core.Path.{_≡_}
 use mathlib.Core.List.{List, [], _∷_, _++_, map}
+use lib.ListN.{length}
 use Rattle.strides.specs.Trie.{Trie, none, node, left, kid, bit, markAlong, subAlong}
 use Rattle.walk.specs.Rows.{Row, Lists, rowAt, rowOf}
 
@@ -110,6 +111,10 @@ blocksAlong σ (suc w) (node p a q b) zero n (suc r) x =
     record { level = n; stride = σ (suc r) (node p a q b); bits = suc w }
     ∷ blocksAlong σ w (kid (bit w x) (node p a q b)) (pred (σ (suc r) (node p a q b))) (suc n) r x
 
+-- how many they are, with the level limit k
+abbrev pub blockCount : Strides → (W : ℕ) → Trie → (k x : ℕ) → ℕ
+blockCount σ W t k x = length (blocksAlong σ W t 0 0 k x)
+
 -- the first row of the block of level n on the path of x: all earlier levels lie before it, and of its own what is left of it
 unfoldable pub blockRow : Strides → (w k : ℕ) → Trie → (x n : ℕ) → ℕ
 blockRow σ w k t x n = firstRow σ t k n + leftOf σ w t 0 n k x
@@ -121,3 +126,16 @@ rowIn x first b = rowOf x (first (b .level)) (b .stride) (b .bits)
 -- the rows on the path of an address of w bits: of each block on it the first row, plus the index that the next s bits make
 unfoldable pub rowsAlong : Strides → (w k : ℕ) → Trie → (x : ℕ) → List ℕ
 rowsAlong σ w k t x = map (rowIn x (blockRow σ w k t x)) (blocksAlong σ w t 0 0 k x)
+
+-- two choices of strides
+module _ (σ τ : Strides) where
+  -- they agree wherever a block begins, and each block has a stride
+  abbrev pub Agree : Trie → (c r : ℕ) → Type 0
+  Agree none c r = Unit {0}
+  Agree (node p a q b) (suc c) r = Agree a c r × Agree b c r
+  Agree (node p a q b) zero zero = ⊥
+  Agree (node p a q b) zero (suc r) =
+      (1 ≤ σ (suc r) (node p a q b))
+      × (σ (suc r) (node p a q b) ≡ τ (suc r) (node p a q b))
+      × Agree a (pred (σ (suc r) (node p a q b))) r
+      × Agree b (pred (σ (suc r) (node p a q b))) r

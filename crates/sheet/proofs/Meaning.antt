@@ -15,12 +15,12 @@ use Rattle.strides.specs.Recurrence.{plain, leastBy}
 use Rattle.strides.proofs.Insertion.{trie-depth-width}
 use Rattle.strides.proofs.Cheapest.{least-cheapest, chosen-follows}
 use Rattle.strides.proofs.Follows.{follows-good, follows-unique}
-use Rattle.layout.specs.Blocks.{Strides}
+use Rattle.layout.specs.Blocks.{Strides, Agree}
 use Rattle.tries.specs.Build.{buildTests}
 use Rattle.layout.specs.Laid.{tableTrie}
 use Rattle.tries.specs.Chooser.{chooseTests}
 use Rattle.tries.specs.Scratch.{ROW}
-use Rattle.layout.proofs.Agreeing.{Agree, same-agree, blocks-same, count-same, stride-same}
+use Rattle.layout.proofs.Agreeing.{same-agree, blocks-same, count-same, stride-same}
 use Rattle.tries.proofs.ChooseTests.{accepted-levels, accepted-tests-table}
 use Rattle.tries.proofs.BuildSteps.{tests-least}
 use Rattle.sheet.specs.declared.running.Report.{Report}

@@ -11,13 +11,13 @@ use lib.Pow.{pow-mono}
 use lib.ListN.{length, getD, replicate, take, length-take}
 use borrow.Author.Tests.{eq-eqb, ne-eqb, lt-ltb, le-ltb, ltb-false, ltb-true}
 use Rattle.table.specs.Prefix.{start}
-use Rattle.table.specs.Refusals.{Test, test, outcome, Gives, andThen}
+use Rattle.table.specs.Refusals.{Test, test, outcome, Gives, Numbered, andThen}
 use Rattle.table.specs.Table.{at, Table}
 use Rattle.table.specs.declared.entry.Outcome.{Outcome}
 use Rattle.table.specs.declared.entry.Outcome.the-variants.{Accepted, Refused}
 use Rattle.table.proofs.Bools.{or-false}
 use Rattle.table.proofs.Refusals.{outcome-fails, outcome-passes, outcome-append, outcome-gives, gives-outcome, refused-not-accepted}
-use Rattle.table.proofs.Numbered.{Numbered, numbered-append}
+use Rattle.table.proofs.Numbered.{numbered-append}
 use Rattle.table.proofs.Starts.{start-none}
 use Rattle.table.proofs.Table.{sorted}
 use Rattle.strides.specs.Trie.{Trie, none, node, depth, nodesAt}
@@ -34,7 +34,7 @@ use Rattle.tries.specs.Limits.{ELEMENTS, COST-CAP}
 use Rattle.walk.specs.Rows.{Lists, lists, shortest, root, rowAt}
 use Rattle.layout.specs.Blocks.{Strides, strideOf, rowCount}
 use Rattle.layout.specs.Laid.{tableTrie, tableFloor, Laid}
-use Rattle.tries.specs.Filling.{Trunk, Room, LayAsks, LayGives, Lays, CanLay}
+use Rattle.tries.specs.Filling.{Trunk, HasRoom, LayAsks, LayGives, Lays, CanLay}
 use Rattle.tries.specs.Costs.{held}
 use Rattle.tries.specs.Chooser.{padded}
 use Rattle.tries.specs.Chooser.{chooseTests, ifAccepted}

@@ -9,13 +9,13 @@ use lib.ListN.{length}
 use borrow.Author.Tests.{lt-ltb, le-ltb, ltb-false}
 use Rattle.table.specs.Entry.{hopBad}
 use Rattle.table.specs.Limits.{outside}
-use Rattle.table.specs.Refusals.{outcome, andThen}
+use Rattle.table.specs.Refusals.{outcome, Numbered, andThen}
 use Rattle.table.specs.Table.{at, widthTest, listTests, tableTests, checkOf, Table}
 use Rattle.table.specs.declared.entry.Outcome.{Outcome}
 use Rattle.table.specs.declared.entry.Outcome.the-variants.{Accepted, Refused}
 use Rattle.table.proofs.Refusals.{outcome-fails, outcome-passes, outcome-append, accepted-passes, accepted-parts}
 use Rattle.table.proofs.Table.{width-is, accepted-table, entries-rise}
-use Rattle.table.proofs.Numbered.{Numbered, numbered-append, numbered-lists}
+use Rattle.table.proofs.Numbered.{numbered-append, numbered-lists}
 use Rattle.strides.specs.Trie.{size}
 use Rattle.strides.specs.Insertion.{nodeCount}
 use Rattle.strides.proofs.Counting.{node-count}

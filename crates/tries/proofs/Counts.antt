@@ -25,11 +25,6 @@ module _ (W : ℕ) (val len : ℕ → ℕ) (n : ℕ) (short : (i : ℕ) → i < 
   new-small zero h = short 0 h
   new-small (suc i) h = omega (arith, short (suc i) h)
 
-  pub new-short : (i : ℕ) → i < n → newNodes W val len i ≤ len i
-  unfolding newNodes newAfter
-  new-short zero h = omega arith
-  new-short (suc i) h = omega arith
-
   pub count-small : (i : ℕ) → i ≤ n → nodeCount W val len i ≤ i * WIDTH
   unfolding nodeCount
   count-small zero h = omega arith

@@ -42,7 +42,7 @@ use Rattle.walk.specs.Answers.{numberOf, hopOf, readsOf}
 use Rattle.walk.specs.Lookup.{pathRows, lookupOf}
 use Rattle.walk.specs.Meaning.{OnPath, Tested, Looked}
 use Rattle.tries.specs.Chooser.{padded}
-use Rattle.layout.specs.Blocks.{linkTo, strideOf, blockRow, rowsAlong, Begun, blocksAlong}
+use Rattle.layout.specs.Blocks.{linkTo, strideOf, blockRow, rowsAlong, Begun, blocksAlong, blockCount}
 use Rattle.layout.specs.PathBlocks.{nodeOn, BlockAt, rowPath}
 use Rattle.layout.specs.Laid.{tableTrie, NoPrefix, LongestHop}
 use Rattle.tries.specs.Chooser.{chooseTests, Chooses}
@@ -51,9 +51,9 @@ use Rattle.walk.proofs.Unique.{tested-unique, looked-unique}
 use Rattle.walk.proofs.Looked.{looked}
 use Rattle.walk.proofs.Answers.{refused-none}
 use Rattle.walk.proofs.Reading.{path-rows, reads-path, reads-most, lookup-local}
-use Rattle.layout.proofs.PathBlocks.{blocks-are}
+use Rattle.layout.proofs.PathBlocks.{blocks-are, blocks-counted}
 use Rattle.layout.proofs.RowRule.{row-rule}
-use Rattle.layout.proofs.Laid.{blocks, accepted, laid-longest, no-route, rows-exactly, reads-blocks, reads-few, rows-alone, elements-cost, one-answer}
+use Rattle.layout.proofs.Laid.{accepted, laid-longest, no-route, rows-exactly, reads-blocks, reads-few, rows-alone, elements-cost, one-answer}
 use Rattle.tries.proofs.ChooseTests.{numbered-choose}
 use Rattle.tries.proofs.BuildSteps.{early, late}
 
@@ -254,9 +254,15 @@ module _ {kind : Kind} {W k : ℕ} {vs ls hs scratch : List ℕ} {rows : Lists} 
     build-nodes d le =
         node-begins W (at vs) (at ls) (at hs) (length vs) (λ i l. b .laid e .2 .table .entry i l .prefix .short) a d h le
 
-    -- r reads are r such blocks, never above k
-    pub build-blocks : readsOf r ≡ blocks (b .laid e .2) a
+    -- r reads are r such blocks
+    pub build-blocks : readsOf r ≡ blockCount (b .laid e .0) W (tableTrie W vs ls hs) k a
     build-blocks = ap readsOf is-looked ∙ reads-blocks (b .laid e .2) a h
+
+    -- one at each of the levels 0 to r - 1, and no other (`block-one`, layout); r is never above k
+    pub build-counted : (n : ℕ) → (n < readsOf r) ↔ ((d : ℕ) × BlockAt (b .laid e .0) W k (tableTrie W vs ls hs) a n d)
+    build-counted n =
+        let g = b .laid e .2 in
+        rw build-blocks (blocks-counted (b .laid e .0) W k (tableTrie W vs ls hs) (rw (g .width, g .levels) at (g .built .good)) a n)
 
     pub build-reads : readsOf r ≤ k
     build-reads = rw is-looked (reads-few (b .laid e .2) a h)

@@ -9,14 +9,15 @@ use native.Mathlib.Decide.{decLe}
 use lib.ListN.{length, set}
 use lib.Seq.{getD-set-same, getD-set-other}
 use lib.Pow.{pow-mono, low, high}
-use Rattle.strides.specs.Trie.{Trie, none, left, right, leftMark, rightMark, bit, newer, markAlong, subAlong}
+use Rattle.table.specs.Longest.{newer}
+use Rattle.strides.specs.Trie.{Trie, none, left, right, leftMark, rightMark, bit, markAlong, subAlong}
 use Rattle.strides.proofs.Paths.{bit-mod, mark-same, sub-same, sub-none, mark-none}
 use Rattle.walk.specs.Limits.{WIDTH, LEVELS}
 use Rattle.tries.specs.Limits.{ELEMENTS}
 use Rattle.walk.specs.Rows.{Lists, lists, shortest, rowAt}
 use Rattle.tries.specs.Scratch.{ROW, ask, strideAt, MARKS}
 use Rattle.layout.specs.Blocks.{Strides, wide, leftOf, linkTo, rowBelow}
-use Rattle.tries.specs.Filling.{Room, Bare, FillAsks, FillGives}
+use Rattle.tries.specs.Filling.{HasRoom, Bare, FillAsks, FillGives}
 use Rattle.layout.proofs.Blocks.{wide-sides, left-same}
 use Rattle.tries.proofs.Standing.{mark-left, mark-right, trunk-fits, trunk-none, trunk-left, trunk-right, trunk-child}
 
@@ -57,7 +58,7 @@ pub power-most : {s p : ℕ} → p ≡ 2 ^ s → s ≤ WIDTH → p ≤ 2 ^ WIDTH
 power-most {s} e h = omega (arith, pow-mono h)
 
 -- lists as long as others have their room
-pub room-kept : {e : ℕ} {ls ls′ : Lists} → shortest ls′ ≡ shortest ls → Room e ls → Room e ls′
+pub room-kept : {e : ℕ} {ls ls′ : Lists} → shortest ls′ ≡ shortest ls → HasRoom e ls → HasRoom e ls′
 room-kept s r = record { fits = omega (arith, r .fits); few = r .few }
 
 -- ---- one row written

@@ -19,7 +19,7 @@ use Rattle.strides.proofs.Sums.{nodes-deep}
 use Rattle.walk.specs.Limits.{WIDTH, LEVELS, Within}
 use Rattle.tries.specs.Limits.{ENTRIES}
 use Rattle.tries.specs.Costs.{held, slot, price, bestCost, bestStride}
-use Rattle.tries.specs.FixedChoice.{LEVEL-CELLS, Filled, RowFilled, StridesFilled, Reading, FixedIn}
+use Rattle.tries.specs.FixedChoice.{LEVEL-CELLS, Filled, RowFilled, StridesFilled, ListRead, FixedIn}
 use Rattle.tries.specs.Chooser.{padded}
 use Rattle.tries.proofs.Zeroes.{zeros-read}
 use Rattle.tries.proofs.Gathering.{same?}
@@ -168,7 +168,7 @@ unfolding listBy
 list-end nodes i zero x = refl
 list-end nodes i (suc n) x = refl
 
-pub reading-start : (nodes : ℕ → ℕ) (levels depth : ℕ) → 1 ≤ levels → Reading nodes levels depth 0 0 (replicate LEVELS 0)
+pub reading-start : (nodes : ℕ → ℕ) (levels depth : ℕ) → 1 ≤ levels → ListRead nodes levels depth 0 0 (replicate LEVELS 0)
 reading-start nodes levels depth h = record {
   done = λ x l. absurd (omega arith);
   blank = λ x l. zeros-read LEVELS x;
@@ -176,8 +176,8 @@ reading-start nodes levels depth h = record {
   end = λ e x. absurd (omega arith);
 }
 
-pub reading-next : (nodes : ℕ → ℕ) (levels depth i p s : ℕ) (list : List ℕ) → p < levels → levels ≤ length list → Reading nodes levels depth i p list
-    → s ≡ pickFixedBy held nodes (levels - 1 - p) i (depth - i) → Reading nodes levels depth (i + s) (p + 1) (set list p s)
+pub reading-next : (nodes : ℕ → ℕ) (levels depth i p s : ℕ) (list : List ℕ) → p < levels → levels ≤ length list → ListRead nodes levels depth i p list
+    → s ≡ pickFixedBy held nodes (levels - 1 - p) i (depth - i) → ListRead nodes levels depth (i + s) (p + 1) (set list p s)
 reading-next nodes levels depth i p s list h len g e =
     let L = listBy held nodes (levels - 1) 0 depth in
     let here : getD L p 0 ≡ s = ap (λ (y : ℕ). getD L y 0) (sym (add-zero p)) ∙ g .rest h 0 ∙ list-head nodes (levels - 1 - p) i (depth - i) ∙ sym e in
@@ -216,7 +216,7 @@ pub padded-is : (n : ℕ) (list ss : List ℕ) → length list ≡ n → ((x : �
 padded-is n list ss len e =
     ext-getD 0 list (padded n ss) (len ∙ sym (padded-length n ss)) (λ x h. e x (omega arith) ∙ sym (padded-read n ss x (omega arith)))
 
-pub reading-done : (nodes : ℕ → ℕ) (levels depth i : ℕ) (list : List ℕ) → levels ≤ LEVELS → length list ≡ LEVELS → Reading nodes levels depth i levels list
+pub reading-done : (nodes : ℕ → ℕ) (levels depth i : ℕ) (list : List ℕ) → levels ≤ LEVELS → length list ≡ LEVELS → ListRead nodes levels depth i levels list
     → list ≡ padded LEVELS (listBy held nodes (levels - 1) 0 depth)
 reading-done nodes levels depth i list few len g = padded-is LEVELS list (listBy held nodes (levels - 1) 0 depth) len (λ x h. at x (decLe levels x))
   where

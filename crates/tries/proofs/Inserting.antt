@@ -10,7 +10,7 @@ use lib.ListN.{length, getD, set}
 use lib.Seq.{getD-set-same, getD-set-other}
 use Rattle.strides.specs.Trie.{bit}
 use Rattle.tries.specs.Scratch.{ROW, DEPTH}
-use Rattle.tries.specs.Trees.{Tree, nil, fork, col, linkOf, NodeRow, Stand, RowIn, Apart, Under, lt, rt, lmark, rmark, rowFor, next, side, setSide, setMark, insertR, countR}
+use Rattle.tries.specs.Trees.{Tree, nil, fork, col, linkOf, NodeRow, Stand, HasRow, Apart, Under, lt, rt, lmark, rmark, rowFor, next, side, setSide, setMark, insertR, countR}
 use Rattle.tries.specs.Inserting.{Downed, InsertIn, InsertOut, Inserted}
 
 pub bit-two : (n x : ℕ) → bit n x < 2
@@ -27,7 +27,7 @@ module _ (rows rows′ : List ℕ) where
     mark1 = same 3 (omega arith) ∙ r .mark1;
   }
 
-  keep : (t : Tree) → ((y : ℕ) → RowIn y t → (c : ℕ) → c < ROW → col rows′ y c ≡ col rows y c) → Stand rows t → Stand rows′ t
+  keep : (t : Tree) → ((y : ℕ) → HasRow y t → (c : ℕ) → c < ROW → col rows′ y c ≡ col rows y c) → Stand rows t → Stand rows′ t
   keep nil same u = tt
   keep (fork x p l q r) same u =
       (keep-row x (same x (inl refl)) (u .0), keep l (λ y h. same y (inr (inl h))) (u .1), keep r (λ y h. same y (inr (inr h))) (u .2))
@@ -77,7 +77,7 @@ unfolding countR
 made-count zero u t v = refl
 made-count (suc n) u t v = rw (made-kid (bit (suc n) v) u t)
 
-not-made : (u z : ℕ) (t : Tree) → (RowIn z t → ⊥) → z < u → RowIn z (made u t) → ⊥
+not-made : (u z : ℕ) (t : Tree) → (HasRow z t → ⊥) → z < u → HasRow z (made u t) → ⊥
 not-made u z nil off l (inl e) = omega arith
 not-made u z nil off l (inr (inl e)) = e
 not-made u z nil off l (inr (inr e)) = e
@@ -121,15 +121,15 @@ module _ (rows : List ℕ) (x p : ℕ) (l : Tree) (q : ℕ) (r : Tree) where
   kid-link (suc zero) h u = (u .0 .link1, u .2, u .1)
   kid-link (suc (suc s)) h u = absurd (omega arith)
 
-  kid-apart : (s : ℕ) → Apart T → (RowIn x (side s T) → ⊥) × (RowIn x (sib s T) → ⊥) × ((y : ℕ) → RowIn y (side s T) → RowIn y (sib s T) → ⊥) × Apart (side s T)
+  kid-apart : (s : ℕ) → Apart T → (HasRow x (side s T) → ⊥) × (HasRow x (sib s T) → ⊥) × ((y : ℕ) → HasRow y (side s T) → HasRow y (sib s T) → ⊥) × Apart (side s T)
   kid-apart zero a = (a .0, a .1, a .2, a .3)
   kid-apart (suc s) a = (a .1, a .0, (λ y h k. a .2 y k h), a .4)
 
-  kid-has : (s y : ℕ) → RowIn y (side s T) → RowIn y T
+  kid-has : (s y : ℕ) → HasRow y (side s T) → HasRow y T
   kid-has zero y h = inr (inl h)
   kid-has (suc s) y h = inr (inr h)
 
-  sib-has : (s y : ℕ) → RowIn y (sib s T) → RowIn y T
+  sib-has : (s y : ℕ) → HasRow y (sib s T) → HasRow y T
   sib-has zero y h = inr (inr h)
   sib-has (suc s) y h = inr (inl h)
 
@@ -165,9 +165,9 @@ module _ (rows : List ℕ) (x p : ℕ) (l : Tree) (q : ℕ) (r : Tree) where
       other : (c i : ℕ) → (i ≡ x * ROW + c → ⊥) → getD (set rows (x * ROW + c) h) i 0 ≡ getD rows i 0
       other c i ne = getD-set-other rows (x * ROW + c) i h 0 ne
 
-      far : (c : ℕ) → c < ROW → (t : Tree) → (RowIn x t → ⊥) → Stand rows t → Stand (set rows (x * ROW + c) h) t
+      far : (c : ℕ) → c < ROW → (t : Tree) → (HasRow x t → ⊥) → Stand rows t → Stand (set rows (x * ROW + c) h) t
       far c hc t off st = keep rows (set rows (x * ROW + c) h) t
-          (λ y hy e he. let ne : y ≡ x → ⊥ = λ z. off (subst (λ (w : ℕ). RowIn w t) z hy) in other c (y * ROW + e) (omega arith)) st
+          (λ y hy e he. let ne : y ≡ x → ⊥ = λ z. off (subst (λ (w : ℕ). HasRow w t) z hy) in other c (y * ROW + e) (omega arith)) st
 
       go : (s : ℕ) → s < 2 → Stand (set rows (x * ROW + (2 + s)) h) (setMark s x T h)
       go zero l2 = (
@@ -325,7 +325,7 @@ module _ (rows : List ℕ) (x used v n : ℕ) (g : InsertIn rows x used v n) whe
             let ka = kid-apart rows x p l q r s a in
             let c = child k rd (ka .3) (λ z e. b z (kid-has rows x p l q r s z e)) in
             -- a row below `used` that is not the child's is kept by the call
-            let low : (z : ℕ) → (RowIn z k → ⊥) → z < used → (e : ℕ) → e < ROW → col rows2 z e ≡ col rows1 z e =
+            let low : (z : ℕ) → (HasRow z k → ⊥) → z < used → (e : ℕ) → e < ROW → col rows2 z e ≡ col rows1 z e =
             λ z off zu e he. c .keeps z (not-made used z k off zu) (omega (arith, next-le used k)) e he in
             record {
               stands = rw (step n used t v h ne, ← made-insert (n - 1) used k v h)
@@ -335,7 +335,7 @@ module _ (rows : List ℕ) (x used v n : ℕ) (g : InsertIn rows x used v n) whe
                   u (c .stands)
                   (keep rows rows2 (sib s t)
                   (λ z hz e he.
-                  let ne′ : z ≡ x → ⊥ = λ w. ka .1 (subst (λ (j : ℕ). RowIn j (sib s t)) w hz) in
+                  let ne′ : z ≡ x → ⊥ = λ w. ka .1 (subst (λ (j : ℕ). HasRow j (sib s t)) w hz) in
                   low z (λ hk. ka .2 z hk hz) (b z (sib-has rows x p l q r s z hz)) e he ∙ rd .same (z * ROW + e) (omega (arith, in-fits .2)))
                   (kid-link rows x p l q r s (in-fits .2) u .2)));
               count = count-step n used t v ne ∙ sym (made-count (n - 1) used k v) ∙ c .count;
@@ -345,17 +345,17 @@ module _ (rows : List ℕ) (x used v n : ℕ) (g : InsertIn rows x used v n) whe
             }
 
 -- what a caller has to know for the next entry: the new tree's rows are the old ones and those from `used` up to the new count
-has-mark : (s x y : ℕ) (t : Tree) (h : ℕ) → RowIn y (setMark s x t h) → RowIn y (fork x (lmark t) (lt t) (rmark t) (rt t))
+has-mark : (s x y : ℕ) (t : Tree) (h : ℕ) → HasRow y (setMark s x t h) → HasRow y (fork x (lmark t) (lt t) (rmark t) (rt t))
 has-mark zero x y t h e = e
 has-mark (suc s) x y t h e = e
 
-has-made : (u y : ℕ) (t : Tree) → RowIn y (made u t) → RowIn y t ⊎ ((u ≤ y) × (y < next u t))
+has-made : (u y : ℕ) (t : Tree) → HasRow y (made u t) → HasRow y t ⊎ ((u ≤ y) × (y < next u t))
 has-made u y nil (inl e) = inr (omega arith, omega arith)
 has-made u y nil (inr (inl e)) = absurd e
 has-made u y nil (inr (inr e)) = absurd e
 has-made u y (fork x p l q r) h = inl h
 
-has-side : (s x y : ℕ) (t k : Tree) → RowIn y (setSide s x t k) → RowIn y (fork x (lmark t) (lt t) (rmark t) (rt t)) ⊎ RowIn y k
+has-side : (s x y : ℕ) (t k : Tree) → HasRow y (setSide s x t k) → HasRow y (fork x (lmark t) (lt t) (rmark t) (rt t)) ⊎ HasRow y k
 has-side zero x y t k (inl e) = inl (inl e)
 has-side zero x y t k (inr (inl e)) = inr e
 has-side zero x y t k (inr (inr e)) = inl (inr (inr e))
@@ -363,22 +363,22 @@ has-side (suc s) x y t k (inl e) = inl (inl e)
 has-side (suc s) x y t k (inr (inl e)) = inl (inr (inl e))
 has-side (suc s) x y t k (inr (inr e)) = inr e
 
-side-has : (s y : ℕ) (t : Tree) → RowIn y (side s t) → RowIn y t
+side-has : (s y : ℕ) (t : Tree) → HasRow y (side s t) → HasRow y t
 side-has zero y nil h = absurd h
 side-has (suc s) y nil h = absurd h
 side-has zero y (fork x p l q r) h = inr (inl h)
 side-has (suc s) y (fork x p l q r) h = inr (inr h)
 
-pub has-insert : (n u : ℕ) (t : Tree) (v h y : ℕ) → RowIn y (insertR n u t v h) → RowIn y t ⊎ ((u ≤ y) × (y < countR n u t v))
+pub has-insert : (n u : ℕ) (t : Tree) (v h y : ℕ) → HasRow y (insertR n u t v h) → HasRow y t ⊎ ((u ≤ y) × (y < countR n u t v))
 unfolding insertR countR
 has-insert zero u t v h y e = has-made u y t (has-mark (bit 0 v) (rowFor u t) y t h e)
 has-insert (suc n) u t v h y e =
     let s = bit (suc n) v in
     let k = side s t in
     let grows = count-grows n (next u t) k v in
-    let old : RowIn y (made u t) → RowIn y t ⊎ ((u ≤ y) × (y < countR n (next u t) k v)) =
+    let old : HasRow y (made u t) → HasRow y t ⊎ ((u ≤ y) × (y < countR n (next u t) k v)) =
     λ m. ⊎-elim (λ a. inl a) (λ b. inr (omega arith, omega arith)) (has-made u y t m) in
-    let new : RowIn y (insertR n (next u t) k v h) → RowIn y t ⊎ ((u ≤ y) × (y < countR n (next u t) k v)) =
+    let new : HasRow y (insertR n (next u t) k v h) → HasRow y t ⊎ ((u ≤ y) × (y < countR n (next u t) k v)) =
     λ m. ⊎-elim (λ a. inl (side-has s y t a)) (λ b. inr (omega (arith, next-le u t), omega arith)) (has-insert n (next u t) k v h y m) in
     ⊎-elim old new (has-side s (rowFor u t) y t (insertR n (next u t) k v h) e)
 
@@ -389,12 +389,12 @@ apart-mark : (s x : ℕ) (t : Tree) (h : ℕ) → Apart (fork x (lmark t) (lt t)
 apart-mark zero x t h a = a
 apart-mark (suc s) x t h a = a
 
-apart-side : (s x : ℕ) (t k : Tree) → Apart (fork x (lmark t) (lt t) (rmark t) (rt t)) → Apart k → (RowIn x k → ⊥)
-    → ((y : ℕ) → RowIn y k → RowIn y (sib s t) → ⊥) → Apart (setSide s x t k)
+apart-side : (s x : ℕ) (t k : Tree) → Apart (fork x (lmark t) (lt t) (rmark t) (rt t)) → Apart k → (HasRow x k → ⊥)
+    → ((y : ℕ) → HasRow y k → HasRow y (sib s t) → ⊥) → Apart (setSide s x t k)
 apart-side zero x t k a b c d = (c, a .1, d, b, a .4)
 apart-side (suc s) x t k a b c d = (a .0, c, (λ y p q. d y q p), a .3, b)
 
-apart-kids : (s u : ℕ) (t : Tree) → Apart t → (RowIn (rowFor u t) (side s t) → ⊥) × Apart (side s t) × ((y : ℕ) → RowIn y (side s t) → RowIn y (sib s t) → ⊥)
+apart-kids : (s u : ℕ) (t : Tree) → Apart t → (HasRow (rowFor u t) (side s t) → ⊥) × Apart (side s t) × ((y : ℕ) → HasRow y (side s t) → HasRow y (sib s t) → ⊥)
 apart-kids zero u nil a = ((λ e. e), tt, (λ y p q. p))
 apart-kids (suc s) u nil a = ((λ e. e), tt, (λ y p q. p))
 apart-kids zero u (fork x p l q r) a = (a .0, a .3, a .2)
@@ -404,7 +404,7 @@ row-under : (u : ℕ) (t : Tree) → Under u t → rowFor u t < next u t
 row-under u nil b = omega arith
 row-under u (fork x p l q r) b = b x (inl refl)
 
-sib-under : (s y : ℕ) (t : Tree) → RowIn y (sib s t) → RowIn y t
+sib-under : (s y : ℕ) (t : Tree) → HasRow y (sib s t) → HasRow y t
 sib-under zero y nil h = absurd h
 sib-under (suc s) y nil h = absurd h
 sib-under zero y (fork x p l q r) h = inr (inr h)

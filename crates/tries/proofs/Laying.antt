@@ -36,14 +36,6 @@ lists-same p q r = rw (p, q, r)
 
 module _ {σ : Strides} {t : Trie} where
   -- two builds with as many levels have the same rows
-  pub laid-trie-unique : {most : ℕ} {rec rec′ : Record} {ls ls′ : Lists} → LaidTrie most σ t rec ls → LaidTrie most σ t rec′ ls′ → rec .levels ≡ rec′ .levels
-      → (rec .elements ≡ rec′ .elements) × ((i : ℕ) → i < rec .elements → rowAt ls i ≡ rowAt ls′ i)
-  laid-trie-unique {rec = rec} {ls = ls} {ls′ = ls′} g g′ e = (
-    g .elements ∙ ap (λ (k : ℕ). rowCount σ k t) e ∙ sym (g′ .elements),
-    λ i h. hold-unique ls ls′ 0 (rowsOf σ (rec .levels) t) (g .rows) (rw e (g′ .rows)) i (omega arith)
-        (omega (arith, rows-length σ t (rec .levels), g .elements)),
-  )
-
   module _ {k : ℕ} {ls : Lists} where
     rows-one : {e e′ : ℕ} {ls1 ls2 : Lists} → LayGives σ t k ls e ls1 → LayGives σ t k ls e′ ls2 → (i : ℕ) → rowAt ls1 i ≡ rowAt ls2 i
     rows-one {e} {ls1 = ls1} {ls2 = ls2} g h i = elim (decLe e i) [

@@ -15,8 +15,9 @@ use Rattle.strides.specs.Insertion.{insertT, place, met, nodeCount}
 use Rattle.strides.proofs.Insertion.{trie-insert, trie-empty, insert-size, met-within}
 use Rattle.strides.proofs.Counting.{node-count}
 use Rattle.walk.specs.Limits.{WIDTH}
+use Rattle.tries.specs.Limits.{WORD}
 use Rattle.tries.specs.Scratch.{ROW}
-use Rattle.tries.specs.Trees.{Tree, nil, fork, shape, linkOf, rowFor, next, side, setSide, setMark, lt, rt, lmark, rmark, Stand, RowIn, Apart, Under, insertR, countR, addEntry, treeOf}
+use Rattle.tries.specs.Trees.{Tree, nil, fork, shape, linkOf, rowFor, next, side, setSide, setMark, lt, rt, lmark, rmark, Stand, HasRow, Apart, Under, insertR, countR, addEntry, treeOf}
 use Rattle.tries.specs.Inserting.{InsertIn, Inserted}
 use Rattle.tries.specs.Making.{Prefixes, InRows, AddIn, AddOut, Added, CountIn, AddCounted, MakeOut}
 use Rattle.tries.specs.LevelCounts.{LevelsAdded, CountsOf}
@@ -83,11 +84,6 @@ insert-count (suc n) u t v h =
 
 -- ---- one entry more
 
-size-none : (t : Tree) → size (shape t) ≡ 0 → t ≡ nil
-unfolding shape size
-size-none nil e = refl
-size-none (fork x p l q r) e = absurd (omega arith)
-
 -- the root's row is taken with the first node
 open-next : (t : Tree) → max (size (shape t)) 1 ≡ next (size (shape t)) t
 unfolding shape size
@@ -111,7 +107,7 @@ link-row (fork x p l q r) e = omega arith
 
 -- the root, opened, is a node at row 0
 module _ (rows : List ℕ) (t : Tree) (a : InRows rows t) where
-  open-in : (v n h : ℕ) → n < 64 → size (shape (insertR n (size (shape t)) t v h)) * ROW ≤ length rows → InsertIn rows 0 (next (size (shape t)) t) v n
+  open-in : (v n h : ℕ) → n < WORD → size (shape (insertR n (size (shape t)) t v h)) * ROW ≤ length rows → InsertIn rows 0 (next (size (shape t)) t) v n
   open-in v n h s room =
       let u = size (shape t) in
       rw (← (row-root t u (a .rooted) refl))

@@ -18,7 +18,7 @@ use Rattle.strides.proofs.Strides.{pick-variable}
 use Rattle.walk.specs.Limits.{WIDTH, LEVELS}
 use Rattle.tries.specs.Limits.{BYTE}
 use Rattle.tries.specs.Scratch.{ROW, ask, strideAt, Stands, BEFORE-STRIDES, COST, MARKS, STRIDE}
-use Rattle.tries.specs.Trees.{Tree, nil, fork, shape, linkOf, Stand, RowIn, lt, rt, lmark, rmark, rowFor, next, side, setSide, setMark, insertR, addEntry, treeOf}
+use Rattle.tries.specs.Trees.{Tree, nil, fork, shape, linkOf, Stand, HasRow, lt, rt, lmark, rmark, rowFor, next, side, setSide, setMark, insertR, addEntry, treeOf}
 use Rattle.tries.specs.Costs.{held, Costed, AllPriced}
 use Rattle.tries.specs.Chooser.{padded}
 use Rattle.tries.proofs.Settling.{ask-col}
@@ -68,7 +68,7 @@ StridesIn σ rows plan nil = Unit {0}
 StridesIn σ rows plan (fork x p l q r) =
     ((i : ℕ) → 1 ≤ i → i ≤ length plan → strideAt rows plan (x + 1) i ≡ σ i (node p (shape l) q (shape r))) × StridesIn σ rows plan l × StridesIn σ rows plan r
 
-pub tree-stands : (σ : ℕ → Trie → ℕ) (rows plan : List ℕ) (t : Tree) → Stand rows t → SmallMarks t → ((y : ℕ) → RowIn y t → (y + 1) * ROW ≤ length rows)
+pub tree-stands : (σ : ℕ → Trie → ℕ) (rows plan : List ℕ) (t : Tree) → Stand rows t → SmallMarks t → ((y : ℕ) → HasRow y t → (y + 1) * ROW ≤ length rows)
     → StridesIn σ rows plan t → Stands σ rows plan (linkOf t) (shape t)
 unfolding shape
 tree-stands σ rows plan nil s m f i = refl

@@ -19,7 +19,7 @@ use Rattle.walk.specs.Limits.{WIDTH, LEVELS}
 use Rattle.tries.specs.Limits.{COST-CAP, BYTE}
 use Rattle.tries.specs.Scratch.{ROW, ask, Stands, BEFORE-COSTS, BEFORE-STRIDES, COST, STRIDE}
 use Rattle.layout.specs.Laid.{tableTrie}
-use Rattle.tries.specs.Trees.{Tree, nil, fork, shape, linkOf, RowIn, treeOf}
+use Rattle.tries.specs.Trees.{Tree, nil, fork, shape, linkOf, HasRow, treeOf}
 use Rattle.tries.specs.Making.{Prefixes, MakeIn, MakeOut}
 use Rattle.tries.specs.Costs.{held, Costed, TreeIn, TreeAsk, TreeDone}
 use Rattle.tries.specs.LevelCounts.{CountsOf}
@@ -54,7 +54,7 @@ module _ (W k : ℕ) (vs ls hs scratch : List ℕ) (g : PlanIn W k vs ls hs scra
   pub plan-depth : depth trie ≤ WIDTH
   plan-depth = omega (arith, plan-depth-width, g .table .width)
 
-  two-to-depth : 2 ^ depth trie ≤ 2 ^ 32
+  two-to-depth : 2 ^ depth trie ≤ 2 ^ WIDTH
   two-to-depth = pow-mono plan-depth
 
   pub below-cap : (kind : Kind) → leastBy plain kind k trie < COST-CAP
@@ -71,7 +71,7 @@ module _ (W k : ℕ) (vs ls hs scratch : List ℕ) (g : PlanIn W k vs ls hs scra
   }
 
   module _ (root : ℕ) (rows counts : List ℕ) (m : MakeOut W vs ls hs root rows counts) (len : length rows ≡ length scratch) where
-    rows-fit : (y : ℕ) → RowIn y tree → (y + 1) * ROW ≤ length rows
+    rows-fit : (y : ℕ) → HasRow y tree → (y + 1) * ROW ≤ length rows
     rows-fit y h = omega (arith, m .laid .under y h, ap size tree-trie, g .room)
 
     tree-in : TreeIn k rows root 0 tree
@@ -90,7 +90,7 @@ module _ (W k : ℕ) (vs ls hs scratch : List ℕ) (g : PlanIn W k vs ls hs scra
     pub root-fits : (rows′ : List ℕ) → length rows′ ≡ length rows → root * ROW ≤ length rows′
     root-fits rows′ len′ = go tree (m .link) rows-fit
       where
-        go : (t : Tree) → root ≡ linkOf t → ((y : ℕ) → RowIn y t → (y + 1) * ROW ≤ length rows) → root * ROW ≤ length rows′
+        go : (t : Tree) → root ≡ linkOf t → ((y : ℕ) → HasRow y t → (y + 1) * ROW ≤ length rows) → root * ROW ≤ length rows′
         go nil e f = omega arith
         go (fork x p l q r) e f = omega (arith, f x (inl refl))
 
@@ -135,7 +135,7 @@ module _ (W k : ℕ) (vs ls hs scratch : List ℕ) (g : PlanIn W k vs ls hs scra
     unfolding chosenBy
     plan-variable rows′ cost stride len′ d e f =
         let o = d tree tree-in in
-        let fits : (y : ℕ) → RowIn y tree → (y + 1) * ROW ≤ length rows′ = λ y h. omega (arith, rows-fit y h) in
+        let fits : (y : ℕ) → HasRow y tree → (y + 1) * ROW ≤ length rows′ = λ y h. omega (arith, rows-fit y h) in
         let c : Costed k rows′ root trie
         = subst (Costed k rows′ root) tree-trie (subst (λ (x : ℕ). Costed k rows′ x (shape tree)) (sym (m .link)) (tree-costed k rows′ tree (o .stand) (o .priced) fits)) in
         let k1 : k - 1 < k = omega (arith, g .levels .0) in

@@ -17,7 +17,7 @@ use Rattle.strides.specs.Recurrence.{optBy, pickBy}
 use Rattle.walk.specs.Limits.{WIDTH, LEVELS}
 use Rattle.tries.specs.Limits.{COST-CAP}
 use Rattle.tries.specs.Scratch.{ROW, ask, COST, DEPTH, STRIDE}
-use Rattle.tries.specs.Trees.{Tree, nil, fork, shape, linkOf, col, NodeRow, Stand, RowIn, Apart}
+use Rattle.tries.specs.Trees.{Tree, nil, fork, shape, linkOf, col, NodeRow, Stand, HasRow, Apart}
 use Rattle.tries.specs.Costs.{held, Priced, Costed, CELLS, slot, sumAt, GatherIn, Gathered, Summed, DepthOver, bestCost, bestStride, Stored, SettleIn, Settled, AllPriced, AboveZero}
 use Rattle.tries.specs.Costs.{TreeIn, TreeOut, TreeAsk, TreeDone}
 use Rattle.tries.proofs.Zeroes.{zeros-read}
@@ -126,7 +126,7 @@ module _ (levels : ℕ) (rows : List ℕ) (k : ℕ) (g : SettleIn levels rows k)
 -- ---- the tree
 
 -- a tree that stands and is priced is costed, link by link
-pub tree-costed : (levels : ℕ) (rows : List ℕ) (t : Tree) → Stand rows t → AllPriced levels rows t → ((y : ℕ) → RowIn y t → (y + 1) * ROW ≤ length rows)
+pub tree-costed : (levels : ℕ) (rows : List ℕ) (t : Tree) → Stand rows t → AllPriced levels rows t → ((y : ℕ) → HasRow y t → (y + 1) * ROW ≤ length rows)
     → Costed levels rows (linkOf t) (shape t)
 unfolding shape
 tree-costed levels rows nil s p f = refl
@@ -141,7 +141,7 @@ tree-costed levels rows (fork x m l n r) s p f = (
 module _ (levels : ℕ) (rows rows′ : List ℕ) where
   -- what no row of the tree loses
   abbrev KeepsTree : Tree → Type 0
-  KeepsTree t = (y c : ℕ) → RowIn y t → c < ROW → col rows′ y c ≡ col rows y c
+  KeepsTree t = (y c : ℕ) → HasRow y t → c < ROW → col rows′ y c ≡ col rows y c
 
   keep-stand : (t : Tree) → KeepsTree t → Stand rows t → Stand rows′ t
   keep-stand nil k s = tt
@@ -191,7 +191,7 @@ module _ (levels : ℕ) (rows : List ℕ) (k d x p : ℕ) (l : Tree) (q : ℕ) (
 
   module _ (rows1 : List ℕ) (len1 : length rows1 ≡ length rows) (o1 : TreeOut levels rows rows1 l) where
     -- the node's row and the right tree are as they were
-    right-kept : (y c : ℕ) → RowIn y r → c < ROW → col rows1 y c ≡ col rows y c
+    right-kept : (y c : ℕ) → HasRow y r → c < ROW → col rows1 y c ≡ col rows y c
     right-kept y c h hc = o1 .others y c (λ z. g .apart .2 y z h) hc
 
     right-tree : TreeIn levels rows1 (ask rows1 k 1) (d + 1) r
@@ -206,7 +206,7 @@ module _ (levels : ℕ) (rows : List ℕ) (k d x p : ℕ) (l : Tree) (q : ℕ) (
     }
 
     module _ (rows2 : List ℕ) (len2 : length rows2 ≡ length rows1) (o2 : TreeOut levels rows1 rows2 r) where
-      left-kept : (y c : ℕ) → RowIn y l → c < ROW → col rows2 y c ≡ col rows1 y c
+      left-kept : (y c : ℕ) → HasRow y l → c < ROW → col rows2 y c ≡ col rows1 y c
       left-kept y c h hc = o2 .others y c (λ z. g .apart .2 y h z) hc
 
       own-kept : (c : ℕ) → c < ROW → col rows2 x c ≡ col rows x c
@@ -235,16 +235,16 @@ module _ (levels : ℕ) (rows : List ℕ) (k d x p : ℕ) (l : Tree) (q : ℕ) (
         last-kept : (y c : ℕ) → (y ≡ x → ⊥) → c < ROW → col rows3 y c ≡ col rows2 y c
         last-kept y c ne hc = s .others y c (not-own y ne) hc
 
-        in-left : (y : ℕ) → RowIn y l → y ≡ x → ⊥
-        in-left y h e = g .apart .0 (subst (λ (z : ℕ). RowIn z l) e h)
+        in-left : (y : ℕ) → HasRow y l → y ≡ x → ⊥
+        in-left y h e = g .apart .0 (subst (λ (z : ℕ). HasRow z l) e h)
 
-        in-right : (y : ℕ) → RowIn y r → y ≡ x → ⊥
-        in-right y h e = g .apart .1 (subst (λ (z : ℕ). RowIn z r) e h)
+        in-right : (y : ℕ) → HasRow y r → y ≡ x → ⊥
+        in-right y h e = g .apart .1 (subst (λ (z : ℕ). HasRow z r) e h)
 
-        left-last : (y c : ℕ) → RowIn y l → c < ROW → col rows3 y c ≡ col rows1 y c
+        left-last : (y c : ℕ) → HasRow y l → c < ROW → col rows3 y c ≡ col rows1 y c
         left-last y c h hc = last-kept y c (in-left y h) hc ∙ left-kept y c h hc
 
-        right-last : (y c : ℕ) → RowIn y r → c < ROW → col rows3 y c ≡ col rows2 y c
+        right-last : (y c : ℕ) → HasRow y r → c < ROW → col rows3 y c ≡ col rows2 y c
         right-last y c h hc = last-kept y c (in-right y h) hc
 
         own-link : (c : ℕ) → c < DEPTH → col rows3 x c ≡ col rows x c
@@ -294,9 +294,6 @@ module _ (levels : ℕ) (rows : List ℕ) (k d x p : ℕ) (l : Tree) (q : ℕ) (
 -- ---- for whichever tree stands there
 
 module _ (levels : ℕ) (rows : List ℕ) (k d : ℕ) where
-  no-link : {t : Tree} → TreeIn levels rows k d t → (k ≡ 0 → ⊥) → t ≡ nil → ⊥
-  no-link g ne e = ne (g .link ∙ ap linkOf e)
-
   pub some-fits : TreeAsk levels rows k d → (k ≡ 0 → ⊥) → (k * ROW ≤ length rows) × (0 < k) × (d < WIDTH)
   unfolding shape depth
   some-fits (nil, g) ne = absurd (ne (g .link))

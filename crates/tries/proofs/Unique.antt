@@ -19,13 +19,13 @@ use Rattle.strides.proofs.Follows.{follows-unique}
 use Rattle.walk.specs.declared.record.Record.{Record}
 use Rattle.walk.specs.Limits.{WIDTH, LEVELS}
 use Rattle.walk.specs.Rows.{Lists, shortest, rowAt}
-use Rattle.layout.specs.Blocks.{Strides, rowsOf, rowCount, Hold}
+use Rattle.layout.specs.Blocks.{Strides, rowsOf, rowCount, Hold, Agree}
 use Rattle.layout.specs.Laid.{tableTrie, Laid}
 use Rattle.tries.specs.Filling.{LayGives}
 use Rattle.tries.specs.Chooser.{padded}
 use Rattle.tries.specs.Chooser.{chooseTests}
 use Rattle.tries.specs.Build.{buildTests, NoRecord, Keeps, Builds}
-use Rattle.layout.proofs.Agreeing.{Agree, same-agree, good-agree, rows-same, count-same}
+use Rattle.layout.proofs.Agreeing.{same-agree, good-agree, rows-same, count-same}
 use Rattle.tries.proofs.Choosing.{accepted-or}
 use Rattle.tries.proofs.Laying.{lay-unique}
 

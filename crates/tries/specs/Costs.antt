@@ -12,7 +12,7 @@ use Rattle.strides.specs.Recurrence.{atCap, scan, optBy, pickBy}
 use Rattle.walk.specs.Limits.{WIDTH, LEVELS}
 use Rattle.tries.specs.Limits.{COST-CAP}
 use Rattle.tries.specs.Scratch.{ROW, ask, COST, DEPTH, STRIDE}
-use Rattle.tries.specs.Trees.{Tree, nil, fork, shape, linkOf, col, Stand, RowIn, Apart}
+use Rattle.tries.specs.Trees.{Tree, nil, fork, shape, linkOf, col, Stand, HasRow, Apart}
 
 abbrev pub held : ℕ → ℕ
 held x = atCap COST-CAP x
@@ -127,14 +127,14 @@ AllPriced levels rows (fork x p l q r) =
 
 -- the columns for more levels are 0
 abbrev pub AboveZero : ℕ → List ℕ → Tree → Type 0
-AboveZero levels rows t = (y r : ℕ) → RowIn y t → levels ≤ r → r < LEVELS → (col rows y (COST + r) ≡ 0) × (col rows y (STRIDE + r) ≡ 0)
+AboveZero levels rows t = (y r : ℕ) → HasRow y t → levels ≤ r → r < LEVELS → (col rows y (COST + r) ≡ 0) × (col rows y (STRIDE + r) ≡ 0)
 
 -- the tree stands in rows that are there
 pub record TreeIn (levels : ℕ) (rows : List ℕ) (k d : ℕ) (t : Tree) : Type 0 where
   pub link : k ≡ linkOf t
   pub stand : Stand rows t
   pub apart : Apart t
-  pub fits : (y : ℕ) → RowIn y t → (y + 1) * ROW ≤ length rows
+  pub fits : (y : ℕ) → HasRow y t → (y + 1) * ROW ≤ length rows
   pub deep : d + depth (shape t) ≤ WIDTH
   pub few : levels ≤ LEVELS
 
@@ -142,7 +142,7 @@ pub record TreeOut (levels : ℕ) (rows rows′ : List ℕ) (t : Tree) : Type 0 
   pub stand : Stand rows′ t
   pub priced : AllPriced levels rows′ t
   pub above : AboveZero levels rows t → AboveZero levels rows′ t
-  pub others : (y c : ℕ) → (RowIn y t → ⊥) → c < ROW → col rows′ y c ≡ col rows y c
+  pub others : (y c : ℕ) → (HasRow y t → ⊥) → c < ROW → col rows′ y c ≡ col rows y c
 
 abbrev pub TreeAsk : ℕ → List ℕ → ℕ → ℕ → Type 0
 TreeAsk levels rows k d = (t : Tree) × TreeIn levels rows k d t

@@ -14,7 +14,7 @@ use Rattle.tries.specs.Scratch.{Stands}
 use Rattle.layout.specs.Blocks.{Strides, wide, rowBelow, levelRows, rowsOf, rowCount, Hold}
 
 -- the lists have e rows, and that is not too many (refusal 7)
-pub record Room (e : ℕ) (ls : Lists) : Type 0 where
+pub record HasRoom (e : ℕ) (ls : Lists) : Type 0 where
   pub fits : e ≤ shortest ls
   pub few : e ≤ ELEMENTS
 
@@ -40,7 +40,7 @@ pub record FillAsks (σ : Strides) (t : Trie) (rows plan : List ℕ) (k c r base
   pub e : ℕ
   pub own : base + 2 ^ c ≤ e
   pub children : free + wide σ t c 0 r ≤ e
-  pub room : Room e ls
+  pub room : HasRoom e ls
 
 -- where `best` is the hop so far in the block; the next free row is then free′
 pub record FillGives (σ : Strides) (t : Trie) (c r base best free : ℕ) (ls : Lists) (free′ : ℕ) (ls′ : Lists) : Type 0 where
@@ -62,7 +62,7 @@ pub record LevelAsks (σ : Strides) (t : Trie) (rows plan : List ℕ) (k w c n r
   pub e : ℕ
   pub own : base + wide σ t c n r ≤ e
   pub children : free + wide σ t c (suc n) r ≤ e
-  pub room : Room e ls
+  pub room : HasRoom e ls
 
 -- the next block of the level lies at base′, the next child block at free′
 pub record LevelGives (σ : Strides) (t : Trie) (c n r base free : ℕ) (ls : Lists) (base′ free′ : ℕ) (ls′ : Lists) : Type 0 where
@@ -76,8 +76,8 @@ abbrev pub CanLevel : (rows plan : List ℕ) (k w c n r base free : ℕ) → Lis
 CanLevel rows plan k w c n r base free ls =
     (σ : Strides) × (t : Trie) × LevelAsks σ t rows plan k w c n r base free ls
 
-abbrev pub Levels : (rows plan : List ℕ) (k w c n r base free : ℕ) → Lists → (base′ free′ : ℕ) → Lists → Type 0
-Levels rows plan k w c n r base free ls base′ free′ ls′ =
+abbrev pub WritesLevel : (rows plan : List ℕ) (k w c n r base free : ℕ) → Lists → (base′ free′ : ℕ) → Lists → Type 0
+WritesLevel rows plan k w c n r base free ls base′ free′ ls′ =
     (σ : Strides) (t : Trie) → LevelAsks σ t rows plan k w c n r base free ls
     → LevelGives σ t c n r base free ls base′ free′ ls′
 
@@ -85,13 +85,13 @@ Levels rows plan k w c n r base free ls base′ free′ ls′ =
 abbrev pub CanBlock : (rows plan : List ℕ) (k r base free : ℕ) → Lists → Type 0
 CanBlock rows plan k r base free ls = (w : ℕ) × CanLevel rows plan k w 0 0 r base free ls
 
-abbrev pub Blocks : (rows plan : List ℕ) (k r base free : ℕ) → Lists → (base′ free′ : ℕ) → Lists → Type 0
-Blocks rows plan k r base free ls base′ free′ ls′ = (w : ℕ) → Levels rows plan k w 0 0 r base free ls base′ free′ ls′
+abbrev pub WritesBlock : (rows plan : List ℕ) (k r base free : ℕ) → Lists → (base′ free′ : ℕ) → Lists → Type 0
+WritesBlock rows plan k r base free ls base′ free′ ls′ = (w : ℕ) → WritesLevel rows plan k w 0 0 r base free ls base′ free′ ls′
 
 -- ---- all rows of the trie at link k, with L levels
 pub record LayAsks (σ : Strides) (t : Trie) (rows plan : List ℕ) (k w L : ℕ) (ls : Lists) : Type 0 where
   pub trunk : Trunk σ t rows plan k w 0 L
-  pub room : Room (rowCount σ L t) ls
+  pub room : HasRoom (rowCount σ L t) ls
 
 pub record LayGives (σ : Strides) (t : Trie) (L : ℕ) (ls : Lists) (e : ℕ) (ls′ : Lists) : Type 0 where
   pub count : e ≡ rowCount σ L t

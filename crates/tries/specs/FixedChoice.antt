@@ -58,7 +58,7 @@ FixedOut nodes deep levels cost strides =
     (t : Trie) → FixedIn nodes deep levels t → (cost ≡ leastBy held fixed levels t) × (strides ≡ padded LEVELS (stridesBy held fixed levels t))
 
 -- p places of the list are read, and the levels from i on are left
-pub record Reading (nodes : ℕ → ℕ) (levels depth i p : ℕ) (list : List ℕ) : Type 0 where
+pub record ListRead (nodes : ℕ → ℕ) (levels depth i p : ℕ) (list : List ℕ) : Type 0 where
   pub done : (x : ℕ) → x < p → getD list x 0 ≡ getD (listBy held nodes (levels - 1) 0 depth) x 0
   pub blank : (x : ℕ) → p ≤ x → getD list x 0 ≡ 0
   pub rest : p < levels → (x : ℕ) → getD (listBy held nodes (levels - 1) 0 depth) (p + x) 0 ≡ getD (listBy held nodes (levels - 1 - p) i (depth - i)) x 0

@@ -3,8 +3,9 @@ use mathlib.Core.Path.{_≡_}
 use mathlib.Core.List.{List}
 use Prim.Native.Nat.{ℕ, _+_, _*_, _≤_, _<_}
 use lib.ListN.{length, getD, set}
+use Rattle.tries.specs.Limits.{WORD}
 use Rattle.tries.specs.Scratch.{DEPTH, ROW}
-use Rattle.tries.specs.Trees.{Tree, fork, col, Stand, RowIn, Apart, Under, insertR, countR}
+use Rattle.tries.specs.Trees.{Tree, fork, col, Stand, HasRow, Apart, Under, insertR, countR}
 
 -- the way to the child at a side of row x, which is made at row `used` where there is none
 pub record Downed (rows : List ℕ) (x s used y : ℕ) (rows′ : List ℕ) : Type 0 where
@@ -21,12 +22,12 @@ pub record InsertIn (rows : List ℕ) (x used v n : ℕ) : Type 0 where
   pub under : Under used (fork x p l q r)
   pub room : countR n used (fork x p l q r) v * ROW ≤ length rows
   pub blank : (i : ℕ) → used * ROW ≤ i → getD rows i 0 ≡ 0
-  pub short : n < 64
+  pub short : n < WORD
 
 pub record InsertOut (rows : List ℕ) (x used v n h used′ : ℕ) (rows′ : List ℕ) (t : Tree) : Type 0 where
   pub stands : Stand rows′ (insertR n used t v h)
   pub count : countR n used t v ≡ used′
-  pub keeps : (y : ℕ) → (RowIn y t → ⊥) → y < used → (c : ℕ) → c < ROW → col rows′ y c ≡ col rows y c
+  pub keeps : (y : ℕ) → (HasRow y t → ⊥) → y < used → (c : ℕ) → c < ROW → col rows′ y c ≡ col rows y c
 
 -- of a row's columns only links and marks are written
 pub record Inserted (rows : List ℕ) (x used v n h used′ : ℕ) (rows′ : List ℕ) : Type 0 where

@@ -2,11 +2,12 @@
 -- starts, one a level. Once the rows are made, nothing looks at a value again.
 use mathlib.Core.Path.{_≡_}
 use mathlib.Core.List.{List}
-use Prim.Native.Nat.{ℕ, zero, suc, _+_, _^_, _≤_, _<_}
+use Prim.Native.Nat.{ℕ, zero, suc, _+_, _≤_, _<_}
 use lib.ListN.{length}
 use Rattle.table.specs.Table.{at}
 use Rattle.strides.specs.Trie.{Trie, nodesAt}
 use Rattle.walk.specs.Limits.{WIDTH}
+use Rattle.tries.specs.Limits.{GROWS}
 
 -- 1 where from ≤ j < to
 unfoldable pub inLevels : (from to j : ℕ) → ℕ
@@ -19,7 +20,7 @@ inLevels (suc from) (suc to) (suc j) = inLevels from to j
 -- counts that have a place for each level, and can grow
 pub record CanCount (counts : List ℕ) : Type 0 where
   pub long : length counts ≡ WIDTH
-  pub small : (j : ℕ) → j < WIDTH → at counts j < 2 ^ 60
+  pub small : (j : ℕ) → j < WIDTH → at counts j < GROWS
 
 -- each level from `from` up to but not `to` has one more
 pub record LevelsAdded (counts : List ℕ) (from to : ℕ) (counts′ : List ℕ) : Type 0 where

@@ -40,18 +40,18 @@ Stand rows nil = Unit {0}
 Stand rows (fork x p l q r) = NodeRow rows x (linkOf l) (linkOf r) p q × Stand rows l × Stand rows r
 
 -- y is a row of the tree
-abbrev pub RowIn : ℕ → Tree → Type 0
-RowIn y nil = ⊥
-RowIn y (fork x p l q r) = (y ≡ x) ⊎ (RowIn y l ⊎ RowIn y r)
+abbrev pub HasRow : ℕ → Tree → Type 0
+HasRow y nil = ⊥
+HasRow y (fork x p l q r) = (y ≡ x) ⊎ (HasRow y l ⊎ HasRow y r)
 
 -- no row is there twice
 abbrev pub Apart : Tree → Type 0
 Apart nil = Unit {0}
-Apart (fork x p l q r) = (RowIn x l → ⊥) × (RowIn x r → ⊥) × ((y : ℕ) → RowIn y l → RowIn y r → ⊥) × Apart l × Apart r
+Apart (fork x p l q r) = (HasRow x l → ⊥) × (HasRow x r → ⊥) × ((y : ℕ) → HasRow y l → HasRow y r → ⊥) × Apart l × Apart r
 
 -- all its rows are below n
 abbrev pub Under : ℕ → Tree → Type 0
-Under n t = (y : ℕ) → RowIn y t → y < n
+Under n t = (y : ℕ) → HasRow y t → y < n
 
 -- ---- one entry more
 

@@ -4,12 +4,12 @@
 ghost use mathlib.Core.Path.{_≡_};
 ghost use Prim.Native.Nat.{_+_, _*_, _^_, _<_, _≤_};
 ghost use lib.ListN.{length, set};
+ghost use Rattle.table.specs.Longest.{newer};
 ghost use Rattle.walk.specs.Limits.{WIDTH};
-ghost use Rattle.tries.specs.Limits.{BYTE};
+ghost use Rattle.tries.specs.Limits.{LINKS, BYTE};
 ghost use Rattle.walk.specs.Rows.{lists, shortest};
-ghost use Rattle.strides.specs.Trie.{newer};
 ghost use Rattle.tries.specs.Scratch.{ROW, MARKS, ask};
-ghost use Rattle.tries.specs.Filling.{Bare, CanFill, Fills, CanBlock, Blocks, CanLevel, Levels, CanLay, Lays};
+ghost use Rattle.tries.specs.Filling.{Bare, CanFill, Fills, CanBlock, WritesBlock, CanLevel, WritesLevel, CanLay, Lays};
 use crate::scratch::asked;
 use crate::scratch::stride_at;
 
@@ -42,7 +42,7 @@ fn best_below(rows: &[u64], k: usize, side: usize, best: u16) -> u16
 
 // Writes element row i: the only place that does.
 fn write(hop: &mut [u16], link: &mut [u32], stride: &mut [u8], i: usize, h: u16, l: usize, s: usize)
-    requires { ⌜ (i < length (now hop)) × (i < length (now link)) × (i < length (now stride)) × (l < 2 ^ 32) × (s < BYTE) ⌝ }
+    requires { ⌜ (i < length (now hop)) × (i < length (now link)) × (i < length (now stride)) × (l < LINKS) × (s < BYTE) ⌝ }
     ensures hops { λ _. ⌜ now (hop .exit) ≡ set (now (hop .entry)) i h ⌝ }
     ensures links { λ _. ⌜ now (link .exit) ≡ set (now (link .entry)) i l ⌝ }
     ensures strides { λ _. ⌜ now (stride .exit) ≡ set (now (stride .entry)) i s ⌝ }
@@ -157,7 +157,7 @@ fn block(
 ) -> Front
     requires { ⌜ (0 < k) × CanBlock (now rows) (now plan) k r (to .base) (to .free) (lists (now hop) (now link) (now stride)) ⌝ }
     ensures { λ s. ⌜
-        Blocks (now (rows .entry)) (now (plan .entry)) k r (to .base) (to .free)
+        WritesBlock (now (rows .entry)) (now (plan .entry)) k r (to .base) (to .free)
         (lists (now (hop .entry)) (now (link .entry)) (now (stride .entry))) (s .base) (s .free)
         (lists (now (hop .exit)) (now (link .exit)) (now (stride .exit))) ⌝ }
 {
@@ -188,7 +188,7 @@ fn level(
 ) -> Front
     requires { ⌜ CanLevel (now rows) (now plan) k w c n r (to .base) (to .free) (lists (now hop) (now link) (now stride)) ⌝ }
     ensures { λ s. ⌜
-        Levels (now (rows .entry)) (now (plan .entry)) k w c n r (to .base) (to .free)
+        WritesLevel (now (rows .entry)) (now (plan .entry)) k w c n r (to .base) (to .free)
         (lists (now (hop .entry)) (now (link .entry)) (now (stride .entry))) (s .base) (s .free)
         (lists (now (hop .exit)) (now (link .exit)) (now (stride .exit))) ⌝ }
 {

@@ -12,17 +12,17 @@ ghost use Rattle.tries.specs.Making.{Prefixes};
 use table::Shared;
 use table::smaller;
 
-// The nodes that the entry (b, l) adds after its neighbour (a, k).
-fn new_nodes(width: u32, a: u32, k: u8, b: u32, l: u8) -> usize
+// The nodes that the entry (b, blen) adds after its neighbour (a, alen).
+fn new_nodes(width: u32, a: u32, alen: u8, b: u32, blen: u8) -> usize
     requires { ⌜ (0 < width) × (width ≤ WIDTH) ⌝ }
-    requires { ⌜ IsPrefix width a k × IsPrefix width b l ⌝ }
-    ensures { λ r. ⌜ r ≡ newAfter width a k b l ⌝ }
+    requires { ⌜ IsPrefix width a alen × IsPrefix width b blen ⌝ }
+    ensures { λ r. ⌜ r ≡ newAfter width a alen b blen ⌝ }
 {
-    let shared = table::shared_length(width, a, k, b, l);
+    let shared = table::shared_length(width, a, alen, b, blen);
     match shared {
         Shared::Length(s) => {
-            let most = smaller(k as usize, l as usize);
-            l as usize - smaller(s as usize + 1, most)
+            let most = smaller(alen as usize, blen as usize);
+            blen as usize - smaller(s as usize + 1, most)
         }
         Shared::Refused {
             number: _,

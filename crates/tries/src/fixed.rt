@@ -84,20 +84,20 @@ fn read_list(strides: &[u64], levels: usize, depth: usize) -> [u8; SLOTS]
 }
 
 // What the fixed choice costs, and its strides.
-pub(crate) struct Fixed {
+pub(crate) struct FixedFound {
     pub(crate) cost: u64,
     pub(crate) strides: [u8; SLOTS],
 }
 
 // The cheapest fixed choice for a trie of `depth` levels, whose nodes are counted level by level.
-pub(crate) fn fixed_choice(nodes: &[u64], depth: usize, levels: usize) -> Fixed
+pub(crate) fn fixed_choice(nodes: &[u64], depth: usize, levels: usize) -> FixedFound
     requires { ⌜ CanChoose (now nodes) depth levels ⌝ }
     ensures { λ r. ⌜ FixedOut (now (nodes .entry)) depth levels (r .cost) (r .strides) ⌝ }
 {
     let mut costs = [0u64; LEVEL_CELLS];
     let mut strides = [0u64; LEVEL_CELLS];
     fill_table(nodes, levels, depth, &mut costs, &mut strides);
-    Fixed {
+    FixedFound {
         cost: costs[levels - 1],
         strides: read_list(&strides, levels, depth),
     }

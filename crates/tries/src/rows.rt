@@ -1,10 +1,11 @@
 // The 1-bit trie of a table, made in scratch rows that are all 0: one entry after the other.
 ghost use mathlib.Core.Path.{_≡_};
-ghost use Prim.Native.Nat.{_+_, _*_, _^_, _<_, _≤_, max};
+ghost use Prim.Native.Nat.{_+_, _*_, _<_, _≤_, max};
 ghost use lib.ListN.{length};
 ghost use Rattle.tries.specs.Scratch.{ROW};
 ghost use Rattle.tries.specs.Inserting.{Downed, InsertIn, Inserted};
 ghost use Rattle.walk.specs.Limits.{WIDTH};
+ghost use Rattle.tries.specs.Limits.{GROWS};
 ghost use Rattle.tries.specs.LevelCounts.{CanCount, LevelsAdded};
 ghost use Rattle.tries.specs.Making.{AddIn, Added, CountIn, AddCounted, MakeIn, MakeOut};
 use crate::scratch::ROW;
@@ -26,7 +27,7 @@ fn down(rows: &mut [u64], x: usize, s: usize, used: usize) -> usize
 
 // The next free row, where row y may just have been taken.
 fn grown(used: usize, y: usize) -> usize
-    requires { ⌜ used < 2 ^ 60 ⌝ }
+    requires { ⌜ used < GROWS ⌝ }
     ensures { λ r. ⌜ (y ≡ used → r ≡ used + 1) × ((y ≡ used → ⊥) → r ≡ used) ⌝ }
 {
     if y == used { used + 1 } else { used }

@@ -18,8 +18,8 @@ use Rattle.walk.specs.Refusals.{fails, passes}
 use Rattle.walk.specs.Rows.{Lists, shortest, rowAt, root}
 use Rattle.walk.specs.Answers.{numberOf, latest, answer, Case}
 use Rattle.walk.specs.Lookup.{ended, tell, fromRoot, pathOf, lookupOf}
-use Rattle.walk.specs.Meaning.{FromRoot, Damage, short, rootless, breaks, OnPath, empty, walked, Tested, Looked}
-use Rattle.walk.proofs.Tests.{Passed, refusal-cases}
+use Rattle.walk.specs.Meaning.{Passed, FromRoot, Damage, short, rootless, breaks, OnPath, empty, walked, Tested, Looked}
+use Rattle.walk.proofs.Tests.{refusal-cases}
 use Rattle.walk.proofs.Answers.{answer-has, answer-number, answer-case}
 use Rattle.walk.proofs.Unique.{path-unique, looked-unique}
 use Rattle.walk.proofs.Paths.{trail-path}

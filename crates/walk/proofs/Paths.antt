@@ -8,8 +8,9 @@ use native.Mathlib.Omega.{arith}
 use lib.Dec.{eqb}
 use lib.ListN.{length}
 use borrow.Author.Tests.{eqb-true, eqb-false}
+use Rattle.table.specs.Longest.{newer}
 use Rattle.walk.specs.Rows.{Row, rowOf}
-use Rattle.walk.specs.Answers.{better, latest}
+use Rattle.walk.specs.Answers.{latest}
 use Rattle.walk.specs.Lookup.{Trail, ended, broken, behind, trail}
 use Rattle.walk.specs.Meaning.{Readable, Path, spent, damaged, last, on}
 use Rattle.walk.proofs.Walks.{read-cases}
@@ -67,4 +68,4 @@ pub latest-local : (at at′ : ℕ → Row) (best : ℕ) (rs : List ℕ) → ((r
 unfolding latest
 latest-local at at′ best [] same = refl
 latest-local at at′ best (r ∷ rs) same =
-    rw (same r (List·Memᴰ·head refl)) (latest-local at at′ (better (at′ r .hop) best) rs (λ q i. same q (List·Memᴰ·tail i)))
+    rw (same r (List·Memᴰ·head refl)) (latest-local at at′ (newer (at′ r .hop) best) rs (λ q i. same q (List·Memᴰ·tail i)))

@@ -11,7 +11,7 @@ use lib.ListN.{length}
 use Rattle.walk.specs.declared.record.Record.{Record}
 use Rattle.walk.specs.declared.walk.Answer.{Answer}
 use Rattle.walk.specs.Rows.{Lists, shortest, rowAt, root}
-use Rattle.walk.specs.Answers.{numberOf, hopOf, readsOf, Accepted, latest}
+use Rattle.walk.specs.Answers.{numberOf, hopOf, readsOf, NotRefused, latest}
 use Rattle.walk.specs.Lookup.{Trail, ended, tell, fromRoot, pathOf, pathRows, lookupOf}
 use Rattle.walk.specs.Meaning.{OnPath, empty, walked, Looked}
 use Rattle.walk.proofs.Tests.{tests-same}
@@ -39,11 +39,11 @@ module _ (rec : Record) (ls : Lists) (address : ℕ) where
 
 module _ (most : ℕ) (rec : Record) (ls : Lists) (address : ℕ) where
   -- what an accepted answer says, of the rule's own rows
-  on-rows : {a : Answer} → Looked most rec ls address a → Accepted a → OnPath rec ls address (pathRows rec ls address)
+  on-rows : {a : Answer} → Looked most rec ls address a → NotRefused a → OnPath rec ls address (pathRows rec ls address)
       × (hopOf a ≡ latest (rowAt ls) (rec .floor) (pathRows rec ls address)) × (readsOf a ≡ length (pathRows rec ls address))
   on-rows l z = let t = l .told z in rw (path-rows rec ls address (t .1)) (t .1, t .2, t .3)
 
-  module _ (z : Accepted (lookupOf most rec ls address)) where
+  module _ (z : NotRefused (lookupOf most rec ls address)) where
     -- an accepted lookup went along the path to its end
     pub rows-on-path : OnPath rec ls address (pathRows rec ls address)
     rows-on-path = on-rows (looked most rec ls address) z .0

@@ -11,6 +11,7 @@ use Rattle.walk.specs.Limits.{LEVELS, Outside, Within}
 use Rattle.table.specs.Limits.{outside}
 use Rattle.walk.specs.Rows.{root}
 use Rattle.walk.specs.Lookup.{unfit, refusalOf}
+use Rattle.walk.specs.Meaning.{Passed}
 
 -- a number is 0 or above its limit, or it is within
 pub outside-cases : (x most : ℕ) (P : Bool → Type 0) → (Outside x most → P true) → (Within x most → P false) → P (outside x most)
@@ -39,14 +40,6 @@ unfit-cases e n r P f g = go (ltb n e) refl (eqb e 0) refl (eqb r 0) refl
     go false a true b v c = g (ltb-false _ _ a) (λ z. eqb-true _ _ b)
     go false a false b true c = f (inr (eqb-true _ _ c, omega (arith, eqb-false e 0 b)))
     go false a false b false c = g (ltb-false _ _ a) (λ z. absurd (eqb-false _ _ c z))
-
--- no test fails before the first row
-pub record Passed (most : ℕ) (rec : Record) (n address : ℕ) : Type 0 where
-  pub width : Within (rec .width) most
-  pub levels : Within (rec .levels) LEVELS
-  pub inside : address < 2 ^ rec .width
-  pub enough : rec .elements ≤ n
-  pub rooted : root rec ≡ 0 → rec .elements ≡ 0
 
 module _ (most : ℕ) (rec : Record) (n address : ℕ) where
   -- what holds of the first test that fails, and of none

@@ -6,10 +6,11 @@ use mathlib.Core.Bool.{Bool, true, false, cond, _&&_}
 use native.Mathlib.Omega.{arith}
 use lib.Dec.{leb, ltb}
 use borrow.Author.Tests.{eq-eqb, ne-eqb, ltb-true, ltb-false, leb-true, leb-false}
+use Rattle.table.specs.Longest.{newer}
 use Rattle.walk.specs.declared.record.Record.{Record}
 use Rattle.walk.specs.declared.walk.Answer.the-variants.{Refused}
 use Rattle.walk.specs.Rows.{Row, Lists, shortest, rowAt, root, rowOf}
-use Rattle.walk.specs.Answers.{better, latest, answer}
+use Rattle.walk.specs.Answers.{latest, answer}
 use Rattle.walk.specs.Lookup.{readable, Trail, ended, behind, trail, tell, walk, fromRoot, pathOf, refusalOf, lookupOf}
 use Rattle.walk.specs.Meaning.{Readable, Damaged, no-stride, too-wide, past-end}
 use Rattle.walk.proofs.Unique.{not-both}
@@ -35,10 +36,10 @@ module _ (e address base s left : ℕ) where
 
 -- a row at the front is counted, and is the new best where its hop is not 0
 tell-behind : (at : ℕ → Row) (best reads r : ℕ) (t : Trail)
-    → tell at best reads (behind r t) ≡ tell at (better (at r .hop) best) (reads + 1) t
+    → tell at best reads (behind r t) ≡ tell at (newer (at r .hop) best) (reads + 1) t
 unfolding tell latest
 tell-behind at best reads r t =
-    ap (λ (n : ℕ). cond (t .whole) (answer (latest at (better (at r .hop) best) (t .rows)) n) (Refused 9)) (omega arith)
+    ap (λ (n : ℕ). cond (t .whole) (answer (latest at (newer (at r .hop) best) (t .rows)) n) (Refused 9)) (omega arith)
 
 module _ (e address : ℕ) (at : ℕ → Row) (k base s left best reads : ℕ) where
   pub walk-stops : Damaged e address base s left → walk e address at k base s left best reads ≡ Refused 9
@@ -50,7 +51,7 @@ module _ (e address : ℕ) (at : ℕ → Row) (k base s left best reads : ℕ) w
   walk-spends z = rw z
 
   module _ {j r b : ℕ} (f : k ≡ suc j) (h : Readable e address base s left) (q : r ≡ rowOf address base s left)
-      (m : b ≡ better (at r .hop) best) where
+      (m : b ≡ newer (at r .hop) best) where
     pub walk-ends : at r .link ≡ 0 → walk e address at k base s left best reads ≡ answer b (reads + 1)
     unfolding walk trail tell latest
     walk-ends z = rw (f, readable-true e address base s left h, ← q, eq-eqb _ _ z, m)

@@ -7,6 +7,7 @@ use mathlib.Core.List.{List, [], _∷_}
 use lib.Dec.{eqb}
 use Rattle.walk.specs.declared.walk.Answer.{Answer}
 use Rattle.walk.specs.declared.walk.Answer.the-variants.{Match, NoRoute, Refused}
+use Rattle.table.specs.Longest.{newer}
 use Rattle.walk.specs.Rows.{Row}
 
 -- the refusal's number, 0 for an accepted lookup
@@ -25,8 +26,9 @@ readsOf (Match hop reads) = reads
 readsOf (NoRoute reads) = reads
 readsOf (Refused number) = 0
 
-abbrev pub Accepted : Answer → Type 0
-Accepted a = numberOf a ≡ 0
+-- the lookup is accepted
+abbrev pub NotRefused : Answer → Type 0
+NotRefused a = numberOf a ≡ 0
 
 -- which case an answer is, by number and hop: a refusal has a number, a match a hop; hop 0 is no route
 abbrev pub Case : Answer → Type 0
@@ -34,14 +36,10 @@ Case (Match hop reads) = 0 < hop
 Case (NoRoute reads) = Unit {0}
 Case (Refused number) = 0 < number
 
--- a nonzero hop is the new best
-unfoldable pub better : (hop best : ℕ) → ℕ
-better hop best = cond (eqb hop 0) best hop
-
 -- the best after some rows, read in order
 unfoldable pub latest : (at : ℕ → Row) (best : ℕ) → List ℕ → ℕ
 latest at best [] = best
-latest at best (r ∷ rs) = latest at (better (at r .hop) best) rs
+latest at best (r ∷ rs) = latest at (newer (at r .hop) best) rs
 
 -- hop 0 is no route
 unfoldable pub answer : (best reads : ℕ) → Answer

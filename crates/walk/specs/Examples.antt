@@ -6,7 +6,7 @@ use Rattle.walk.specs.declared.record.Record.{Record}
 use Rattle.walk.specs.Limits.{WIDTH}
 use Rattle.table.specs.Limits.{outside}
 use Rattle.walk.specs.Rows.{Lists, rowOf}
-use Rattle.walk.specs.Answers.{better, latest, answer}
+use Rattle.walk.specs.Answers.{latest, answer}
 use Rattle.walk.specs.Lookup.{readable, trail, tell, pathOf, pathRows, unfit, refusalOf, lookupOf}
 
 abbrev rec : Record
@@ -22,5 +22,5 @@ rows = record {
 -- addresses 101, 111 and 011, with the path of the first, and 1000, which is not below 2 ^ 3
 run : (lookupOf WIDTH rec rows 5 ≡ Match 2 2) × (pathRows rec rows 5 ≡ 1 ∷ 3 ∷ []) × (lookupOf WIDTH rec rows 7 ≡ Match 1 2)
     × (lookupOf WIDTH rec rows 3 ≡ NoRoute 1) × (lookupOf WIDTH rec rows 8 ≡ Refused 8)
-unfolding outside better answer rowOf readable trail latest tell pathOf unfit refusalOf lookupOf
+unfolding outside answer rowOf readable trail latest tell pathOf unfit refusalOf lookupOf
 run = (refl, refl, refl, refl, refl)

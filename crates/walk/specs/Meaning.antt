@@ -1,4 +1,5 @@
--- What a lookup's answer means, in document 01's sentences and without computing it: which answers the promise allows.
+-- What a lookup's answer means, in document 01's sentences: which answers the promise allows. There is no search in it: the path is
+-- any that the rule allows, and hop and reads are read off its rows.
 -- "A lookup tests 1, 2, 8, then 9. Refusal 9 is given exactly when E exceeds the shortest list; or root stride is 0 while
 -- E is not; or on the path a stride is 0 or exceeds the bits left, a row read is at or past E, or a block after the k-th
 -- is called for. (Root stride 0 with E = 0 is the empty trie.)"
@@ -9,10 +10,18 @@ use mathlib.Core.List.{List, [], _∷_}
 use lib.ListN.{length}
 use Rattle.walk.specs.declared.walk.Answer.{Answer}
 use Rattle.walk.specs.declared.record.Record.{Record}
-use Rattle.walk.specs.Limits.{LEVELS, Outside}
+use Rattle.walk.specs.Limits.{LEVELS, Outside, Within}
 use Rattle.walk.specs.Refusals.{RefuseBy, NoMore}
 use Rattle.walk.specs.Rows.{Row, Lists, shortest, rowAt, root, rowOf}
 use Rattle.walk.specs.Answers.{numberOf, hopOf, readsOf, Case, latest}
+
+-- no test fails before the first row: n rows are lent
+pub record Passed (most : ℕ) (rec : Record) (n address : ℕ) : Type 0 where
+  pub width : Within (rec .width) most
+  pub levels : Within (rec .levels) LEVELS
+  pub inside : address < 2 ^ rec .width
+  pub enough : rec .elements ≤ n
+  pub rooted : root rec ≡ 0 → rec .elements ≡ 0
 
 -- a block that can be read
 pub record Readable (e address base s left : ℕ) : Type 0 where

@@ -3,9 +3,10 @@
 // row stand in a function of their own, so that nothing but they comes before the loop over the rows.
 ghost use mathlib.Core.Path.{_≡_};
 ghost use Prim.Native.Nat.{_≤_};
+ghost use Rattle.table.specs.Longest.{newer};
 ghost use Rattle.walk.specs.Limits.{WIDTH};
 ghost use Rattle.walk.specs.Rows.{lists, shortest, rowAt};
-ghost use Rattle.walk.specs.Answers.{better, answer};
+ghost use Rattle.walk.specs.Answers.{answer};
 ghost use Rattle.walk.specs.Lookup.{walk, unfit, refusalOf, lookupOf};
 ghost use Rattle.walk.specs.Meaning.{Looked};
 use crate::address::cut;
@@ -24,7 +25,7 @@ pub enum Answer {
 
 // A nonzero hop is the new best.
 fn newer(hop: u16, best: u16) -> u16
-    ensures { λ r. ⌜ r ≡ better hop best ⌝ }
+    ensures { λ r. ⌜ r ≡ newer hop best ⌝ }
 {
     if hop == 0 { best } else { hop }
 }
@@ -93,13 +94,7 @@ fn follow(
 fn is_unfit(elements: usize, rows: usize, root: u8) -> bool
     ensures { λ r. ⌜ r ≡ unfit elements rows root ⌝ }
 {
-    if rows < elements {
-        return true;
-    }
-    if elements == 0 {
-        return false;
-    }
-    root == 0
+    rows < elements || elements != 0 && root == 0
 }
 
 // The number of the first test that fails before a row is read, in the order 1, 2, 8, 9; 0 for none.

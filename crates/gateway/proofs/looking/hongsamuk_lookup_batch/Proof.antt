@@ -4,14 +4,14 @@ use Prim.Native.Nat.{_-_, _≤_}
 use native.Mathlib.Omega.{arith}
 use borrow.Author.Needs.{needs}
 use Rattle.walk.specs.Rows.{lists}
-use Rattle.gateway.specs.Batch.{columns, Written}
+use Rattle.gateway.specs.Batch.{columns, BatchWritten}
 use Rattle.gateway.proofs.Writing.{Promised, written-none, written-more, written-by}
 use Rattle.gateway.proofs.looking.hongsamuk_lookup_batch.Statement.{statement}
 use Rattle.gateway.proofs.looking.hongsamuk_lookup_batch.Tie as tie
 
 abbrev Inv-loop : tie.InvT-loop
 Inv-loop rec hops links strides address number₀ hop₀ reads₀ n i₀ number hop reads i =
-    (i ≤ n) × Written (Promised rec (lists hops links strides)) address (columns number₀ hop₀ reads₀) (columns number hop reads) i
+    (i ≤ n) × BatchWritten (Promised rec (lists hops links strides)) address (columns number₀ hop₀ reads₀) (columns number hop reads) i
 
 abbrev μ-loop : tie.MeasureT-loop
 μ-loop rec hops links strides address number₀ hop₀ reads₀ n i₀ number hop reads i = n - i

@@ -1,5 +1,6 @@
 -- The contract is the invariant: what each subtrie adds. The measure is the number of levels that can stand below.
-use Prim.Native.Nat.{_-_}
+use Prim.Native.Nat.{_+_, _-_}
+use Rattle.walk.specs.Limits.{WIDTH}
 use mathlib.Core.Path.{_≡_}
 use native.Mathlib.Omega.{arith}
 use Rattle.tries.proofs.Gathering.{row-in, left-in, right-in, all-out, none-out}
@@ -16,7 +17,7 @@ use Rattle.tries.proofs.costs.+gather.{statement}
 use Rattle.tries.proofs.costs.+gather.Tie.{close}
 
 abbrev μ-gather : Measures 2 gather-kinds.ps ℕ
-μ-gather κs a = 33 - a .1 .1 .0
+μ-gather κs a = WIDTH + 1 - a .1 .1 .0
 
 abbrev gather-at : ℕ → In 2 gather-kinds.ps
 gather-at t = and 2 gather-kinds.ps (is 2 gather-kinds.ps μ-gather t) gather.Pre

@@ -1,5 +1,6 @@
 -- The contract is the invariant: the tree at each link. The measure is the number of levels that can stand below.
 use Prim.Native.Nat.{_-_}
+use Rattle.walk.specs.Limits.{WIDTH}
 use mathlib.Core.Path.{_≡_}
 use native.Mathlib.Omega.{arith}
 use Rattle.tries.proofs.Settling.{some-fits, some-left, some-right, some-own, all-settled, none-settled}
@@ -16,7 +17,7 @@ use Rattle.tries.proofs.costs.+settle_tree.{statement}
 use Rattle.tries.proofs.costs.+settle_tree.Tie.{close}
 
 abbrev μ-settle-tree : Measures 1 settle-tree-kinds.ps ℕ
-μ-settle-tree κs a = 32 - a .1 .1 .0
+μ-settle-tree κs a = WIDTH - a .1 .1 .0
 
 abbrev settle-tree-at : ℕ → In 1 settle-tree-kinds.ps
 settle-tree-at t =

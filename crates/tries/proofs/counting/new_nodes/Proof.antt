@@ -12,7 +12,7 @@ use Rattle.tries.proofs.counting.new_nodes.Tie as tie
 shared-length-requires : tie.Need-shared-length-requires
 shared-length-requires c κs = search needs
 
-found : (c : tie.After-shared-length) → let a = c .before .args in c .shared-length .result ≡ Length (shared (a .width) (a .a) (a .b) (min (a .k) (a .l)))
+found : (c : tie.After-shared-length) → let a = c .before .args in c .shared-length .result ≡ Length (shared (a .width) (a .a) (a .b) (min (a .alen) (a .blen)))
 found c =
     let p = c .before .pre in
     c .shared-length .ensures .0 ∙ shared-found _ _ _ _ _ (p .0 .0) (p .0 .1) (p .1 .0) (p .1 .1)

@@ -6,7 +6,7 @@ use native.Mathlib.Omega.{arith}
 use lib.ListN.{length, getD, length-set}
 use Rattle.walk.specs.Limits.{LEVELS}
 use Rattle.tries.specs.Limits.{BYTE}
-use Rattle.tries.specs.FixedChoice.{StridesFilled, Reading}
+use Rattle.tries.specs.FixedChoice.{StridesFilled, ListRead}
 use Rattle.tries.proofs.FixedChoice.{pick-within, reading-start, reading-next, reading-done}
 use borrow.Author.Needs.{needs}
 use Rattle.tries.proofs.fixed.read_list.Statement.{statement}
@@ -15,7 +15,7 @@ use Rattle.tries.proofs.fixed.read_list.Tie as tie
 abbrev Inv-loop : tie.InvT-loop
 Inv-loop strides levels depth list₀ i₀ p₀ list i p =
     (i ≤ depth) × (p ≤ levels) × (length list ≡ LEVELS)
-    × ((nodes : ℕ → ℕ) → StridesFilled nodes levels depth strides → Reading nodes levels depth i p list)
+    × ((nodes : ℕ → ℕ) → StridesFilled nodes levels depth strides → ListRead nodes levels depth i p list)
 
 abbrev μ-loop : tie.MeasureT-loop
 μ-loop strides levels depth list₀ i₀ p₀ list i p = levels - p
@@ -86,7 +86,7 @@ returns c =
     let l = c .before .loop in
     let e : l .p ≡ S .args .levels = omega arith in
     λ nodes f. reading-done nodes (S .args .levels) (S .args .depth) (l .i) (l .list) (S .pre .1) (l .inv .2)
-    (subst (λ (x : ℕ). Reading nodes (S .args .levels) (S .args .depth) (l .i) x (l .list)) e (l .inv .3 nodes f))
+    (subst (λ (x : ℕ). ListRead nodes (S .args .levels) (S .args .depth) (l .i) x (l .list)) e (l .inv .3 nodes f))
 
 pub read-list-spec : {M : Type 1} → statement M
 read-list-spec =
