@@ -9,6 +9,7 @@ use native.Mathlib.Nat.{pow-suc, pow-zero, pow-le-pow-right, mul-le-mul-right, s
 use lib.ListN.{length}
 use lib.Dec.{leb, ltb, lit<, lit≤}
 use borrow.Author.Tests.{leb-true, ltb-true, not-true, not-false}
+use Rattle.sheet.specs.Limits.{SAFE-DIGITS, ZERO-DIGIT}
 use Rattle.sheet.specs.Lines.{byteAt, isDigit, countAt, valueAt, digitsAt}
 use Rattle.sheet.specs.declared.lines.Digits.{Digits}
 use Rattle.sheet.proofs.Keys.{byte-inside}
@@ -19,14 +20,14 @@ no-bool e = let z : _≡_ {A = ℕ} 0 1 = cc in omega arith
 -- ---- one digit
 
 pub record IsDigit (b c : ℕ) : Type 0 where
-  pub low : 48 ≤ c
-  pub high : c < 48 + b
+  pub low : ZERO-DIGIT ≤ c
+  pub high : c < ZERO-DIGIT + b
 
 pub is-digit : (b c : ℕ) → isDigit b c ≡ true → IsDigit b c
 unfolding isDigit
-is-digit b c e = go (leb 48 c) (ltb c (48 + b)) refl refl e
+is-digit b c e = go (leb ZERO-DIGIT c) (ltb c (ZERO-DIGIT + b)) refl refl e
   where
-    go : (t u : Bool) → leb 48 c ≡ t → ltb c (48 + b) ≡ u → (t && u) ≡ true → IsDigit b c
+    go : (t u : Bool) → leb ZERO-DIGIT c ≡ t → ltb c (ZERO-DIGIT + b) ≡ u → (t && u) ≡ true → IsDigit b c
     go true true p q r = record { low = leb-true _ _ p; high = ltb-true _ _ q }
     go true false p q r = absurd (no-bool (sym r))
     go false u p q r = absurd (no-bool (sym r))
@@ -68,8 +69,8 @@ unfolding valueAt
 value-below b k zero s p h = rw pow-zero (lit< tt)
 value-below b k (suc n) s p h =
     let d = is-digit b (byteAt s (p + n)) (counted b k s p n (omega arith)) in
-    subst (λ (m : ℕ). valueAt b n s p * b + (byteAt s (p + n) - 48) < b ^ m) (add-one n)
-    (value-more b n (valueAt b n s p) (byteAt s (p + n) - 48) (value-below b k n s p (omega arith)) (omega arith))
+    subst (λ (m : ℕ). valueAt b n s p * b + (byteAt s (p + n) - ZERO-DIGIT) < b ^ m) (add-one n)
+    (value-more b n (valueAt b n s p) (byteAt s (p + n) - ZERO-DIGIT) (value-below b k n s p (omega arith)) (omega arith))
 
 -- ---- the loop over the digits, in the code's own terms: n digits were read before place q, c is the byte there, t its test
 
@@ -108,7 +109,7 @@ count-end b most s p n h = let f : most - n ≡ 0 = omega arith in rw f
 pub value-none : (b : ℕ) → 0 < b ^ 0
 value-none b = rw pow-zero (lit< tt)
 
-pub value-go : (b n v : ℕ) (s : List ℕ) (p : ℕ) {c : ℕ} → c ≡ byteAt s (p + n) → v ≡ valueAt b n s p → v * b + (c - 48) ≡ valueAt b (n + 1) s p
+pub value-go : (b n v : ℕ) (s : List ℕ) (p : ℕ) {c : ℕ} → c ≡ byteAt s (p + n) → v ≡ valueAt b n s p → v * b + (c - ZERO-DIGIT) ≡ valueAt b (n + 1) s p
 unfolding valueAt
 value-go b n v s p e f = rw (e, f, add-one)
 
@@ -133,5 +134,5 @@ module _ (b most : ℕ) (s : List ℕ) (p : ℕ) {d : Digits} (read : d ≡ digi
   unfolding digitsAt
   read-most = rw read (count-most b most s p)
 
-pub tens-fit : (k : ℕ) → k ≤ 19 → 10 ^ k ≤ 2 ^ 64
-tens-fit k h = omega (arith, pow-le-pow-right {n = 10} (lit≤ tt) {i = k} {j = 19} h)
+pub tens-fit : (k : ℕ) → k ≤ SAFE-DIGITS → 10 ^ k ≤ 2 ^ 64
+tens-fit k h = omega (arith, pow-le-pow-right {n = 10} (lit≤ tt) {i = k} {j = SAFE-DIGITS} h)

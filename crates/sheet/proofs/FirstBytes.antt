@@ -15,7 +15,7 @@ use Rattle.sheet.specs.declared.lines.Spot.{Spot}
 use Rattle.sheet.specs.declared.lines.Digits.{Digits}
 use Rattle.sheet.specs.declared.lines.Item.{Item}
 use Rattle.sheet.specs.declared.entries.Entry.{Entry}
-use Rattle.sheet.specs.Limits.{COUNT, NUMBER-DIGITS, NUMBER, HOP, BITS, LONGEST, PAGE}
+use Rattle.sheet.specs.Limits.{COUNT, NUMBER-DIGITS, NUMBER, HOP, BITS, ENTRY-BYTES, QUERY-BYTES, LONGEST, PAGE}
 use Rattle.sheet.specs.Keys.{widthKey, fixedKey, variableKey, levelsKey, entriesKey, bitsKey, hopKey, queriesKey, addressKey}
 use Rattle.sheet.specs.Lines.{byteAt, keyAt, countAt, valueAt, digitsAt, close, numberLine, bitsLine, kindLine}
 use Rattle.sheet.specs.Entries.{entryFrom, addressFrom, afterEntries, afterQueries}
@@ -74,17 +74,17 @@ module _ (s t : List ℕ) (B : ℕ) (same : (p : ℕ) → p < B → byteAt s p �
             (omega (arith, read-most 2 BITS t (p .at + length key) refl)),
       )
 
-  kind-same : (p : Spot) → p .at + 8 < B → kindLine s p ≡ kindLine t p
+  kind-same : (p : Spot) → p .at + length fixedKey < B → kindLine s p ≡ kindLine t p
   unfolding kindLine
   kind-same p h =
       rw (
         key-same fixedKey (p .at) (omega arith),
         key-same variableKey (p .at) (omega arith),
-        close-same p (p .at + 8) (record { value = 0; count = 0 }) h,
-        close-same p (p .at + 8) (record { value = 1; count = 0 }) h,
+        close-same p (p .at + length fixedKey) (record { value = 0; count = 0 }) h,
+        close-same p (p .at + length fixedKey) (record { value = 1; count = 0 }) h,
       )
 
-  entry-same : (p : Spot) → p .at + 48 ≤ B → entryFrom s p ≡ entryFrom t p
+  entry-same : (p : Spot) → p .at + ENTRY-BYTES ≤ B → entryFrom s p ≡ entryFrom t p
   unfolding entryFrom
   entry-same p h =
       rw (
@@ -92,14 +92,14 @@ module _ (s t : List ℕ) (B : ℕ) (same : (p : ℕ) → p < B → byteAt s p �
         number-same NUMBER-DIGITS HOP hopKey (bitsLine 0 bitsKey t p .spot) (omega (arith, bits-is bitsKey t p 0 .step .near)),
       )
 
-  entries-same : (p : Spot) (n : ℕ) → p .at + n * 48 ≤ B → afterEntries s p n ≡ afterEntries t p n
+  entries-same : (p : Spot) (n : ℕ) → p .at + n * ENTRY-BYTES ≤ B → afterEntries s p n ≡ afterEntries t p n
   unfolding afterEntries
   entries-same p zero h = refl
   entries-same p (suc n) h =
       ap (λ (q : Spot). entryFrom s q .spot) (entries-same p n (omega arith))
       ∙ ap (λ (e : Entry). e .spot) (entry-same (afterEntries t p n) (omega (arith, entries-step t p n .near)))
 
-  queries-same : (p : Spot) (n : ℕ) → p .at + n * 41 ≤ B → afterQueries s p n ≡ afterQueries t p n
+  queries-same : (p : Spot) (n : ℕ) → p .at + n * QUERY-BYTES ≤ B → afterQueries s p n ≡ afterQueries t p n
   unfolding afterQueries addressFrom
   queries-same p zero h = refl
   queries-same p (suc n) h =

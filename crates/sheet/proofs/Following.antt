@@ -16,7 +16,7 @@ use borrow.Author.Tests.{eqb-true}
 use Rattle.sheet.specs.declared.lines.Spot.{Spot}
 use Rattle.sheet.specs.declared.lines.Digits.{Digits}
 use Rattle.sheet.specs.declared.lines.Item.{Item}
-use Rattle.sheet.specs.Limits.{COUNT, NUMBER-DIGITS, NUMBER, HOP, BITS}
+use Rattle.sheet.specs.Limits.{COUNT, NUMBER-DIGITS, NUMBER, HOP, BITS, LF}
 use Rattle.sheet.specs.Keys.{widthKey, fixedKey, variableKey, levelsKey, entriesKey, bitsKey, hopKey, queriesKey, addressKey}
 use Rattle.sheet.specs.Lines.{byteAt, keyAt, digitsAt, unpadded, badLine, close, numberLine, bitsLine, kindLine}
 use Rattle.table.specs.Lists.{listed}
@@ -50,7 +50,7 @@ tested-turn p false l h = record { went = λ e. clash e; stayed = λ e. (refl, r
 close-turn : (s : List ℕ) (p : Spot) (end : ℕ) (d : Digits) → Turn p (close s p end d .spot)
 unfolding close
 close-turn s p end d =
-    tested-turn p (p .good && eqb (byteAt s end) 10)
+    tested-turn p (p .good && eqb (byteAt s end) LF)
     (record { value = d .value; count = d .count; spot = record { at = suc end; line = suc (p .line); good = true } })
     (record { went = λ e. refl; stayed = λ e. clash (sym e) })
 
@@ -76,10 +76,10 @@ kind-turn s p = go (keyAt fixedKey s (p .at))
   where
     go : (t : Bool)
         → Turn p
-        (cond t (close s p (p .at + 8) (record { value = 0; count = 0 }))
-        (cond (keyAt variableKey s (p .at)) (close s p (p .at + 8) (record { value = 1; count = 0 })) (badLine p)) .spot)
-    go true = close-turn s p (p .at + 8) _
-    go false = tested-turn p (keyAt variableKey s (p .at)) (close s p (p .at + 8) (record { value = 1; count = 0 })) (close-turn s p (p .at + 8) _)
+        (cond t (close s p (p .at + length fixedKey) (record { value = 0; count = 0 }))
+        (cond (keyAt variableKey s (p .at)) (close s p (p .at + length fixedKey) (record { value = 1; count = 0 })) (badLine p)) .spot)
+    go true = close-turn s p (p .at + length fixedKey) _
+    go false = tested-turn p (keyAt variableKey s (p .at)) (close s p (p .at + length fixedKey) (record { value = 1; count = 0 })) (close-turn s p (p .at + length fixedKey) _)
 
 pub turn-more : {p q : Spot} → Turn p q → p .line ≤ q .line
 turn-more {p} {q} t = go (q .good) refl

@@ -13,7 +13,7 @@ use lib.Dec.{lit≤}
 use Rattle.sheet.specs.declared.lines.Spot.{Spot}
 use Rattle.sheet.specs.declared.lines.Item.{Item}
 use Rattle.sheet.specs.declared.entries.Entry.{Entry}
-use Rattle.sheet.specs.Limits.{BITS, NUMBER-DIGITS, HOP}
+use Rattle.sheet.specs.Limits.{BITS, NUMBER-DIGITS, HOP, ENTRY-BYTES, QUERY-BYTES}
 use Rattle.sheet.specs.Keys.{bitsKey, hopKey, addressKey}
 use Rattle.sheet.specs.Lines.{bitsLine}
 use Rattle.table.specs.Lists.{listed}
@@ -28,7 +28,7 @@ pub spells-fits : {v n : ℕ} → Spells v n → v < 2 ^ BITS
 spells-fits {v} {n} h = omega (arith, h .0, pow-le-pow-right {n = 2} (lit≤ tt) {i = n} {j = BITS} (h .1))
 
 module _ (s : List ℕ) (p : Spot) where
-  pub entry-step : Step s p 48 2 (entryFrom s p .spot)
+  pub entry-step : Step s p ENTRY-BYTES 2 (entryFrom s p .spot)
   unfolding entryFrom
   entry-step = step-then (bits-is bitsKey s p 0 .step) (number-is hopKey s (bitsLine 0 bitsKey s p .spot) NUMBER-DIGITS HOP .step)
 
@@ -38,12 +38,12 @@ module _ (s : List ℕ) (p : Spot) where
 
 -- ---- where the reading stands after so many entries, and after so many queries
 
-pub entries-step : (s : List ℕ) (p : Spot) (n : ℕ) → Step s p (n * 48) (n * 2) (afterEntries s p n)
+pub entries-step : (s : List ℕ) (p : Spot) (n : ℕ) → Step s p (n * ENTRY-BYTES) (n * 2) (afterEntries s p n)
 unfolding afterEntries
 entries-step s p zero = step-none s p
 entries-step s p (suc n) = step-widen (step-then (entries-step s p n) (entry-step s (afterEntries s p n))) (omega arith) (omega arith)
 
-pub queries-step : (s : List ℕ) (p : Spot) (n : ℕ) → Step s p (n * 41) n (afterQueries s p n)
+pub queries-step : (s : List ℕ) (p : Spot) (n : ℕ) → Step s p (n * QUERY-BYTES) n (afterQueries s p n)
 unfolding afterQueries addressFrom
 queries-step s p zero = step-none s p
 queries-step s p (suc n) =

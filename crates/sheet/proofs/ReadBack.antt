@@ -2,7 +2,7 @@
 use mathlib.Core.Path.{_≡_, refl, sym, ap, subst, _∙_}
 use mathlib.Core.List.{List, [], _∷_, _++_, append-assoc}
 use mathlib.Core.Bool.{Bool, true, false, cond}
-use Prim.Native.Nat.{ℕ, zero, suc, _+_, _-_, _*_, _/_, _%_, _^_, _≤_, _<_}
+use Prim.Native.Nat.{ℕ, zero, suc, pred, _+_, _-_, _*_, _/_, _%_, _^_, _≤_, _<_}
 use Prim.Dec.{yes, no}
 use native.Mathlib.Omega.{arith}
 use native.Mathlib.Decide.{decLe, decLt}
@@ -18,7 +18,7 @@ use Rattle.tries.specs.declared.chooser.Kind.the-variants.{Fixed, Variable}
 use Rattle.io.specs.Digits.{digits, glyph, Fewest}
 use Rattle.sheet.specs.declared.lines.Spot.{Spot}
 use Rattle.sheet.specs.declared.lines.Item.{Item}
-use Rattle.sheet.specs.Limits.{NUMBER-DIGITS, NUMBER, HOP, BITS}
+use Rattle.sheet.specs.Limits.{NUMBER-DIGITS, NUMBER, HOP, BITS, LF, ZERO-DIGIT, DECIMAL-DIGITS}
 use Rattle.sheet.specs.Keys.{fixedKey, variableKey, bitsKey, hopKey, addressKey}
 use Rattle.sheet.specs.Lines.{byteAt, keyAt, isDigit, countAt, valueAt, digitsAt, unpadded, close, numberLine, bitsLine, kindLine}
 use Rattle.table.specs.Lists.{listed}
@@ -65,9 +65,9 @@ count-all b (suc k) (suc n) s p h d e =
     let t : isDigit b (byteAt s p) ≡ true = rw add-zero at (d 0 (omega arith)) in
     rw (t, count-all b k n s (suc p) (omega arith) (λ j l. let g : suc p + j ≡ p + suc j = omega arith in rw g (d (suc j) (omega arith))) (rw f e))
 
-digit-is : (b d : ℕ) → d < b → isDigit b (48 + d) ≡ true
+digit-is : (b d : ℕ) → d < b → isDigit b (ZERO-DIGIT + d) ≡ true
 unfolding isDigit
-digit-is b d h = rw (le-leb 48 (48 + d) (omega arith), lt-ltb (48 + d) (48 + b) (omega arith))
+digit-is b d h = rw (le-leb ZERO-DIGIT (ZERO-DIGIT + d) (omega arith), lt-ltb (ZERO-DIGIT + d) (ZERO-DIGIT + b) (omega arith))
 
 module _ (b : ℕ) (s : List ℕ) (p : ℕ) (low : 0 < b) (high : b ≤ 10) where
   -- n digits of base b stand at p, and spell v
@@ -81,9 +81,9 @@ module _ (b : ℕ) (s : List ℕ) (p : ℕ) (low : 0 < b) (high : b ≤ 10) wher
   digits-stand zero v rest h w = record { value = (let z : v < 1 = rw pow-zero at h in omega arith); each = λ j l. absurd (omega arith) }
   digits-stand (suc n) v rest h w =
       let few : v % b < b = mod-lt v low in
-      let g : glyph (v % b) ≡ 48 + v % b = rw (lt-ltb (v % b) 10 (omega arith)) in
+      let g : glyph (v % b) ≡ ZERO-DIGIT + v % b = rw (lt-ltb (v % b) 10 (omega arith)) in
       let y = w ∙ append-snoc (digits b n (v / b)) (glyph (v % b)) rest in
-      let x : byteAt s (p + n) ≡ 48 + v % b =
+      let x : byteAt s (p + n) ≡ ZERO-DIGIT + v % b =
       first s (p + n) _ rest (subst (λ (k : ℕ). drop (p + k) s ≡ glyph (v % b) ∷ rest) (length-digits b n (v / b)) (skip s p (digits b n (v / b)) _ y)) ∙ g in
       let rec = digits-stand n (v / b) _ (div-lt-iff-lt-mul low .1 (rw pow-suc at h)) y in
       record {
@@ -97,21 +97,21 @@ module _ (b : ℕ) (s : List ℕ) (p : ℕ) (low : 0 < b) (high : b ≤ 10) wher
       }
 
   -- a first digit 0 leaves what fewer digits would hold
-  lead-none : (m : ℕ) → ((j : ℕ) → j < suc m → isDigit b (byteAt s (p + j)) ≡ true) → byteAt s p ≡ 48 → valueAt b (suc m) s p < b ^ m
+  lead-none : (m : ℕ) → ((j : ℕ) → j < suc m → isDigit b (byteAt s (p + j)) ≡ true) → byteAt s p ≡ ZERO-DIGIT → valueAt b (suc m) s p < b ^ m
   unfolding valueAt
   lead-none zero d f = rw (pow-zero, add-zero, f) (omega arith)
   lead-none (suc m) d f =
       let x = is-digit b (byteAt s (p + suc m)) (d (suc m) (omega arith)) in
-      subst (λ (k : ℕ). valueAt b (suc m) s p * b + (byteAt s (p + suc m) - 48) < b ^ k) (add-one m)
-      (value-more b m (valueAt b (suc m) s p) (byteAt s (p + suc m) - 48) (lead-none m (λ j l. d j (omega arith)) f) (omega (arith, x .low, x .high)))
+      subst (λ (k : ℕ). valueAt b (suc m) s p * b + (byteAt s (p + suc m) - ZERO-DIGIT) < b ^ k) (add-one m)
+      (value-more b m (valueAt b (suc m) s p) (byteAt s (p + suc m) - ZERO-DIGIT) (lead-none m (λ j l. d j (omega arith)) f) (omega (arith, x .low, x .high)))
 
   -- the fewest digits that hold a number are plain
   fewest-unpadded : (n v : ℕ) → Fewest b 1 v n → Spell n v → unpadded (byteAt s p) n ≡ true
   unfolding unpadded
   fewest-unpadded zero v f w = absurd (omega arith)
-  fewest-unpadded (suc m) v f w = go (eqb (byteAt s p) 48) refl
+  fewest-unpadded (suc m) v f w = go (eqb (byteAt s p) ZERO-DIGIT) refl
     where
-      go : (t : Bool) → eqb (byteAt s p) 48 ≡ t → cond t (eqb (suc m) 1) (ltb 0 (suc m)) ≡ true
+      go : (t : Bool) → eqb (byteAt s p) ZERO-DIGIT ≡ t → cond t (eqb (suc m) 1) (ltb 0 (suc m)) ≡ true
       go true e =
           elim (decLe (suc m) 1) [
             | yes k ↦ eq-eqb (suc m) 1 (omega arith)
@@ -123,7 +123,7 @@ module _ (b : ℕ) (s : List ℕ) (p : ℕ) (low : 0 < b) (high : b ≤ 10) wher
       go false e = lt-ltb 0 (suc m) (omega arith)
 
   -- where LF follows, exactly they are read
-  digits-read : (k n v : ℕ) → n ≤ k → Spell n v → byteAt s (p + n) ≡ 10 → digitsAt b k s p ≡ record { value = v; count = n }
+  digits-read : (k n v : ℕ) → n ≤ k → Spell n v → byteAt s (p + n) ≡ LF → digitsAt b k s p ≡ record { value = v; count = n }
   unfolding isDigit
   digits-read k n v h w e =
       digits-are b k s p v n (sym (w .value)) (count-all b k n s p h (w .each) (rw e))
@@ -131,9 +131,9 @@ module _ (b : ℕ) (s : List ℕ) (p : ℕ) (low : 0 < b) (high : b ≤ 10) wher
 -- ---- how many digits a number has
 
 -- the fewest that hold it
-length-fewest : (n : ℕ) → n < 10 ^ 20 → Fewest 10 1 n (decimalLength n)
+length-fewest : (n : ℕ) → n < 10 ^ DECIMAL-DIGITS → Fewest 10 1 n (decimalLength n)
 unfolding decimalLength decimalLengthFrom
-length-fewest n h = go 19 1 (lit≤ tt) (λ l. absurd (omega arith)) h
+length-fewest n h = go (pred DECIMAL-DIGITS) 1 (lit≤ tt) (λ l. absurd (omega arith)) h
   where
     go : (f i : ℕ) → 1 ≤ i → (1 < i → 10 ^ (i - 1) ≤ n) → n < 10 ^ (i + f) → Fewest 10 1 n (decimalLengthFrom f i n)
     go zero i o l m = (o, rw add-zero at m, l)
@@ -167,37 +167,37 @@ pub record ReadAs (s rest : List ℕ) (v n : ℕ) (l : Item) : Type 0 where
   pub count : l .count ≡ n
   pub ahead : Ahead s (l .spot) rest
 
-close-read : (s : List ℕ) (p : Spot) (end v n : ℕ) (rest : List ℕ) → p .good ≡ true → drop end s ≡ 10 ∷ rest
+close-read : (s : List ℕ) (p : Spot) (end v n : ℕ) (rest : List ℕ) → p .good ≡ true → drop end s ≡ LF ∷ rest
     → ReadAs s rest v n (close s p end (record { value = v; count = n }))
 unfolding close
 close-read s p end v n rest on h =
-    rw (on, eq-eqb _ _ (first s end 10 rest h))
-    (record { value = refl; count = refl; ahead = record { on = refl; left = rw add-one at (skip s end (10 ∷ []) rest h) } })
+    rw (on, eq-eqb _ _ (first s end LF rest h))
+    (record { value = refl; count = refl; ahead = record { on = refl; left = rw add-one at (skip s end (LF ∷ []) rest h) } })
 
 module _ (key s : List ℕ) (p : Spot) (rest : List ℕ) where
   abbrev here : ℕ
   here = p .at + length key
 
   -- a key, digits and LF
-  module _ (b n v : ℕ) (low : 0 < b) (high : b ≤ 10) (fits : v < b ^ n) (h : Ahead s p (key ++ digits b n v ++ (10 ∷ []) ++ rest)) where
-    whole-line : drop (p .at) s ≡ key ++ (digits b n v ++ 10 ∷ rest)
-    whole-line = h .left ∙ append-snoc (key ++ digits b n v) 10 rest ∙ append-assoc key (digits b n v) (10 ∷ rest)
+  module _ (b n v : ℕ) (low : 0 < b) (high : b ≤ 10) (fits : v < b ^ n) (h : Ahead s p (key ++ digits b n v ++ (LF ∷ []) ++ rest)) where
+    whole-line : drop (p .at) s ≡ key ++ (digits b n v ++ LF ∷ rest)
+    whole-line = h .left ∙ append-snoc (key ++ digits b n v) LF rest ∙ append-assoc key (digits b n v) (LF ∷ rest)
 
     line-key : keyAt key s (p .at) ≡ true
-    line-key = key-stands key s (p .at) (digits b n v ++ 10 ∷ rest) whole-line
+    line-key = key-stands key s (p .at) (digits b n v ++ LF ∷ rest) whole-line
 
-    after-key : drop here s ≡ digits b n v ++ 10 ∷ rest
-    after-key = skip s (p .at) key (digits b n v ++ 10 ∷ rest) whole-line
+    after-key : drop here s ≡ digits b n v ++ LF ∷ rest
+    after-key = skip s (p .at) key (digits b n v ++ LF ∷ rest) whole-line
 
     line-digits : Spell b s here low high n v
-    line-digits = digits-stand b s here low high n v (10 ∷ rest) fits after-key
+    line-digits = digits-stand b s here low high n v (LF ∷ rest) fits after-key
 
-    after-digits : drop (here + n) s ≡ 10 ∷ rest
+    after-digits : drop (here + n) s ≡ LF ∷ rest
     after-digits =
-        subst (λ (k : ℕ). drop (here + k) s ≡ 10 ∷ rest) (length-digits b n v) (skip s here (digits b n v) (10 ∷ rest) after-key)
+        subst (λ (k : ℕ). drop (here + k) s ≡ LF ∷ rest) (length-digits b n v) (skip s here (digits b n v) (LF ∷ rest) after-key)
 
     line-read : (k : ℕ) → n ≤ k → digitsAt b k s here ≡ record { value = v; count = n }
-    line-read k few = digits-read b s here low high k n v few line-digits (first s (here + n) 10 rest after-digits)
+    line-read k few = digits-read b s here low high k n v few line-digits (first s (here + n) LF rest after-digits)
 
     line-close : ReadAs s rest v n (close s p (here + n) (record { value = v; count = n }))
     line-close = close-read s p (here + n) v n rest (h .on) after-digits
@@ -231,14 +231,14 @@ not-fixed s p rest h =
 fixed-read : (s : List ℕ) (p : Spot) (rest : List ℕ) → Ahead s p (kindText Fixed ++ rest) → ReadAs s rest 0 0 (kindLine s p)
 unfolding kindLine kindText
 fixed-read s p rest h =
-    rw (key-stands fixedKey s (p .at) (10 ∷ rest) (h .left))
-    (close-read s p (p .at + 8) 0 0 rest (h .on) (skip s (p .at) fixedKey (10 ∷ rest) (h .left)))
+    rw (key-stands fixedKey s (p .at) (LF ∷ rest) (h .left))
+    (close-read s p (p .at + length fixedKey) 0 0 rest (h .on) (skip s (p .at) fixedKey (LF ∷ rest) (h .left)))
 
 variable-read : (s : List ℕ) (p : Spot) (rest : List ℕ) → Ahead s p (kindText Variable ++ rest) → ReadAs s rest 1 0 (kindLine s p)
 unfolding kindLine kindText
 variable-read s p rest h =
-    rw (not-fixed s (p .at) (10 ∷ rest) (h .left), key-stands variableKey s (p .at) (10 ∷ rest) (h .left))
-    (close-read s p (p .at + 8) 1 0 rest (h .on) (skip s (p .at) variableKey (10 ∷ rest) (h .left)))
+    rw (not-fixed s (p .at) (LF ∷ rest) (h .left), key-stands variableKey s (p .at) (LF ∷ rest) (h .left))
+    (close-read s p (p .at + length fixedKey) 1 0 rest (h .on) (skip s (p .at) variableKey (LF ∷ rest) (h .left)))
 
 -- the kind's line is read as that kind
 pub kind-read : (s : List ℕ) (p : Spot) (rest : List ℕ) (k : Kind) → Ahead s p (kindText k ++ rest)

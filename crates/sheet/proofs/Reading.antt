@@ -9,7 +9,7 @@ use borrow.Author.Tests.{eq-eqb, ne-eqb, le-leb, lt-leb, not-true, not-false}
 use Rattle.sheet.specs.declared.lines.Spot.{Spot}
 use Rattle.sheet.specs.declared.lines.Digits.{Digits}
 use Rattle.sheet.specs.declared.lines.Item.{Item}
-use Rattle.sheet.specs.Limits.{BITS}
+use Rattle.sheet.specs.Limits.{BITS, LF}
 use Rattle.sheet.specs.Lines.{byteAt, keyAt, digitsAt, unpadded, badLine, close, numberLine, bitsLine}
 
 -- ---- the end of a line
@@ -20,11 +20,11 @@ module _ (s : List ℕ) (p : Spot) (end : ℕ) (d : Digits) where
   close-stopped e = rw (not-true (p .good) e)
 
   module _ (on : not (p .good) ≡ false) {c : ℕ} (read : c ≡ byteAt s end) where
-    pub close-open : (c ≡ 10 → ⊥) → badLine p ≡ close s p end d
+    pub close-open : (c ≡ LF → ⊥) → badLine p ≡ close s p end d
     unfolding close
     close-open e = rw (not-false (p .good) on, sym read, ne-eqb _ _ e)
 
-    pub close-done : c ≡ 10
+    pub close-done : c ≡ LF
         → _≡_ {A = Item} (record { value = d .value; count = d .count; spot = record { at = end + 1; line = p .line + 1; good = true } }) (close s p end d)
     unfolding close
     close-done e = rw (not-false (p .good) on, sym read, eq-eqb _ _ e, add-one end, add-one (p .line))

@@ -16,7 +16,7 @@ use Rattle.io.specs.Digits.{digits, Fewest}
 use Rattle.sheet.specs.declared.lines.Spot.{Spot}
 use Rattle.sheet.specs.declared.lines.Digits.{Digits}
 use Rattle.sheet.specs.declared.lines.Item.{Item}
-use Rattle.sheet.specs.Limits.{BITS}
+use Rattle.sheet.specs.Limits.{BITS, LF, ZERO-DIGIT, DECIMAL-DIGITS}
 use Rattle.sheet.specs.Keys.{fixedKey, variableKey}
 use Rattle.sheet.specs.Lines.{byteAt, keyAt, countAt, valueAt, digitsAt, unpadded, badLine, close, numberLine, bitsLine, kindLine}
 use Rattle.sheet.specs.Text.{kindNamed}
@@ -49,7 +49,7 @@ stand-key (k ∷ key) s p h e =
     stand-then s p (k ∷ []) key (rw f at (stand-byte s p (omega arith))) (rw (sym (add-one p)) at (stand-key key s (suc p) (omega arith) (w .1)))
 
 -- one digit more, as it is written
-digits-more : (b n v d : ℕ) → 0 < b → d < b → d < 10 → digits b (suc n) (v * b + d) ≡ digits b n v ++ ((48 + d) ∷ [])
+digits-more : (b n v d : ℕ) → 0 < b → d < b → d < 10 → digits b (suc n) (v * b + d) ≡ digits b n v ++ ((ZERO-DIGIT + d) ∷ [])
 digits-more b n v d hb hd ht =
     let q : (v * b + d) / b ≡ v =
     ap (λ (x : ℕ). x / b) (add-comm (v * b) d) ∙ add-mul-div-right d v hb ∙ ap (λ (x : ℕ). x + v) (div-eq-of-lt hd) ∙ omega arith in
@@ -64,14 +64,14 @@ module _ (b k : ℕ) (s : List ℕ) (p : ℕ) (low : 0 < b) (high : b ≤ 10) wh
   stand-digits (suc n) h =
       let c = byteAt s (p + n) in
       let x = is-digit b c (counted b k s p n (omega arith)) in
-      let g : 48 + (c - 48) ≡ c = omega (arith, x .low) in
+      let g : ZERO-DIGIT + (c - ZERO-DIGIT) ≡ c = omega (arith, x .low) in
       let i : p + n < length s = byte-inside s (p + n) (λ z. omega (arith, x .low)) in
       let v = valueAt b n s p in
-      rw (digits-more b n v (c - 48) low (omega (arith, x .low, x .high)) (omega (arith, x .low, x .high)), g)
+      rw (digits-more b n v (c - ZERO-DIGIT) low (omega (arith, x .low, x .high)) (omega (arith, x .low, x .high)), g)
       (stand-then s p (digits b n v) (c ∷ []) (stand-digits n (omega arith)) (rw (length-digits b n v) (stand-byte s (p + n) i)))
 
   -- a first digit that is not 0 counts in full
-  lead : (m : ℕ) → suc m ≤ countAt b k s p → 48 < byteAt s p → b ^ m ≤ valueAt b (suc m) s p
+  lead : (m : ℕ) → suc m ≤ countAt b k s p → ZERO-DIGIT < byteAt s p → b ^ m ≤ valueAt b (suc m) s p
   unfolding valueAt
   lead zero h f = rw (pow-zero, add-zero) (omega arith)
   lead (suc m) h f = rw pow-suc (omega (arith, mul-le-mul-right b (lead m (omega arith) f)))
@@ -79,19 +79,19 @@ module _ (b k : ℕ) (s : List ℕ) (p : ℕ) (low : 0 < b) (high : b ≤ 10) wh
   -- where it is plain, no fewer digits would hold it
   unpadded-fewest : unpadded (byteAt s p) (countAt b k s p) ≡ true → Fewest b 1 (valueAt b (countAt b k s p) s p) (countAt b k s p)
   unfolding unpadded
-  unpadded-fewest e = go (eqb (byteAt s p) 48) refl (countAt b k s p) refl e
+  unpadded-fewest e = go (eqb (byteAt s p) ZERO-DIGIT) refl (countAt b k s p) refl e
     where
-      go : (t : Bool) → eqb (byteAt s p) 48 ≡ t → (n : ℕ) → countAt b k s p ≡ n → cond t (eqb n 1) (ltb 0 n) ≡ true → Fewest b 1 (valueAt b n s p) n
+      go : (t : Bool) → eqb (byteAt s p) ZERO-DIGIT ≡ t → (n : ℕ) → countAt b k s p ≡ n → cond t (eqb n 1) (ltb 0 n) ≡ true → Fewest b 1 (valueAt b n s p) n
       go true f n g h =
           let one : n ≡ 1 = eqb-true _ _ h in
           (omega arith, value-below b k n s p (omega arith), λ l. absurd (omega arith))
       go false f zero g h = absurd (let w = ltb-true 0 0 h in omega arith)
       go false f (suc m) g h =
           let x = is-digit b (byteAt s p) (rw add-zero at (counted b k s p 0 (omega arith))) in
-          let y : byteAt s p ≡ 48 → ⊥ = eqb-false _ _ f in (
+          let y : byteAt s p ≡ ZERO-DIGIT → ⊥ = eqb-false _ _ f in (
             omega arith,
             value-below b k (suc m) s p (omega arith),
-            λ l. let z : suc m - 1 ≡ m = omega arith in rw z (lead m (omega arith) (elim (decLt 48 (byteAt s p)) [ yes q ↦ q | no q ↦ absurd (y (omega (arith, x .low))) ])),
+            λ l. let z : suc m - 1 ≡ m = omega arith in rw z (lead m (omega arith) (elim (decLt ZERO-DIGIT (byteAt s p)) [ yes q ↦ q | no q ↦ absurd (y (omega (arith, x .low))) ])),
           )
 
 -- ---- a line
@@ -111,11 +111,11 @@ module _ (s : List ℕ) (p : Spot) (R : Item → Type 0) where
 
   -- and its end
   pub close-good : (end : ℕ) (d : Digits)
-      → (p .good ≡ true → byteAt s end ≡ 10 → R (record { value = d .value; count = d .count; spot = record { at = suc end; line = suc (p .line); good = true } }))
+      → (p .good ≡ true → byteAt s end ≡ LF → R (record { value = d .value; count = d .count; spot = record { at = suc end; line = suc (p .line); good = true } }))
       → close s p end d .spot .good ≡ true → R (close s p end d)
   unfolding close
   close-good end d h e =
-      tested-good (p .good && eqb (byteAt s end) 10) _ (λ t g. let w = both (p .good) (eqb (byteAt s end) 10) t in h (w .0) (eqb-true _ _ (w .1))) e
+      tested-good (p .good && eqb (byteAt s end) LF) _ (λ t g. let w = both (p .good) (eqb (byteAt s end) LF) t in h (w .0) (eqb-true _ _ (w .1))) e
 
 module _ (key s : List ℕ) (p : Spot) where
   -- the place after the key
@@ -123,27 +123,27 @@ module _ (key s : List ℕ) (p : Spot) where
   here = p .at + length key
 
   -- a key, the digits that stand after it, and LF
-  line-stretch : (b k line : ℕ) → 0 < b → b ≤ 10 → keyAt key s (p .at) ≡ true → p .good ≡ true → byteAt s (here + countAt b k s here) ≡ 10
+  line-stretch : (b k line : ℕ) → 0 < b → b ≤ 10 → keyAt key s (p .at) ≡ true → p .good ≡ true → byteAt s (here + countAt b k s here) ≡ LF
       → Stretch s p (record { at = suc (here + countAt b k s here); line = line; good = true })
-      (key ++ digits b (countAt b k s here) (valueAt b (countAt b k s here) s here) ++ (10 ∷ []))
+      (key ++ digits b (countAt b k s here) (valueAt b (countAt b k s here) s here) ++ (LF ∷ []))
   line-stretch b k line low high has on lf =
       let n = countAt b k s here in
       let ds = digits b n (valueAt b n s here) in
       let inside : here + n < length s = byte-inside s (here + n) (λ z. omega arith) in
       let count : length (key ++ ds) ≡ length key + n = length-append key ds ∙ ap (λ (x : ℕ). length key + x) (length-digits b n (valueAt b n s here)) in
       let end : p .at + length (key ++ ds) ≡ here + n = omega arith in
-      let last : StandAt s (here + n) (10 ∷ []) = rw lf at (stand-byte s (here + n) inside) in
+      let last : StandAt s (here + n) (LF ∷ []) = rw lf at (stand-byte s (here + n) inside) in
       record {
         good = on;
         stand =
-            stand-then s (p .at) (key ++ ds) (10 ∷ [])
+            stand-then s (p .at) (key ++ ds) (LF ∷ [])
             (stand-then s (p .at) key ds (stand-key key s (p .at) (omega arith) has) (stand-digits b k s here low high n (omega arith)))
-            (subst (λ (x : ℕ). StandAt s x (10 ∷ [])) (sym end) last);
-        ends = omega (arith, length-append (key ++ ds) (10 ∷ []));
+            (subst (λ (x : ℕ). StandAt s x (LF ∷ [])) (sym end) last);
+        ends = omega (arith, length-append (key ++ ds) (LF ∷ []));
       }
 
   -- a good number line is the line of its number
-  pub number-spelled : (k most : ℕ) → k ≤ 20 → numberLine k most key s p .spot .good ≡ true
+  pub number-spelled : (k most : ℕ) → k ≤ DECIMAL-DIGITS → numberLine k most key s p .spot .good ≡ true
       → Stretch s p (numberLine k most key s p .spot) (lineOf key (numberLine k most key s p .value))
   unfolding numberLine digitsAt lineOf
   number-spelled k most few e =
@@ -163,7 +163,7 @@ module _ (key s : List ℕ) (p : Spot) where
       e
     where
       R : Item → Type 0
-      R l = Stretch s p (l .spot) (key ++ decimal (l .value) ++ (10 ∷ []))
+      R l = Stretch s p (l .spot) (key ++ decimal (l .value) ++ (LF ∷ []))
 
   -- a good line of bits is the line of its bits
   pub bits-spelled : (least : ℕ) → bitsLine least key s p .spot .good ≡ true
@@ -178,7 +178,7 @@ module _ (key s : List ℕ) (p : Spot) where
       e
     where
       R : Item → Type 0
-      R l = Stretch s p (l .spot) (key ++ binary (l .count) (l .value) ++ (10 ∷ []))
+      R l = Stretch s p (l .spot) (key ++ binary (l .count) (l .value) ++ (LF ∷ []))
 
 pub kind-spelled : (s : List ℕ) (p : Spot) → kindLine s p .spot .good ≡ true → Stretch s p (kindLine s p .spot) (kindText (kindNamed (kindLine s p .value)))
 unfolding kindLine kindText kindNamed
@@ -187,24 +187,24 @@ kind-spelled s p e = go (keyAt fixedKey s (p .at)) (keyAt variableKey s (p .at))
     R : Item → Type 0
     R l = Stretch s p (l .spot) (kindText (kindNamed (l .value)))
 
-    -- eight bytes, and LF
-    eight : (key : List ℕ) → length key ≡ 8 → keyAt key s (p .at) ≡ true → p .good ≡ true → byteAt s (p .at + 8) ≡ 10
-        → Stretch s p (record { at = suc (p .at + 8); line = suc (p .line); good = true }) (key ++ (10 ∷ []))
-    eight key size has on lf =
-        let inside : p .at + 8 < length s = byte-inside s (p .at + 8) (λ z. omega arith) in
-        let last : StandAt s (p .at + 8) (10 ∷ []) = rw lf at (stand-byte s (p .at + 8) inside) in
+    -- a key as long as the first, and LF
+    keyed : (key : List ℕ) → length key ≡ length fixedKey → keyAt key s (p .at) ≡ true → p .good ≡ true → byteAt s (p .at + length fixedKey) ≡ LF
+        → Stretch s p (record { at = suc (p .at + length fixedKey); line = suc (p .line); good = true }) (key ++ (LF ∷ []))
+    keyed key size has on lf =
+        let inside : p .at + length fixedKey < length s = byte-inside s (p .at + length fixedKey) (λ z. omega arith) in
+        let last : StandAt s (p .at + length fixedKey) (LF ∷ []) = rw lf at (stand-byte s (p .at + length fixedKey) inside) in
         record {
           good = on;
           stand =
-              stand-then s (p .at) key (10 ∷ []) (stand-key key s (p .at) (omega arith) has)
-              (subst (λ (x : ℕ). StandAt s (p .at + x) (10 ∷ [])) (sym size) last);
-          ends = omega (arith, length-append key (10 ∷ []));
+              stand-then s (p .at) key (LF ∷ []) (stand-key key s (p .at) (omega arith) has)
+              (subst (λ (x : ℕ). StandAt s (p .at + x) (LF ∷ [])) (sym size) last);
+          ends = omega (arith, length-append key (LF ∷ []));
         }
 
     go : (t u : Bool) → keyAt fixedKey s (p .at) ≡ t → keyAt variableKey s (p .at) ≡ u
-        → cond t (close s p (p .at + 8) (record { value = 0; count = 0 })) (cond u (close s p (p .at + 8) (record { value = 1; count = 0 })) (badLine p)) .spot .good ≡ true
-        → R (cond t (close s p (p .at + 8) (record { value = 0; count = 0 })) (cond u (close s p (p .at + 8) (record { value = 1; count = 0 })) (badLine p)))
-    go true u f g h = close-good s p R (p .at + 8) (record { value = 0; count = 0 }) (λ pg lf. eight fixedKey refl f pg lf) h
+        → cond t (close s p (p .at + length fixedKey) (record { value = 0; count = 0 })) (cond u (close s p (p .at + length fixedKey) (record { value = 1; count = 0 })) (badLine p)) .spot .good ≡ true
+        → R (cond t (close s p (p .at + length fixedKey) (record { value = 0; count = 0 })) (cond u (close s p (p .at + length fixedKey) (record { value = 1; count = 0 })) (badLine p)))
+    go true u f g h = close-good s p R (p .at + length fixedKey) (record { value = 0; count = 0 }) (λ pg lf. keyed fixedKey refl f pg lf) h
     go false u f g h =
-        tested-good s p R u (close s p (p .at + 8) (record { value = 1; count = 0 }))
-        (λ t i. close-good s p R (p .at + 8) (record { value = 1; count = 0 }) (λ pg lf. eight variableKey refl (g ∙ t) pg lf) i) h
+        tested-good s p R u (close s p (p .at + length fixedKey) (record { value = 1; count = 0 }))
+        (λ t i. close-good s p R (p .at + length fixedKey) (record { value = 1; count = 0 }) (λ pg lf. keyed variableKey refl (g ∙ t) pg lf) i) h

@@ -11,7 +11,7 @@ use borrow.Author.Tests.{eqb-true, leb-true}
 use Rattle.sheet.specs.declared.lines.Spot.{Spot}
 use Rattle.sheet.specs.declared.lines.Digits.{Digits}
 use Rattle.sheet.specs.declared.lines.Item.{Item}
-use Rattle.sheet.specs.Limits.{BITS}
+use Rattle.sheet.specs.Limits.{BITS, KIND-BYTES, LF}
 use Rattle.sheet.specs.Keys.{fixedKey, variableKey}
 use Rattle.sheet.specs.Lines.{byteAt, keyAt, countAt, digitsAt, unpadded, badLine, close, numberLine, bitsLine, kindLine}
 use Rattle.sheet.proofs.Keys.{byte-inside}
@@ -44,15 +44,15 @@ module _ (s : List ℕ) (p : Spot) (size : ℕ) (P : ℕ → ℕ → Type 0) (no
 
   close-is : (end : ℕ) (d : Digits) → end < p .at + size → P (d .value) (d .count) → Line s p size P (close s p end d)
   unfolding close
-  close-is end d h v = go (p .good) (eqb (byteAt s end) 10) refl
+  close-is end d h v = go (p .good) (eqb (byteAt s end) LF) refl
     where
-      go : (t u : Bool) → eqb (byteAt s end) 10 ≡ u
+      go : (t u : Bool) → eqb (byteAt s end) LF ≡ u
           → Line s p size P
           (cond (t && u)
           (record { value = d .value; count = d .count; spot = record { at = suc end; line = suc (p .line); good = true } })
           (badLine p))
       go true true e =
-          let f : byteAt s end ≡ 10 = eqb-true _ _ e in
+          let f : byteAt s end ≡ LF = eqb-true _ _ e in
           record {
             step = record { within = λ w. byte-inside s end (λ z. omega arith); near = omega arith; next = omega arith };
             value = v;
@@ -106,17 +106,17 @@ module _ (key s : List ℕ) (p : Spot) where
       close-is s p size Spells spells-none (here + read 2 BITS .count) (read 2 BITS) (omega (arith, count-most 2 BITS s here))
       (value-below 2 BITS (countAt 2 BITS s here) s here (omega arith), count-most 2 BITS s here))
 
-pub kind-is : (s : List ℕ) (p : Spot) → Line s p 9 (UpTo 1) (kindLine s p)
+pub kind-is : (s : List ℕ) (p : Spot) → Line s p KIND-BYTES (UpTo 1) (kindLine s p)
 unfolding kindLine
 kind-is s p = go (keyAt fixedKey s (p .at)) (keyAt variableKey s (p .at))
   where
     go : (t u : Bool)
-        → Line s p 9 (UpTo 1)
-        (cond t (close s p (p .at + 8) (record { value = 0; count = 0 }))
-        (cond u (close s p (p .at + 8) (record { value = 1; count = 0 })) (badLine p)))
-    go true u = close-is s p 9 (UpTo 1) (lit≤ tt) _ _ (omega arith) (lit≤ tt)
-    go false true = close-is s p 9 (UpTo 1) (lit≤ tt) _ _ (omega arith) (lit≤ tt)
-    go false false = bad-is s p 9 (UpTo 1) (lit≤ tt)
+        → Line s p KIND-BYTES (UpTo 1)
+        (cond t (close s p (p .at + length fixedKey) (record { value = 0; count = 0 }))
+        (cond u (close s p (p .at + length fixedKey) (record { value = 1; count = 0 })) (badLine p)))
+    go true u = close-is s p KIND-BYTES (UpTo 1) (lit≤ tt) _ _ (omega arith) (lit≤ tt)
+    go false true = close-is s p KIND-BYTES (UpTo 1) (lit≤ tt) _ _ (omega arith) (lit≤ tt)
+    go false false = bad-is s p KIND-BYTES (UpTo 1) (lit≤ tt)
 
 -- ---- of a line that a call handed back
 

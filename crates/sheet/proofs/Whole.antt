@@ -13,7 +13,7 @@ use Rattle.sheet.specs.declared.lines.Spot.{Spot}
 use Rattle.sheet.specs.declared.lines.Item.{Item}
 use Rattle.sheet.specs.declared.parsing.Head.{Head}
 use Rattle.sheet.specs.declared.parsing.Parsed.{Parsed}
-use Rattle.sheet.specs.Limits.{COUNT, NUMBER-DIGITS, NUMBER, LINES, LONGEST}
+use Rattle.sheet.specs.Limits.{COUNT, NUMBER-DIGITS, NUMBER, LINES, WIDTH-BYTES, KIND-BYTES, LEVELS-BYTES, COUNT-BYTES, ENTRY-BYTES, OPENING-BYTES, LONGEST}
 use Rattle.sheet.specs.Keys.{widthKey, levelsKey, entriesKey, queriesKey, addressKey}
 use Rattle.sheet.specs.Lines.{numberLine, kindLine}
 use Rattle.table.specs.Lists.{listed}
@@ -26,34 +26,34 @@ use Rattle.sheet.proofs.Listing.{entry-spells, entries-step, queries-st
 -- ---- the single lines
 
 module _ (s : List ℕ) where
-  pub width-line : Line s textStart 12 (UpTo NUMBER) (widthItem s)
+  pub width-line : Line s textStart WIDTH-BYTES (UpTo NUMBER) (widthItem s)
   unfolding widthItem
   width-line = number-is widthKey s textStart NUMBER-DIGITS NUMBER
 
-  pub kind-line : Line s (widthItem s .spot) 9 (UpTo 1) (kindItem s)
+  pub kind-line : Line s (widthItem s .spot) KIND-BYTES (UpTo 1) (kindItem s)
   unfolding kindItem
   kind-line = kind-is s (widthItem s .spot)
 
-  pub levels-line : Line s (kindItem s .spot) 13 (UpTo NUMBER) (levelsItem s)
+  pub levels-line : Line s (kindItem s .spot) LEVELS-BYTES (UpTo NUMBER) (levelsItem s)
   unfolding levelsItem
   levels-line = number-is levelsKey s (kindItem s .spot) NUMBER-DIGITS NUMBER
 
-  pub entries-line : Line s (levelsItem s .spot) 14 (UpTo COUNT) (entriesItem s)
+  pub entries-line : Line s (levelsItem s .spot) COUNT-BYTES (UpTo COUNT) (entriesItem s)
   unfolding entriesItem
   entries-line = number-is entriesKey s (levelsItem s .spot) NUMBER-DIGITS COUNT
 
-  pub after-entries : Step s (entriesItem s .spot) (entriesItem s .value * 48) (entriesItem s .value * 2) (afterEntries s (entriesItem s .spot) (entriesItem s .value))
+  pub after-entries : Step s (entriesItem s .spot) (entriesItem s .value * ENTRY-BYTES) (entriesItem s .value * 2) (afterEntries s (entriesItem s .spot) (entriesItem s .value))
   after-entries = entries-step s (entriesItem s .spot) (entriesItem s .value)
 
-  pub queries-line : Line s (afterEntries s (entriesItem s .spot) (entriesItem s .value)) 14 (UpTo COUNT) (queriesItem s)
+  pub queries-line : Line s (afterEntries s (entriesItem s .spot) (entriesItem s .value)) COUNT-BYTES (UpTo COUNT) (queriesItem s)
   unfolding queriesItem
   queries-line = number-is queriesKey s (afterEntries s (entriesItem s .spot) (entriesItem s .value)) NUMBER-DIGITS COUNT
 
   -- the steps from the start: to after the first four lines, to `queries=`, and to the end
-  pub to-entries : Step s textStart 48 4 (entriesItem s .spot)
+  pub to-entries : Step s textStart OPENING-BYTES 4 (entriesItem s .spot)
   to-entries = step-then (step-then (step-then (width-line .step) (kind-line .step)) (levels-line .step)) (entries-line .step)
 
-  pub to-queries : Step s textStart (62 + COUNT * 48) (5 + COUNT * 2) (queriesItem s .spot)
+  pub to-queries : Step s textStart (OPENING-BYTES + COUNT-BYTES + COUNT * ENTRY-BYTES) (5 + COUNT * 2) (queriesItem s .spot)
   to-queries =
       step-widen (step-then (step-then to-entries after-entries) (queries-line .step)) (omega (arith, entries-line .value)) (omega (arith, entries-line .value))
 
@@ -99,7 +99,7 @@ module _ (s : List ℕ) {w k l n : Item} (w-read : w ≡ numberLine NUMBER-DIGIT
   head-read = rw (w-is, c-read, k-is, l-is, n-is)
 
 module _ (s : List ℕ) {h : Head} (h-read : h ≡ headOf s) where
-  pub head-step : Step s textStart 48 4 (h .spot)
+  pub head-step : Step s textStart OPENING-BYTES 4 (h .spot)
   unfolding headOf
   head-step = rw h-read (to-entries s)
 
@@ -119,7 +119,7 @@ module _ (s vs ls hs : List ℕ) {h : Head} {after : Spot} {q : Item} (h-read : 
   unfolding queriesItem
   q-is = q-read ∙ ap (numberLine NUMBER-DIGITS COUNT queriesKey s) (entries-held .spot)
 
-  pub queries-step-read : Step s textStart (62 + COUNT * 48) (5 + COUNT * 2) (q .spot)
+  pub queries-step-read : Step s textStart (OPENING-BYTES + COUNT-BYTES + COUNT * ENTRY-BYTES) (5 + COUNT * 2) (q .spot)
   queries-step-read = rw q-is (to-queries s)
 
   pub queries-few : q .value ≤ COUNT

@@ -2,7 +2,7 @@
 use mathlib.Core.Path.{_≡_, refl, sym, ap, subst, _∙_}
 use mathlib.Core.List.{List, [], _∷_, _++_}
 use mathlib.Core.Bool.{Bool, true, false, cond}
-use Prim.Native.Nat.{ℕ, zero, suc, _+_, _-_, _*_, _/_, _%_, _^_, _≤_, _<_}
+use Prim.Native.Nat.{ℕ, zero, suc, pred, _+_, _-_, _*_, _/_, _%_, _^_, _≤_, _<_}
 use Prim.Dec.{yes, no}
 use native.Mathlib.Omega.{arith}
 use native.Mathlib.Decide.{decLe}
@@ -13,7 +13,7 @@ use lib.Seq.{length-sets, set-comm, drop-cons}
 use lib.Dec.{ltb, lit<, lit≤}
 use borrow.Author.Tests.{lt-ltb, le-ltb}
 use Rattle.io.specs.Digits.{digits, glyph, Fewest}
-use Rattle.sheet.specs.Limits.{BITS, REFUSAL-BYTES, HEAD-BYTES, ANSWER-BYTES}
+use Rattle.sheet.specs.Limits.{BITS, REFUSAL-BYTES, HEAD-BYTES, ANSWER-BYTES, LF, ZERO-DIGIT, DECIMAL-DIGITS, DECIMAL-BYTES, ADDRESS-BYTES}
 use Rattle.sheet.specs.Keys.{addressKey, hopKey, refusalKey, detailKey, elementsKey, rootKey, readsKey}
 use Rattle.sheet.specs.Printing.{decimalLengthFrom, decimalLength, decimal, binary, lineOf, bitsLineOf, addressLine, refusalLines, headLines, answerLines, joined, written, Wrote}
 
@@ -72,9 +72,9 @@ put-end out src p i h = rw (drop-of-length-le src h)
 
 -- ---- decimal
 
-pub fewest-length : (n k : ℕ) → Fewest 10 1 n k → k ≤ 20 → decimalLength n ≡ k
+pub fewest-length : (n k : ℕ) → Fewest 10 1 n k → k ≤ DECIMAL-DIGITS → decimalLength n ≡ k
 unfolding decimalLength decimalLengthFrom
-fewest-length n k w h = go 19 1 (lit≤ tt) (w .0) (omega arith)
+fewest-length n k w h = go (pred DECIMAL-DIGITS) 1 (lit≤ tt) (w .0) (omega arith)
   where
     go : (f i : ℕ) → 1 ≤ i → i ≤ k → k ≤ i + f → decimalLengthFrom f i n ≡ k
     go zero i o a b = omega arith
@@ -86,15 +86,15 @@ fewest-length n k w h = go 19 1 (lit≤ tt) (w .0) (omega arith)
               rw (le-ltb n (10 ^ i) m) (go f (suc i) (omega arith) (omega arith) (omega arith))
         ]
 
--- a number of 64 bits takes at most 20
-pub fewest-few : (n k : ℕ) → n < 2 ^ 64 → Fewest 10 1 n k → k ≤ 20
+-- a number of 64 bits takes at most DECIMAL-DIGITS
+pub fewest-few : (n k : ℕ) → n < 2 ^ 64 → Fewest 10 1 n k → k ≤ DECIMAL-DIGITS
 fewest-few n k h w =
-    elim (decLe k 20) [
+    elim (decLe k DECIMAL-DIGITS) [
       | yes p ↦ p
-      | no p ↦ absurd (omega (arith, pow-le-pow-right {n = 10} (lit≤ tt) {i = 20} {j = k - 1} (omega arith), w .2 (omega arith)))
+      | no p ↦ absurd (omega (arith, pow-le-pow-right {n = 10} (lit≤ tt) {i = DECIMAL-DIGITS} {j = k - 1} (omega arith), w .2 (omega arith)))
     ]
 
-pub fewest-decimal : (n k : ℕ) → Fewest 10 1 n k → k ≤ 20 → digits 10 k n ≡ decimal n
+pub fewest-decimal : (n k : ℕ) → Fewest 10 1 n k → k ≤ DECIMAL-DIGITS → digits 10 k n ≡ decimal n
 unfolding decimal
 fewest-decimal n k w h = ap (λ (x : ℕ). digits 10 x n) (sym (fewest-length n k w h))
 
@@ -112,7 +112,7 @@ written-snoc : (out : List ℕ) (p : ℕ) (xs : List ℕ) (a : ℕ) → set (wri
 unfolding written
 written-snoc out p xs a = written-append out p xs (a ∷ [])
 
-binary-more : (j v : ℕ) → binary (suc j) v ≡ binary j (v / 2) ++ ((48 + v % 2) ∷ [])
+binary-more : (j v : ℕ) → binary (suc j) v ≡ binary j (v / 2) ++ ((ZERO-DIGIT + v % 2) ∷ [])
 unfolding binary
 binary-more j v = rw (lt-ltb (v % 2) 10 (omega (arith, mod-lt v {m = 2} (lit< tt))))
 
@@ -127,13 +127,13 @@ length-binary n v = length-digits 2 n v
 
 -- one turn: i is the place after the digit
 pub bits-go : (out : List ℕ) (p i rest : ℕ) → 0 < i
-    → written (set out (p + (i - 1)) (48 + rest % 2)) p (binary (i - 1) (rest / 2)) ≡ written out p (binary i rest)
+    → written (set out (p + (i - 1)) (ZERO-DIGIT + rest % 2)) p (binary (i - 1) (rest / 2)) ≡ written out p (binary i rest)
 bits-go out p zero rest h = absurd (omega arith)
 bits-go out p (suc j) rest h =
     let f : suc j - 1 ≡ j = omega arith in
     let g : p + j ≡ p + length (binary j (rest / 2)) = omega (arith, length-binary j (rest / 2)) in
     rw (f, binary-more, g)
-    (set-first out p (binary j (rest / 2)) _ (48 + rest % 2) (le-refl _) ∙ written-snoc out p (binary j (rest / 2)) (48 + rest % 2))
+    (set-first out p (binary j (rest / 2)) _ (ZERO-DIGIT + rest % 2) (le-refl _) ∙ written-snoc out p (binary j (rest / 2)) (ZERO-DIGIT + rest % 2))
 
 pub bits-end : (out : List ℕ) (p i rest : ℕ) → i ≤ 0 → written out p (binary i rest) ≡ out
 unfolding written binary
@@ -151,18 +151,18 @@ decimal-le (suc f) i n = go (ltb n (10 ^ i)) (decimal-le f (suc i) n)
     go true h = omega arith
     go false h = omega arith
 
-pub length-decimal : (n : ℕ) → length (decimal n) ≤ 20
+pub length-decimal : (n : ℕ) → length (decimal n) ≤ DECIMAL-DIGITS
 unfolding decimal decimalLength
-length-decimal n = omega (arith, length-digits 10 (decimalLengthFrom 19 1 n) n, decimal-le 19 1 n)
+length-decimal n = omega (arith, length-digits 10 (decimalLengthFrom (pred DECIMAL-DIGITS) 1 n) n, decimal-le (pred DECIMAL-DIGITS) 1 n)
 
-pub length-line : (key : List ℕ) (n : ℕ) → length (lineOf key n) ≤ length key + 21
+pub length-line : (key : List ℕ) (n : ℕ) → length (lineOf key n) ≤ length key + DECIMAL-BYTES
 unfolding lineOf
-length-line key n = omega (arith, length-append (key ++ decimal n) (10 ∷ []), length-append key (decimal n), length-decimal n)
+length-line key n = omega (arith, length-append (key ++ decimal n) (LF ∷ []), length-append key (decimal n), length-decimal n)
 
-pub length-address : (v n : ℕ) → length (addressLine v n) ≡ n + 9
+pub length-address : (v n : ℕ) → length (addressLine v n) ≡ n + ADDRESS-BYTES
 unfolding bitsLineOf
 length-address v n =
-    omega (arith, length-append (addressKey ++ binary n v) (10 ∷ []), length-append addressKey (binary n v), length-binary n v)
+    omega (arith, length-append (addressKey ++ binary n v) (LF ∷ []), length-append addressKey (binary n v), length-binary n v)
 
 pub length-refusal : (a b : ℕ) → length (refusalLines a b) ≤ REFUSAL-BYTES
 unfolding refusalLines

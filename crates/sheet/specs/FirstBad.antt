@@ -6,19 +6,20 @@ use mathlib.Core.Bool.{cond}
 use mathlib.Core.List.{List, [], _∷_}
 use Prim.Native.Nat.{ℕ, zero, suc, _≤_}
 use lib.Dec.{eqb}
+use Rattle.sheet.specs.Limits.{LF}
 use Rattle.sheet.specs.Sheet.{Sheet}
 use Rattle.sheet.specs.Spelling.{sheetText, Sound}
 
 -- how many complete lines a text has: its LFs
 unfoldable pub lineCount : List ℕ → ℕ
 lineCount [] = zero
-lineCount (c ∷ s) = cond (eqb c 10) (suc (lineCount s)) (lineCount s)
+lineCount (c ∷ s) = cond (eqb c LF) (suc (lineCount s)) (lineCount s)
 
 -- the first m lines, each with its LF; all of a text that has fewer
 unfoldable pub firstLines : ℕ → List ℕ → List ℕ
 firstLines zero s = []
 firstLines (suc m) [] = []
-firstLines (suc m) (c ∷ s) = c ∷ cond (eqb c 10) (firstLines m s) (firstLines (suc m) s)
+firstLines (suc m) (c ∷ s) = c ∷ cond (eqb c LF) (firstLines m s) (firstLines (suc m) s)
 
 -- the text has m complete lines, and they are the first m of the text of some sound sheet
 pub record Opens (s : List ℕ) (m : ℕ) : Type 0 where

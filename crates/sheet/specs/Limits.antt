@@ -1,5 +1,7 @@
 -- The numbers of the tablet's text, named once; `src/limits.rt` has the same ones for the code.
 use Prim.Native.Nat.{ℕ, _+_, _*_}
+use lib.ListN.{length}
+use Rattle.sheet.specs.Keys.{widthKey, fixedKey, levelsKey, entriesKey, bitsKey, hopKey, addressKey, refusalKey, detailKey, elementsKey, rootKey, readsKey}
 
 -- the most entries, and the most queries
 abbrev pub COUNT : ℕ
@@ -20,6 +22,17 @@ HOP = 65535
 abbrev pub BITS : ℕ
 BITS = 32
 
+-- so many decimal digits are below 2 ^ 64
+abbrev pub SAFE-DIGITS : ℕ
+SAFE-DIGITS = 19
+
+-- the bytes of the line feed that ends every line, and of the digit 0
+abbrev pub LF : ℕ
+LF = 10
+
+abbrev pub ZERO-DIGIT : ℕ
+ZERO-DIGIT = 48
+
 -- no key has more bytes
 abbrev pub KEY : ℕ
 KEY = 16
@@ -28,20 +41,61 @@ KEY = 16
 abbrev pub LINES : ℕ
 LINES = 5 + COUNT * 3
 
--- nor more bytes: 12 for width, 9 for kind, 13 for levels, 14 each for entries and queries, 48 for an entry, 41 for a query
-abbrev pub LONGEST : ℕ
-LONGEST = 62 + COUNT * 89
+-- the most bytes of each line: its key, its digits and LF. First the lines of the width, the kind, the levels, and a count
+abbrev pub WIDTH-BYTES : ℕ
+WIDTH-BYTES = length widthKey + NUMBER-DIGITS + 1
 
--- no report has more bytes for a refusal, for its first four lines, and for a query: the keys, BITS digits of an address, and a
--- number of 20 digits (no u64 has more) and LF in every line
+abbrev pub KIND-BYTES : ℕ
+KIND-BYTES = length fixedKey + 1
+
+abbrev pub LEVELS-BYTES : ℕ
+LEVELS-BYTES = length levelsKey + NUMBER-DIGITS + 1
+
+abbrev pub COUNT-BYTES : ℕ
+COUNT-BYTES = length entriesKey + NUMBER-DIGITS + 1
+
+-- an entry's two lines, and a query's
+abbrev pub BITS-BYTES : ℕ
+BITS-BYTES = length bitsKey + BITS + 1
+
+abbrev pub HOP-BYTES : ℕ
+HOP-BYTES = length hopKey + NUMBER-DIGITS + 1
+
+abbrev pub ENTRY-BYTES : ℕ
+ENTRY-BYTES = BITS-BYTES + HOP-BYTES
+
+abbrev pub QUERY-BYTES : ℕ
+QUERY-BYTES = length addressKey + BITS + 1
+
+-- the first four lines
+abbrev pub OPENING-BYTES : ℕ
+OPENING-BYTES = WIDTH-BYTES + KIND-BYTES + LEVELS-BYTES + COUNT-BYTES
+
+-- no good text has more bytes. It is a bound: a count has at most two digits, so the longest good text has 5,752 bytes
+abbrev pub LONGEST : ℕ
+LONGEST = OPENING-BYTES + COUNT-BYTES + COUNT * (ENTRY-BYTES + QUERY-BYTES)
+
+-- no number of 64 bits has more decimal digits; and its digits with an LF
+abbrev pub DECIMAL-DIGITS : ℕ
+DECIMAL-DIGITS = 20
+
+abbrev pub DECIMAL-BYTES : ℕ
+DECIMAL-BYTES = DECIMAL-DIGITS + 1
+
+-- an address line without its digits
+abbrev pub ADDRESS-BYTES : ℕ
+ADDRESS-BYTES = length addressKey + 1
+
+-- no report has more bytes for a refusal, for its first four lines, and for a query: in every line its key, BITS digits of an
+-- address or DECIMAL-DIGITS of a number, and LF
 abbrev pub REFUSAL-BYTES : ℕ
-REFUSAL-BYTES = 57
+REFUSAL-BYTES = length refusalKey + DECIMAL-BYTES + length detailKey + DECIMAL-BYTES
 
 abbrev pub HEAD-BYTES : ℕ
-HEAD-BYTES = 113
+HEAD-BYTES = REFUSAL-BYTES + length elementsKey + DECIMAL-BYTES + length rootKey + DECIMAL-BYTES
 
 abbrev pub ANSWER-BYTES : ℕ
-ANSWER-BYTES = 93
+ANSWER-BYTES = BITS + ADDRESS-BYTES + length hopKey + DECIMAL-BYTES + length readsKey + DECIMAL-BYTES
 
 -- the bytes of the page that a text is read to or a report printed to: LONGEST, and HEAD-BYTES + COUNT * ANSWER-BYTES, rounded up
 abbrev pub PAGE : ℕ

@@ -9,7 +9,7 @@ use lib.Dec.{leb, ltb, eqb}
 use Rattle.sheet.specs.declared.lines.Spot.{Spot}
 use Rattle.sheet.specs.declared.lines.Digits.{Digits}
 use Rattle.sheet.specs.declared.lines.Item.{Item}
-use Rattle.sheet.specs.Limits.{BITS}
+use Rattle.sheet.specs.Limits.{BITS, LF, ZERO-DIGIT}
 use Rattle.sheet.specs.Keys.{fixedKey, variableKey}
 
 -- the byte at place p; 0, which no line has, past the end
@@ -23,7 +23,7 @@ keyAt (k ∷ key) s p = eqb (byteAt s p) k && keyAt key s (suc p)
 
 -- the byte c is one of the b digits `0`, `1`, ..
 unfoldable pub isDigit : ℕ → ℕ → Bool
-isDigit b c = leb 48 c && ltb c (48 + b)
+isDigit b c = leb ZERO-DIGIT c && ltb c (ZERO-DIGIT + b)
 
 -- how many digits of base b stand from p on, k at most
 unfoldable pub countAt : ℕ → ℕ → List ℕ → ℕ → ℕ
@@ -33,14 +33,14 @@ countAt b (suc k) s p = cond (isDigit b (byteAt s p)) (suc (countAt b k s (suc p
 -- the number that n digits from p on spell
 unfoldable pub valueAt : ℕ → ℕ → List ℕ → ℕ → ℕ
 valueAt b zero s p = zero
-valueAt b (suc n) s p = valueAt b n s p * b + (byteAt s (p + n) - 48)
+valueAt b (suc n) s p = valueAt b n s p * b + (byteAt s (p + n) - ZERO-DIGIT)
 
 unfoldable pub digitsAt : ℕ → ℕ → List ℕ → ℕ → Digits
 digitsAt b k s p = record { value = valueAt b (countAt b k s p) s p; count = countAt b k s p }
 
 -- n digits that begin with the byte `first` are one at least, and no leading zero
 unfoldable pub unpadded : ℕ → ℕ → Bool
-unpadded first n = cond (eqb first 48) (eqb n 1) (ltb 0 n)
+unpadded first n = cond (eqb first ZERO-DIGIT) (eqb n 1) (ltb 0 n)
 
 -- a bad line: the reading stays there
 unfoldable pub badLine : Spot → Item
@@ -49,7 +49,7 @@ badLine p = record { value = 0; count = 0; spot = record { at = p .at; line = p 
 -- a line whose digits end at place `end`: LF stands there, and no line before was bad
 unfoldable pub close : List ℕ → Spot → ℕ → Digits → Item
 close s p end d =
-    cond (p .good && eqb (byteAt s end) 10)
+    cond (p .good && eqb (byteAt s end) LF)
     (record { value = d .value; count = d .count; spot = record { at = suc end; line = suc (p .line); good = true } })
     (badLine p)
 
@@ -70,6 +70,6 @@ bitsLine least key s p =
 -- the kind's line: its value is 0 for fst, 1 for vst
 unfoldable pub kindLine : List ℕ → Spot → Item
 kindLine s p =
-    let end = p .at + 8 in
+    let end = p .at + length fixedKey in
     cond (keyAt fixedKey s (p .at)) (close s p end (record { value = 0; count = 0 }))
     (cond (keyAt variableKey s (p .at)) (close s p end (record { value = 1; count = 0 })) (badLine p))

@@ -4,11 +4,12 @@
 use mathlib.Core.Path.{_≡_}
 use mathlib.Core.Bool.{cond}
 use mathlib.Core.List.{List, [], _∷_, _++_}
-use Prim.Native.Nat.{ℕ, zero, suc, _+_, _^_, _≤_}
+use Prim.Native.Nat.{ℕ, zero, suc, pred, _+_, _^_, _≤_}
 use lib.ListN.{length}
 use lib.Seq.{sets}
 use lib.Dec.{ltb}
 use Rattle.io.specs.Digits.{digits}
+use Rattle.sheet.specs.Limits.{LF, DECIMAL-DIGITS}
 use Rattle.sheet.specs.Keys.{addressKey, hopKey, refusalKey, detailKey, elementsKey, rootKey, readsKey}
 
 -- the first k from i on, at most f further, with n below 10 ^ k
@@ -16,9 +17,9 @@ unfoldable pub decimalLengthFrom : ℕ → ℕ → ℕ → ℕ
 decimalLengthFrom zero i n = i
 decimalLengthFrom (suc f) i n = cond (ltb n (10 ^ i)) i (decimalLengthFrom f (suc i) n)
 
--- how many decimal digits a number below 10 ^ 20 takes
+-- how many decimal digits a number of at most DECIMAL-DIGITS takes
 unfoldable pub decimalLength : ℕ → ℕ
-decimalLength n = decimalLengthFrom 19 1 n
+decimalLength n = decimalLengthFrom (pred DECIMAL-DIGITS) 1 n
 
 -- the number in decimal, without leading zeros
 unfoldable pub decimal : ℕ → List ℕ
@@ -30,11 +31,11 @@ binary n v = digits 2 n v
 
 -- a line with a number
 unfoldable pub lineOf : List ℕ → ℕ → List ℕ
-lineOf key n = key ++ decimal n ++ (10 ∷ [])
+lineOf key n = key ++ decimal n ++ (LF ∷ [])
 
 -- a line with n binary digits
 unfoldable pub bitsLineOf : List ℕ → (v n : ℕ) → List ℕ
-bitsLineOf key v n = key ++ binary n v ++ (10 ∷ [])
+bitsLineOf key v n = key ++ binary n v ++ (LF ∷ [])
 
 abbrev pub addressLine : (v n : ℕ) → List ℕ
 addressLine v n = bitsLineOf addressKey v n

@@ -8,15 +8,15 @@ use lib.ListN.{length}
 use Rattle.table.specs.Table.{at}
 use Rattle.tries.specs.declared.chooser.Kind.{Kind}
 use Rattle.tries.specs.declared.chooser.Kind.the-variants.{Fixed, Variable}
-use Rattle.sheet.specs.Limits.{COUNT, NUMBER, HOP, BITS}
+use Rattle.sheet.specs.Limits.{COUNT, NUMBER, HOP, BITS, LF}
 use Rattle.sheet.specs.Keys.{widthKey, fixedKey, variableKey, levelsKey, entriesKey, bitsKey, hopKey, queriesKey, addressKey}
 use Rattle.sheet.specs.Printing.{lineOf, bitsLineOf, joined}
 use Rattle.sheet.specs.Sheet.{Sheet}
 
 -- `kind=fst` or `kind=vst`
 unfoldable pub kindText : Kind → List ℕ
-kindText Fixed = fixedKey ++ (10 ∷ [])
-kindText Variable = variableKey ++ (10 ∷ [])
+kindText Fixed = fixedKey ++ (LF ∷ [])
+kindText Variable = variableKey ++ (LF ∷ [])
 
 -- entry i and query i
 unfoldable pub entryText : (bits lengths hops : List ℕ) → ℕ → List ℕ

@@ -15,6 +15,12 @@ pub const HOP: u64 = 65535;
 // The most binary digits of an entry's bits, and of an address.
 pub const BITS: u32 = 32;
 
+// No number of 64 bits has more decimal digits.
+pub const DECIMAL_DIGITS: usize = 20;
+
+// The bytes of `kind=fst`, and of `kind=vst`.
+pub const KIND_KEY: usize = 8;
+
 // The bytes of the page that a report is printed to.
 pub const PAGE: usize = 8192;
 

@@ -3,9 +3,10 @@
 ghost use mathlib.Core.Path.{_≡_};
 ghost use Prim.Native.Nat.{_+_, _^_, _≤_};
 ghost use lib.ListN.{length};
-ghost use Rattle.sheet.specs.Limits.{BITS, KEY, LINES};
+ghost use Rattle.sheet.specs.Limits.{BITS, SAFE-DIGITS, KEY, LINES};
 ghost use Rattle.sheet.specs.Lines.{byteAt, keyAt, isDigit, digitsAt, unpadded, badLine, close, numberLine, bitsLine, kindLine};
 use crate::limits::BITS;
+use crate::limits::KIND_KEY;
 
 // Where the reading stands: the next byte and the number of the next line; after a bad line, its number.
 pub(crate) struct Spot {
@@ -54,11 +55,7 @@ fn is_digit(base: u64, c: u8) -> bool
     requires { ⌜ base ≤ 10 ⌝ }
     ensures { λ r. ⌜ r ≡ isDigit base c ⌝ }
 {
-    let d = c as u64;
-    if d < 48 {
-        return false;
-    }
-    d < 48 + base
+    b'0' <= c && (c as u64) < b'0' as u64 + base
 }
 
 // The digits from p on, at most `most`.
@@ -74,7 +71,7 @@ fn read_digits(s: &[u8], p: usize, base: u64, most: u32) -> Digits
         if !is_digit(base, c) {
             return Digits { value, count };
         }
-        value = value * base + (c as u64 - 48);
+        value = value * base + (c - b'0') as u64;
         count += 1;
         q += 1;
     }
@@ -85,7 +82,7 @@ fn read_digits(s: &[u8], p: usize, base: u64, most: u32) -> Digits
 fn is_unpadded(first: u8, count: u32) -> bool
     ensures { λ r. ⌜ r ≡ unpadded first count ⌝ }
 {
-    if first == 48 {
+    if first == b'0' {
         return count == 1;
     }
     0 < count
@@ -114,7 +111,7 @@ fn close_line(s: &[u8], spot: Spot, end: usize, read: Digits) -> Item
     if !spot.good {
         return bad_line(spot);
     }
-    if byte(s, end) != 10 {
+    if byte(s, end) != b'\n' {
         return bad_line(spot);
     }
     Item {
@@ -128,9 +125,9 @@ fn close_line(s: &[u8], spot: Spot, end: usize, read: Digits) -> Item
     }
 }
 
-// A key and a number: 1 to `digits` decimal digits, no leading zero, at most `most`. (19 digits fit in 64 bits.)
+// A key and a number: 1 to `digits` decimal digits, no leading zero, at most `most`.
 pub(crate) fn number_line(s: &[u8], spot: Spot, key: &[u8], digits: u32, most: u64) -> Item
-    requires { ⌜ (spot .at ≤ length (now s)) × (spot .line ≤ LINES) × (length (now key) ≤ KEY) × (digits ≤ 19) ⌝ }
+    requires { ⌜ (spot .at ≤ length (now s)) × (spot .line ≤ LINES) × (length (now key) ≤ KEY) × (digits ≤ SAFE-DIGITS) ⌝ }
     ensures { λ r. ⌜ r ≡ numberLine digits most (now (key .entry)) (now (s .entry)) spot ⌝ }
 {
     let p = spot.at;
@@ -172,10 +169,10 @@ pub(crate) fn kind_line(s: &[u8], spot: Spot) -> Item
 {
     let p = spot.at;
     if key_at(s, p, b"kind=fst") {
-        return close_line(s, spot, p + 8, Digits { value: 0, count: 0 });
+        return close_line(s, spot, p + KIND_KEY, Digits { value: 0, count: 0 });
     }
     if key_at(s, p, b"kind=vst") {
-        return close_line(s, spot, p + 8, Digits { value: 1, count: 0 });
+        return close_line(s, spot, p + KIND_KEY, Digits { value: 1, count: 0 });
     }
     bad_line(spot)
 }

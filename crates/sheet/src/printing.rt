@@ -3,8 +3,9 @@
 ghost use mathlib.Core.Path.{_≡_};
 ghost use Prim.Native.Nat.{_+_, _≤_};
 ghost use lib.ListN.{length};
-ghost use Rattle.sheet.specs.Limits.{BITS, REFUSAL-BYTES, HEAD-BYTES, ANSWER-BYTES};
+ghost use Rattle.sheet.specs.Limits.{BITS, DECIMAL-DIGITS, DECIMAL-BYTES, ADDRESS-BYTES, REFUSAL-BYTES, HEAD-BYTES, ANSWER-BYTES};
 ghost use Rattle.sheet.specs.Printing.{Wrote, decimal, binary, lineOf, addressLine, refusalLines, headLines, answerLines};
+use crate::limits::DECIMAL_DIGITS;
 
 // Puts the bytes of src.
 pub(crate) fn put(out: &mut [u8], p: usize, src: &[u8]) -> usize
@@ -21,10 +22,10 @@ pub(crate) fn put(out: &mut [u8], p: usize, src: &[u8]) -> usize
 
 // Puts a number in decimal.
 fn put_number(out: &mut [u8], p: usize, n: u64) -> usize
-    requires { ⌜ p + 20 ≤ length (now out) ⌝ }
+    requires { ⌜ p + DECIMAL-DIGITS ≤ length (now out) ⌝ }
     ensures { λ r. ⌜ Wrote (now (out .entry)) p (decimal n) (now (out .exit)) r ⌝ }
 {
-    let mut text = [0u8; 20];
+    let mut text = [0u8; DECIMAL_DIGITS];
     let k = io::decimal(n, &mut text);
     put(out, p, &text[0..k])
 }
@@ -38,7 +39,7 @@ fn put_bits(out: &mut [u8], p: usize, v: u32, n: usize) -> usize
     let mut i = n;
     while 0 < i {
         i -= 1;
-        out[p + i] = 48 + (rest % 2) as u8;
+        out[p + i] = b'0' + (rest % 2) as u8;
         rest = rest / 2;
     }
     p + n
@@ -46,7 +47,7 @@ fn put_bits(out: &mut [u8], p: usize, v: u32, n: usize) -> usize
 
 // Puts a key, a number and LF.
 fn put_line(out: &mut [u8], p: usize, key: &[u8], n: u64) -> usize
-    requires { ⌜ p + length (now key) + 21 ≤ length (now out) ⌝ }
+    requires { ⌜ p + length (now key) + DECIMAL-BYTES ≤ length (now out) ⌝ }
     ensures { λ r. ⌜ Wrote (now (out .entry)) p (lineOf (now (key .entry)) n) (now (out .exit)) r ⌝ }
 {
     let q = put(out, p, key);
@@ -56,7 +57,7 @@ fn put_line(out: &mut [u8], p: usize, key: &[u8], n: u64) -> usize
 
 // Puts an address line of n digits.
 fn put_address(out: &mut [u8], p: usize, v: u32, n: usize) -> usize
-    requires { ⌜ p + n + 9 ≤ length (now out) ⌝ }
+    requires { ⌜ p + n + ADDRESS-BYTES ≤ length (now out) ⌝ }
     ensures { λ r. ⌜ Wrote (now (out .entry)) p (addressLine v n) (now (out .exit)) r ⌝ }
 {
     let q = put(out, p, b"address=");

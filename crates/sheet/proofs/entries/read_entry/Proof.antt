@@ -3,7 +3,7 @@ use Prim.Native.Nat.{_-_, _≤_}
 use native.Mathlib.Omega.{arith}
 use denote.Ref.{now}
 use lib.Dec.{lit≤}
-use Rattle.sheet.specs.Limits.{NUMBER-DIGITS, HOP}
+use Rattle.sheet.specs.Limits.{NUMBER-DIGITS, HOP, BITS-BYTES, HOP-BYTES}
 use Rattle.sheet.specs.Keys.{bitsKey, hopKey}
 use Rattle.sheet.specs.Entries.{entryFrom}
 use Rattle.sheet.proofs.Steps.{Line, UpTo, Spells, number-is, bits-is, line-of}
@@ -13,11 +13,11 @@ use Rattle.sheet.proofs.entries.read_entry.Statement.{statement}
 use Rattle.sheet.proofs.entries.read_entry.Tie as tie
 
 -- what is known of the two lines
-bits-of : (x : tie.After-bits-line) → let a = x .before .before .before .args in Line (now (a .s)) (a .spot) 38 Spells (x .bits-line .result)
+bits-of : (x : tie.After-bits-line) → let a = x .before .before .before .args in Line (now (a .s)) (a .spot) BITS-BYTES Spells (x .bits-line .result)
 bits-of x = line-of (x .bits-line .ensures) (bits-is bitsKey _ _ 0)
 
 hop-of : (x : tie.After-number-line) → let b = x .before .before in
-    Line (now (b .before .before .before .args .s)) (b .bits-line .result .spot) 10 (UpTo HOP) (x .number-line .result)
+    Line (now (b .before .before .before .args .s)) (b .bits-line .result .spot) HOP-BYTES (UpTo HOP) (x .number-line .result)
 hop-of x = line-of (x .number-line .ensures) (number-is hopKey _ _ NUMBER-DIGITS HOP)
 
 slice-aggregate-bits-line : tie.Need-slice-aggregate-bits-line

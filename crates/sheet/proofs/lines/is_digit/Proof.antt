@@ -1,21 +1,23 @@
 -- The two tests of the definition, in its order.
-use Prim.Native.Nat.{_-_}
 use borrow.Author.Tests.{lt-leb, le-leb}
 use Rattle.sheet.specs.Lines.{isDigit}
 use borrow.Author.Needs.{needs}
 use Rattle.sheet.proofs.lines.is_digit.Statement.{statement}
 use Rattle.sheet.proofs.lines.is_digit.Tie as tie
 
-returns : tie.Need-returns
-unfolding isDigit
-returns c = simp (lt-leb _ _ (c .if1 .taken))
+cast-result : tie.Need-cast-result
+cast-result c = search needs
 
 add-result : tie.Need-add-result
 add-result c = search needs
 
+returns : tie.Need-returns
+unfolding isDigit
+returns c = simp (le-leb _ _ (c .if1 .taken))
+
 returns-2 : tie.Need-returns-2
 unfolding isDigit
-returns-2 c = simp (le-leb _ _ (c .if1 .left))
+returns-2 c = simp (lt-leb _ _ (c .if1 .left))
 
 pub is-digit-spec : {M : Type 1} → statement M
-is-digit-spec = tie.close (tie.spec returns add-result returns-2)
+is-digit-spec = tie.close (tie.spec cast-result add-result returns returns-2)

@@ -4,6 +4,7 @@ use Prim.Native.Nat.{_+_, _-_, _*_, _^_, _≤_, _<_}
 use native.Mathlib.Omega.{arith}
 use denote.Ref.{now}
 use lib.ListN.{length}
+use Rattle.sheet.specs.Limits.{KEY, ZERO-DIGIT}
 use Rattle.sheet.specs.Lines.{byteAt, countAt, valueAt}
 use Rattle.sheet.proofs.Digits.{IsDigit, seen, seen-inside, value-more, count-go, count-stop, count-start, count-end, value-none, value-go, value-fits, digits-are}
 use Rattle.sheet.proofs.Digits.{none-more, one-more}
@@ -13,7 +14,7 @@ use Rattle.sheet.proofs.lines.read_digits.Tie as tie
 
 abbrev Inv-loop : tie.InvT-loop
 Inv-loop s p base most value₀ count₀ q₀ value count q =
-    (count ≤ most) × (q ≡ p + count) × (q ≤ length s + 16) × (value < base ^ count) × (value ≡ valueAt base count s p)
+    (count ≤ most) × (q ≡ p + count) × (q ≤ length s + KEY) × (value < base ^ count) × (value ≡ valueAt base count s p)
     × (countAt base most s p ≡ count + countAt base (most - count) s (p + count))
 
 abbrev μ-loop : tie.MeasureT-loop
@@ -31,7 +32,7 @@ digit-of : (c : tie.Else1 Inv-loop μ-loop) → IsDigit (c .before .before .befo
 digit-of c = seen _ 0 _ _ _ (byte-here c) (c .before .is-digit .ensures) (c .if1 .left)
 
 fits-of : (c : tie.Else1 Inv-loop μ-loop) → let l = c .before .before .before .before in
-    l .loop .value * l .before .before .args .base + (c .before .before .byte .result - 48) < 2 ^ 64
+    l .loop .value * l .before .before .args .base + (c .before .before .byte .result - ZERO-DIGIT) < 2 ^ 64
 fits-of c =
     let l = c .before .before .before .before in
     let d = digit-of c in
@@ -57,11 +58,11 @@ returns c =
 mul-value : tie.Need-mul-value Inv-loop μ-loop
 mul-value c = let d = digit-of c in omega (arith, fits-of c)
 
-cast-value : tie.Need-cast-value Inv-loop μ-loop
-cast-value c = search needs
-
 sub-value : tie.Need-sub-value Inv-loop μ-loop
 sub-value c = let d = digit-of c in omega arith
+
+cast-value : tie.Need-cast-value Inv-loop μ-loop
+cast-value c = search needs
 
 add-value : tie.Need-add-value Inv-loop μ-loop
 add-value c = record { fits = fits-of c }
@@ -103,8 +104,8 @@ read-digits-spec =
     is-digit-requires
     returns
     mul-value
-    cast-value
     sub-value
+    cast-value
     add-value
     add-count
     add-q

@@ -3,7 +3,7 @@ use Prim.Native.Nat.{_-_, _≤_}
 use native.Mathlib.Omega.{arith}
 use denote.Ref.{now}
 use lib.Dec.{lit≤}
-use Rattle.sheet.specs.Limits.{NUMBER-DIGITS, NUMBER}
+use Rattle.sheet.specs.Limits.{NUMBER-DIGITS, NUMBER, WIDTH-BYTES, KIND-BYTES, LEVELS-BYTES}
 use Rattle.sheet.specs.Keys.{widthKey, levelsKey}
 use Rattle.sheet.specs.Text.{textStart}
 use Rattle.sheet.proofs.Steps.{Line, step-then, UpTo, number-is, kind-is, line-of}
@@ -13,15 +13,15 @@ use Rattle.sheet.proofs.parsing.read_head.Statement.{statement}
 use Rattle.sheet.proofs.parsing.read_head.Tie as tie
 
 -- the four lines, and what is known of them
-first : (x : tie.After-number-line) → Line (now (x .before .before .before .args .s)) textStart 12 (UpTo NUMBER) (x .number-line .result)
+first : (x : tie.After-number-line) → Line (now (x .before .before .before .args .s)) textStart WIDTH-BYTES (UpTo NUMBER) (x .number-line .result)
 first x = line-of (x .number-line .ensures) (number-is widthKey _ _ NUMBER-DIGITS NUMBER)
 
 second : (x : tie.After-kind-line) → let w = x .before in
-    Line (now (w .before .before .before .args .s)) (w .number-line .result .spot) 9 (UpTo 1) (x .kind-line .result)
+    Line (now (w .before .before .before .args .s)) (w .number-line .result .spot) KIND-BYTES (UpTo 1) (x .kind-line .result)
 second x = line-of (x .kind-line .ensures) (kind-is _ _)
 
 third : (x : tie.After-number-line2) → let k = x .before .before .before in
-    Line (now (k .before .before .before .before .args .s)) (k .kind-line .result .spot) 13 (UpTo NUMBER) (x .number-line2 .result)
+    Line (now (k .before .before .before .before .args .s)) (k .kind-line .result .spot) LEVELS-BYTES (UpTo NUMBER) (x .number-line2 .result)
 third x = line-of (x .number-line2 .ensures) (number-is levelsKey _ _ NUMBER-DIGITS NUMBER)
 
 slice-aggregate-number-line : tie.Need-slice-aggregate-number-line

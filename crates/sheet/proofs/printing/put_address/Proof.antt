@@ -2,6 +2,8 @@
 use Prim.Native.Nat.{_-_, _≤_}
 use native.Mathlib.Omega.{arith}
 use lib.Dec.{lit≤}
+use lib.ListN.{length}
+use Rattle.sheet.specs.Keys.{addressKey}
 use Rattle.sheet.specs.Printing.{bitsLineOf}
 use Rattle.sheet.proofs.Writing.{wrote-then, length-binary}
 use Rattle.sheet.proofs.Writing.{wrote-up-to}
@@ -25,7 +27,7 @@ put-requires-2 : tie.Need-put-requires-2
 put-requires-2 c κs =
     let b = c .before .before .before .before in
     let a = b .before .before .before .before .before .before .before .before .args in
-    omega (arith, wrote-up-to 8 (lit≤ tt) (b .before .before .before .before .put .ensures), wrote-up-to (a .n) (omega (arith, length-binary (a .n) (a .v))) (b .put-bits .ensures))
+    omega (arith, wrote-up-to (length addressKey) (lit≤ tt) (b .before .before .before .before .put .ensures), wrote-up-to (a .n) (omega (arith, length-binary (a .n) (a .v))) (b .put-bits .ensures))
 
 same-length : tie.Need-same-length
 same-length c = search needs

@@ -1,6 +1,8 @@
 -- Three lines, one after the other.
-use Prim.Native.Nat.{_-_}
+use Prim.Native.Nat.{_+_, _-_}
 use native.Mathlib.Omega.{arith}
+use lib.ListN.{length}
+use Rattle.sheet.specs.Limits.{QUERY-BYTES, DECIMAL-BYTES}
 use Rattle.sheet.specs.Keys.{hopKey}
 use Rattle.sheet.specs.Printing.{answerLines}
 use Rattle.sheet.proofs.Writing.{wrote-then, length-line, length-address}
@@ -19,7 +21,7 @@ put-line-requires : tie.Need-put-line-requires
 put-line-requires c κs =
     let a = c .before .before .before .before in
     let b = a .before .before .before in
-    omega (arith, wrote-up-to 41 (omega (arith, length-address (b .args .address) (b .args .n))) (a .put-address .ensures))
+    omega (arith, wrote-up-to QUERY-BYTES (omega (arith, length-address (b .args .address) (b .args .n))) (a .put-address .ensures))
 
 slice-aggregate-put-line-2 : tie.Need-slice-aggregate-put-line-2
 slice-aggregate-put-line-2 c = search needs
@@ -30,8 +32,8 @@ put-line-requires-2 c κs =
     let a = e .before .before .before .before .before .before .before .before .args in
     omega (
       arith,
-      wrote-up-to 41 (omega (arith, length-address (a .address) (a .n))) (e .before .before .before .before .before .put-address .ensures),
-      wrote-up-to 25 (length-line hopKey _) (e .put-line .ensures),
+      wrote-up-to QUERY-BYTES (omega (arith, length-address (a .address) (a .n))) (e .before .before .before .before .before .put-address .ensures),
+      wrote-up-to (length hopKey + DECIMAL-BYTES) (length-line hopKey _) (e .put-line .ensures),
     )
 
 same-length : tie.Need-same-length

@@ -1,6 +1,7 @@
 -- Three runs of bytes, one after the other.
 use Prim.Native.Nat.{_-_}
 use native.Mathlib.Omega.{arith}
+use Rattle.sheet.specs.Limits.{DECIMAL-DIGITS}
 use Rattle.sheet.specs.Printing.{lineOf}
 use Rattle.sheet.proofs.Writing.{wrote-length, wrote-then, length-decimal}
 use Rattle.sheet.proofs.Writing.{wrote-up-to}
@@ -20,7 +21,7 @@ slice-aggregate-put c = search needs
 put-requires-2 : tie.Need-put-requires-2
 put-requires-2 c κs =
     let n = c .before .before .before .before in
-    omega (arith, n .before .before .before .before .put .ensures .next, wrote-length (n .before .before .before .before .put .ensures), wrote-up-to 20 (length-decimal _) (n .put-number .ensures))
+    omega (arith, n .before .before .before .before .put .ensures .next, wrote-length (n .before .before .before .before .put .ensures), wrote-up-to DECIMAL-DIGITS (length-decimal _) (n .put-number .ensures))
 
 same-length : tie.Need-same-length
 same-length c = search needs

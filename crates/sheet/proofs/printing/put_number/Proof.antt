@@ -1,16 +1,17 @@
--- There are at most 20 digits, and they are those of the number.
+-- There are at most DECIMAL-DIGITS digits, and they are those of the number.
 use mathlib.Core.Path.{_≡_, sym, _∙_}
 use Prim.Native.Nat.{_-_, _≤_}
 use native.Mathlib.Omega.{arith}
 use native.Mathlib.Nat.{sub-zero}
 use lib.ListN.{length, take}
+use Rattle.sheet.specs.Limits.{DECIMAL-DIGITS}
 use Rattle.sheet.specs.Printing.{decimal}
 use Rattle.sheet.proofs.Writing.{wrote-is, fewest-few, fewest-decimal}
 use borrow.Author.Needs.{needs}
 use Rattle.sheet.proofs.printing.put_number.Statement.{statement}
 use Rattle.sheet.proofs.printing.put_number.Tie as tie
 
-few : (c : tie.After-decimal) → c .decimal .result ≤ 20
+few : (c : tie.After-decimal) → c .decimal .result ≤ DECIMAL-DIGITS
 few c = fewest-few _ _ (omega arith) (c .decimal .ensures .1 .0)
 
 spelled : (c : tie.After-decimal) → take (c .decimal .result - 0) (c .decimal .last .1 .0) ≡ decimal (c .before .before .before .args .n)
