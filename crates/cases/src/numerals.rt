@@ -8,13 +8,11 @@ pub struct Numeral {
     pub next: usize,
 }
 
+// Whether a byte lies from `low` to `high`.
 fn is_within(low: u8, high: u8, byte: u8) -> bool
     ensures { λ r. ⌜ r ≡ between low high byte ⌝ }
 {
-    if byte < low {
-        return false;
-    }
-    byte <= high
+    low <= byte && byte <= high
 }
 
 // The first place at or after `at` whose byte lies from `low` to `high`; the text's end where none does.
