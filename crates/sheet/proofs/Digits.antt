@@ -114,7 +114,7 @@ unfolding valueAt
 value-go b n v s p e f = rw (e, f, add-one)
 
 pub value-fits : (b n v d most : ℕ) → 2 ≤ b → v < b ^ n → d < b → n < most → b ^ most ≤ 2 ^ 64 → v * b + d < 2 ^ 64
-value-fits b n v d most h₁ h k l m = omega (arith, value-more b n v d h k, pow-le-pow-right {n = b} (omega arith) {i = n + 1} {j = most} (omega arith))
+value-fits b n v d most hb h k l m = omega (arith, value-more b n v d h k, pow-le-pow-right {n = b} (omega arith) {i = n + 1} {j = most} (omega arith))
 
 pub digits-are : (b most : ℕ) (s : List ℕ) (p v n : ℕ) → v ≡ valueAt b n s p → countAt b most s p ≡ n → digitsAt b most s p ≡ record { value = v; count = n }
 unfolding digitsAt

@@ -14,7 +14,7 @@ use borrow.Author.Tests.{ne-eqb}
 use Rattle.sheet.specs.declared.lines.Spot.{Spot}
 use Rattle.sheet.specs.declared.lines.Digits.{Digits}
 use Rattle.sheet.specs.declared.lines.Item.{Item}
-use Rattle.sheet.specs.declared.entries.Entry.{Entry}
+use Rattle.sheet.specs.declared.entries.EntryItem.{EntryItem}
 use Rattle.sheet.specs.Limits.{COUNT, NUMBER-DIGITS, NUMBER, HOP, BITS, ENTRY-BYTES, QUERY-BYTES, LONGEST, PAGE}
 use Rattle.sheet.specs.Keys.{widthKey, fixedKey, variableKey, levelsKey, entriesKey, bitsKey, hopKey, queriesKey, addressKey}
 use Rattle.sheet.specs.Lines.{byteAt, keyAt, countAt, valueAt, digitsAt, close, numberLine, bitsLine, kindLine}
@@ -97,7 +97,7 @@ module _ (s t : List ℕ) (B : ℕ) (same : (p : ℕ) → p < B → byteAt s p �
   entries-same p zero h = refl
   entries-same p (suc n) h =
       ap (λ (q : Spot). entryFrom s q .spot) (entries-same p n (omega arith))
-      ∙ ap (λ (e : Entry). e .spot) (entry-same (afterEntries t p n) (omega (arith, entries-step t p n .near)))
+      ∙ ap (λ (e : EntryItem). e .spot) (entry-same (afterEntries t p n) (omega (arith, entries-step t p n .near)))
 
   queries-same : (p : Spot) (n : ℕ) → p .at + n * QUERY-BYTES ≤ B → afterQueries s p n ≡ afterQueries t p n
   unfolding afterQueries addressFrom

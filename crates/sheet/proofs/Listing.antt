@@ -12,7 +12,7 @@ use lib.Seq.{take-suc-set, getD-append-seam}
 use lib.Dec.{lit≤}
 use Rattle.sheet.specs.declared.lines.Spot.{Spot}
 use Rattle.sheet.specs.declared.lines.Item.{Item}
-use Rattle.sheet.specs.declared.entries.Entry.{Entry}
+use Rattle.sheet.specs.declared.entries.EntryItem.{EntryItem}
 use Rattle.sheet.specs.Limits.{BITS, NUMBER-DIGITS, HOP, ENTRY-BYTES, QUERY-BYTES}
 use Rattle.sheet.specs.Keys.{bitsKey, hopKey, addressKey}
 use Rattle.sheet.specs.Lines.{bitsLine}
@@ -51,17 +51,17 @@ queries-step s p (suc n) =
 
 -- ---- the loop over the entries: e is the one that was read at q
 
-pub entries-more : (s : List ℕ) (q : Spot) {e : Entry} → e ≡ entryFrom s q → (p : Spot) (i : ℕ) (vs ls hs : List ℕ)
+pub entries-more : (s : List ℕ) (q : Spot) {e : EntryItem} → e ≡ entryFrom s q → (p : Spot) (i : ℕ) (vs ls hs : List ℕ)
     → i < length vs → i < length ls → i < length hs
     → HoldsEntries s p i vs ls hs q → HoldsEntries s p (i + 1) (set vs i (e .bits)) (set ls i (e .len)) (set hs i (e .hop)) (e .spot)
 unfolding entryBits entryLength entryHop afterEntries
 entries-more s q {e} read p i vs ls hs hv hl hh H =
     let f : e ≡ entryFrom s (afterEntries s p i) = read ∙ ap (entryFrom s) (H .spot) in
     record {
-      spot = ap (λ (x : Entry). x .spot) f ∙ ap (afterEntries s p) (sym (add-one i));
-      bits = listed-more (entryBits s p) vs i (e .bits) hv (H .bits) (ap (λ (x : Entry). x .bits) f);
-      lengths = listed-more (entryLength s p) ls i (e .len) hl (H .lengths) (ap (λ (x : Entry). x .len) f);
-      hops = listed-more (entryHop s p) hs i (e .hop) hh (H .hops) (ap (λ (x : Entry). x .hop) f);
+      spot = ap (λ (x : EntryItem). x .spot) f ∙ ap (afterEntries s p) (sym (add-one i));
+      bits = listed-more (entryBits s p) vs i (e .bits) hv (H .bits) (ap (λ (x : EntryItem). x .bits) f);
+      lengths = listed-more (entryLength s p) ls i (e .len) hl (H .lengths) (ap (λ (x : EntryItem). x .len) f);
+      hops = listed-more (entryHop s p) hs i (e .hop) hh (H .hops) (ap (λ (x : EntryItem). x .hop) f);
     }
 
 pub entries-none : (s : List ℕ) (p : Spot) (vs ls hs : List ℕ) → HoldsEntries s p 0 vs ls hs p

@@ -125,7 +125,7 @@ says-unique s (inr a) (inl b) = absurd (a .1 .no-sheet (b .0) (b .1) (b .2))
 says-unique s (inr a) (inr b) = a .2 ∙ ap (refusalLines 11) (first-bad-unique (a .1) (b .1)) ∙ sym (b .2)
 
 -- one answer, and one thing left
-pub reports-unique : {s out o₁ o₂ : List ℕ} {r₁ r₂ : Report} → Reports s out o₁ r₁ → Reports s out o₂ r₂ → (r₁ ≡ r₂) × (o₁ ≡ o₂)
+pub reports-unique : {s out o o′ : List ℕ} {r r′ : Report} → Reports s out o r → Reports s out o′ r′ → (r ≡ r′) × (o ≡ o′)
 reports-unique {s} {out} a b =
     let e : a .bytes ≡ b .bytes = says-unique s (a .says) (b .says) in
     (a .answer ∙ ap (λ (x : List ℕ). answerFor x out) e ∙ sym (b .answer), a .left ∙ ap (λ (x : List ℕ). leftFor x out) e ∙ sym (b .left))

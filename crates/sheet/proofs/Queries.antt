@@ -17,7 +17,7 @@ use Rattle.walk.specs.declared.record.Record.{Record}
 use Rattle.walk.specs.declared.walk.Answer.{Answer}
 use Rattle.sheet.specs.Lent.{LentQueries}
 use Rattle.sheet.specs.Printing.{refusalLines, headLines, answerLines, joined, Wrote}
-use Rattle.sheet.specs.Answers.{wrong, firstWrong, queryLines, answersReport, hopIn, readsIn, lookedUp}
+use Rattle.sheet.specs.Answers.{wrong, firstWrong, queryLines, answersReport, hopFor, readsFor, lookedUp}
 use Rattle.sheet.proofs.Writing.{wrote-is, joined-more, joined-same}
 
 -- what an answer that was taken apart prints
@@ -28,11 +28,11 @@ module _ (rec : Record) (ls : Lists) (xs ds : List ℕ) where
   -- one query more: a is the answer of its lookup
   pub query-more : (i : ℕ) {a : Answer} → a ≡ lookupOf WIDTH rec ls (at xs i)
       → {out : List ℕ} {p : ℕ} {out′ : List ℕ} {q : ℕ} {out″ : List ℕ} {r : ℕ}
-      → Wrote out p (joined (queryLines (hopIn rec ls) (readsIn rec ls) xs ds) i) out′ q
+      → Wrote out p (joined (queryLines (hopFor rec ls) (readsFor rec ls) xs ds) i) out′ q
       → Wrote out′ q (answerLines (at xs i) (at ds i) (hopOf a) (readsOf a)) out″ r
-      → Wrote out p (joined (queryLines (hopIn rec ls) (readsIn rec ls) xs ds) (i + 1)) out″ r
+      → Wrote out p (joined (queryLines (hopFor rec ls) (readsFor rec ls) xs ds) (i + 1)) out″ r
   unfolding queryLines
-  query-more i e w v = joined-more (queryLines (hopIn rec ls) (readsIn rec ls) xs ds) i w (wrote-is (found-is (at xs i) (at ds i) (sym e)) v)
+  query-more i e w v = joined-more (queryLines (hopFor rec ls) (readsFor rec ls) xs ds) i w (wrote-is (found-is (at xs i) (at ds i) (sym e)) v)
 
   -- the two ends of the report
   module _ {w : ℕ} (found : w ≡ firstWrong (rec .width) ds) where
@@ -41,7 +41,7 @@ module _ (rec : Record) (ls : Lists) (xs ds : List ℕ) where
     report-wrong h = rw (sym found, lt-ltb w (length ds) h)
 
     pub report-right : length ds ≤ w
-        → headLines (rec .elements) (root rec) ++ joined (queryLines (hopIn rec ls) (readsIn rec ls) xs ds) (length ds) ≡ lookedUp rec ls xs ds
+        → headLines (rec .elements) (root rec) ++ joined (queryLines (hopFor rec ls) (readsFor rec ls) xs ds) (length ds) ≡ lookedUp rec ls xs ds
     unfolding answersReport
     report-right h = rw (sym found, le-ltb w (length ds) h)
 

@@ -30,7 +30,7 @@ module _ (s vs ls hs xs ds : List ℕ) {t : Parsed} (read : parsedText t vs ls h
   unfolding reportOf textReport parsedText
   report-bad is = rw (sym read, is)
 
-  pub report-good : {k : Kind} {w l n m : ℕ} → t ≡ Parsed.Good w k l n m
+  pub report-good : {k : Kind} {w l n m : ℕ} → t ≡ Parsed.Whole w k l n m
       → solved k w l (take (n - 0) vs) (take (n - 0) ls) (take (n - 0) hs) (take (m - 0) xs) (take (m - 0) ds) ≡ reportOf s
   unfolding reportOf textReport parsedText
   report-good {n = n} {m = m} is = rw (sub-zero n, sub-zero m, sym read, is)
@@ -44,8 +44,8 @@ part-length n xs h = rw sub-zero (length-take-le n xs h)
 part-at : (n : ℕ) (xs : List ℕ) (i : ℕ) → i < n → at (take (n - 0) xs) i ≡ at xs i
 part-at n xs i h = rw sub-zero (getD-take n xs i 0 h)
 
-module _ (vs ls xs ds : List ℕ) {t : Parsed} {k : Kind} {w l n m : ℕ} (is : t ≡ Parsed.Good w k l n m) (small : Small t vs ls xs ds) where
-  pub small-of : Small (Parsed.Good w k l n m) vs ls xs ds
+module _ (vs ls xs ds : List ℕ) {t : Parsed} {k : Kind} {w l n m : ℕ} (is : t ≡ Parsed.Whole w k l n m) (small : Small t vs ls xs ds) where
+  pub small-of : Small (Parsed.Whole w k l n m) vs ls xs ds
   small-of = subst (λ (x : Parsed). Small x vs ls xs ds) is small
 
   pub entries-lent : COUNT ≤ length vs → COUNT ≤ length ls → LentEntries (take (n - 0) vs) (take (n - 0) ls)
@@ -126,12 +126,12 @@ module _ (page : List ℕ) (n : ℕ) {text out out′ : List ℕ} {r : ℕ} (is 
   page-reports s b = ran-reports (page-ran s b)
 
 -- one answer, and one thing left
-pub page-unique : (page : List ℕ) (n : ℕ) → length page ≤ PAGE → {out o₁ o₂ : List ℕ} {r₁ r₂ : ℕ}
-    → PageReports page n out o₁ r₁ → PageReports page n out o₂ r₂ → (r₁ ≡ r₂) × (o₁ ≡ o₂)
-page-unique page n h {r₁ = r₁} {r₂ = r₂} a b =
+pub page-unique : (page : List ℕ) (n : ℕ) → length page ≤ PAGE → {out o o′ : List ℕ} {r r′ : ℕ}
+    → PageReports page n out o r → PageReports page n out o′ r′ → (r ≡ r′) × (o ≡ o′)
+page-unique page n h {r = r} {r′ = r′} a b =
     let e : OnPage (take n page) page n = take-all PAGE (take n page) (omega (arith, length-take n page)) in
     let w = reports-unique (a (take n page) e) (b (take n page) e) in
-    let z : r₁ ≡ r₂ = ap count (w .0) in
+    let z : r ≡ r′ = ap count (w .0) in
     (z, w .1)
   where
     count : Report → ℕ

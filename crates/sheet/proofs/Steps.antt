@@ -26,10 +26,10 @@ pub record Step (s : List ℕ) (p : Spot) (bytes lines : ℕ) (q : Spot) : Type 
 pub step-none : (s : List ℕ) (p : Spot) → Step s p 0 0 p
 step-none s p = record { within = λ h. h; near = omega arith; next = omega arith }
 
-pub step-then : {s : List ℕ} {p q r : Spot} {b₁ l₁ b₂ l₂ : ℕ} → Step s p b₁ l₁ q → Step s q b₂ l₂ r → Step s p (b₁ + b₂) (l₁ + l₂) r
+pub step-then : {s : List ℕ} {p q r : Spot} {b l b′ l′ : ℕ} → Step s p b l q → Step s q b′ l′ r → Step s p (b + b′) (l + l′) r
 step-then f g = record { within = λ h. g .within (f .within h); near = omega (arith, f .near, g .near); next = omega (arith, f .next, g .next) }
 
-pub step-widen : {s : List ℕ} {p q : Spot} {b₁ l₁ b₂ l₂ : ℕ} → Step s p b₁ l₁ q → b₁ ≤ b₂ → l₁ ≤ l₂ → Step s p b₂ l₂ q
+pub step-widen : {s : List ℕ} {p q : Spot} {b l b′ l′ : ℕ} → Step s p b l q → b ≤ b′ → l ≤ l′ → Step s p b′ l′ q
 step-widen f hb hl = record { within = f .within; near = omega (arith, f .near); next = omega (arith, f .next) }
 
 -- a line of so many bytes at most, with a value and a count of digits of which P holds

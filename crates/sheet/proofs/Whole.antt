@@ -144,7 +144,7 @@ module _ (s vs ls hs : List ℕ) {h : Head} {after : Spot} {q : Item} (h-read : 
         go : (t : Bool)
             → parsedText
             (cond t
-            (Parsed.Good (widthItem s .value) (kindNamed (kindItem s .value)) (levelsItem s .value) (entriesItem s .value) (queriesItem s .value))
+            (Parsed.Whole (widthItem s .value) (kindNamed (kindItem s .value)) (levelsItem s .value) (entriesItem s .value) (queriesItem s .value))
             (Parsed.Bad (lastSpot s .line)))
             vs ls hs xs ds
             ≡ cond t (good (sheetOf s)) (bad (lastSpot s .line))
@@ -161,7 +161,7 @@ module _ (s vs ls hs : List ℕ) {h : Head} {after : Spot} {q : Item} (h-read : 
         go : (t : Bool)
             → Small
             (cond t
-            (Parsed.Good (widthItem s .value) (kindNamed (kindItem s .value)) (levelsItem s .value) (entriesItem s .value) (queriesItem s .value))
+            (Parsed.Whole (widthItem s .value) (kindNamed (kindItem s .value)) (levelsItem s .value) (entriesItem s .value) (queriesItem s .value))
             (Parsed.Bad (lastSpot s .line)))
             vs ls xs ds
         go true = (

@@ -35,16 +35,16 @@ module _ (hop reads : ℕ → ℕ) (xs ds : List ℕ) where
 
 -- the hop and the reads of a lookup in what a build left: no route is hop 0
 module _ (rec : Record) (ls : Lists) where
-  abbrev pub hopIn : ℕ → ℕ
-  hopIn a = hopOf (lookupOf WIDTH rec ls a)
+  abbrev pub hopFor : ℕ → ℕ
+  hopFor a = hopOf (lookupOf WIDTH rec ls a)
 
-  abbrev pub readsIn : ℕ → ℕ
-  readsIn a = readsOf (lookupOf WIDTH rec ls a)
+  abbrev pub readsFor : ℕ → ℕ
+  readsFor a = readsOf (lookupOf WIDTH rec ls a)
 
   -- all queries, looked up
   abbrev pub answered : (xs ds : List ℕ) → List ℕ
-  answered xs ds = joined (queryLines hopIn readsIn xs ds) (length ds)
+  answered xs ds = joined (queryLines hopFor readsFor xs ds) (length ds)
 
   -- the report as it is looked up
   abbrev pub lookedUp : (xs ds : List ℕ) → List ℕ
-  lookedUp xs ds = answersReport hopIn readsIn xs ds (rec .width) (rec .elements) (root rec)
+  lookedUp xs ds = answersReport hopFor readsFor xs ds (rec .width) (rec .elements) (root rec)

@@ -6,7 +6,7 @@ use Prim.Native.Nat.{ℕ, zero, suc}
 use lib.ListN.{take}
 use Rattle.sheet.specs.declared.lines.Spot.{Spot}
 use Rattle.sheet.specs.declared.lines.Item.{Item}
-use Rattle.sheet.specs.declared.entries.Entry.{Entry}
+use Rattle.sheet.specs.declared.entries.EntryItem.{EntryItem}
 use Rattle.table.specs.Lists.{listed}
 use Rattle.sheet.specs.Limits.{NUMBER-DIGITS, HOP}
 use Rattle.sheet.specs.Keys.{bitsKey, hopKey, addressKey}
@@ -14,7 +14,7 @@ use Rattle.sheet.specs.Lines.{numberLine, bitsLine}
 
 module _ (s : List ℕ) where
   -- an entry: its bits as a number, how many they are, its hop
-  unfoldable pub entryFrom : Spot → Entry
+  unfoldable pub entryFrom : Spot → EntryItem
   entryFrom p =
       let b = bitsLine 0 bitsKey s p in
       let h = numberLine NUMBER-DIGITS HOP hopKey s (b .spot) in

@@ -1,7 +1,8 @@
 -- The numbers of the tablet's text, named once; `src/limits.rt` has the same ones for the code.
 use Prim.Native.Nat.{ℕ, _+_, _*_}
 use lib.ListN.{length}
-use Rattle.sheet.specs.Keys.{widthKey, fixedKey, levelsKey, entriesKey, bitsKey, hopKey, addressKey, refusalKey, detailKey, elementsKey, rootKey, readsKey}
+use Rattle.sheet.specs.Keys.{widthKey, fixedKey, levelsKey, entriesKey, bitsKey, hopKey, addressKey}
+use Rattle.sheet.specs.Keys.{refusalKey, detailKey, elementsKey, rootKey, readsKey}
 
 -- the most entries, and the most queries
 abbrev pub COUNT : ℕ

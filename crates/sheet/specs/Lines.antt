@@ -19,16 +19,16 @@ byteAt s p = getD s p 0
 -- the bytes of the key stand at p
 unfoldable pub keyAt : List ℕ → List ℕ → ℕ → Bool
 keyAt [] s p = true
-keyAt (k ∷ key) s p = eqb (byteAt s p) k && keyAt key s (suc p)
+keyAt (c ∷ key) s p = eqb (byteAt s p) c && keyAt key s (suc p)
 
 -- the byte c is one of the b digits `0`, `1`, ..
 unfoldable pub isDigit : ℕ → ℕ → Bool
 isDigit b c = leb ZERO-DIGIT c && ltb c (ZERO-DIGIT + b)
 
--- how many digits of base b stand from p on, k at most
+-- how many digits of base b stand from p on, `most` at most
 unfoldable pub countAt : ℕ → ℕ → List ℕ → ℕ → ℕ
 countAt b zero s p = zero
-countAt b (suc k) s p = cond (isDigit b (byteAt s p)) (suc (countAt b k s (suc p))) zero
+countAt b (suc most) s p = cond (isDigit b (byteAt s p)) (suc (countAt b most s (suc p))) zero
 
 -- the number that n digits from p on spell
 unfoldable pub valueAt : ℕ → ℕ → List ℕ → ℕ → ℕ
@@ -36,7 +36,7 @@ valueAt b zero s p = zero
 valueAt b (suc n) s p = valueAt b n s p * b + (byteAt s (p + n) - ZERO-DIGIT)
 
 unfoldable pub digitsAt : ℕ → ℕ → List ℕ → ℕ → Digits
-digitsAt b k s p = record { value = valueAt b (countAt b k s p) s p; count = countAt b k s p }
+digitsAt b most s p = record { value = valueAt b (countAt b most s p) s p; count = countAt b most s p }
 
 -- n digits that begin with the byte `first` are one at least, and no leading zero
 unfoldable pub unpadded : ℕ → ℕ → Bool
@@ -53,11 +53,11 @@ close s p end d =
     (record { value = d .value; count = d .count; spot = record { at = suc end; line = suc (p .line); good = true } })
     (badLine p)
 
--- a key and a number: decimal, 1 to k digits, no leading zero, at most `most`
-unfoldable pub numberLine : (k most : ℕ) → List ℕ → List ℕ → Spot → Item
-numberLine k most key s p =
+-- a key and a number: decimal, 1 to `digits` digits, no leading zero, at most `most`
+unfoldable pub numberLine : (digits most : ℕ) → List ℕ → List ℕ → Spot → Item
+numberLine digits most key s p =
     let q = p .at + length key in
-    let d = digitsAt 10 k s q in
+    let d = digitsAt 10 digits s q in
     cond (keyAt key s (p .at) && unpadded (byteAt s q) (d .count) && leb (d .value) most) (close s p (q + d .count) d) (badLine p)
 
 -- a key and binary digits, `least` at least

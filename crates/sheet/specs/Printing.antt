@@ -12,7 +12,7 @@ use Rattle.io.specs.Digits.{digits}
 use Rattle.sheet.specs.Limits.{LF, DECIMAL-DIGITS}
 use Rattle.sheet.specs.Keys.{addressKey, hopKey, refusalKey, detailKey, elementsKey, rootKey, readsKey}
 
--- the first k from i on, at most f further, with n below 10 ^ k
+-- the first d from i on, at most f further, with n below 10 ^ d
 unfoldable pub decimalLengthFrom : ℕ → ℕ → ℕ → ℕ
 decimalLengthFrom zero i n = i
 decimalLengthFrom (suc f) i n = cond (ltb n (10 ^ i)) i (decimalLengthFrom f (suc i) n)

@@ -85,15 +85,15 @@ module _ (s : List ℕ) where
 
 unfoldable pub concluded : Head → (queries : ℕ) → Spot → (end : ℕ) → Parsed
 concluded h m last end =
-    cond (last .good && eqb (last .at) end) (Parsed.Good (h .width) (h .kind) (h .levels) (h .entries) m) (Parsed.Bad (last .line))
+    cond (last .good && eqb (last .at) end) (Parsed.Whole (h .width) (h .kind) (h .levels) (h .entries) m) (Parsed.Bad (last .line))
 
 unfoldable pub parsedText : Parsed → (vs ls hs xs ds : List ℕ) → Text
 parsedText (Parsed.Bad line) vs ls hs xs ds = bad line
-parsedText (Parsed.Good w k l n m) vs ls hs xs ds =
+parsedText (Parsed.Whole w kind l n m) vs ls hs xs ds =
     good
     (record {
       width = w;
-      kind = k;
+      kind = kind;
       levels = l;
       bits = take n vs;
       lengths = take n ls;
@@ -106,5 +106,5 @@ parsedText (Parsed.Good w k l n m) vs ls hs xs ds =
 -- digits spell, and no address has more than BITS
 abbrev pub Small : Parsed → (vs ls xs ds : List ℕ) → Type 0
 Small (Parsed.Bad line) vs ls xs ds = Unit {0}
-Small (Parsed.Good w k l n m) vs ls xs ds =
+Small (Parsed.Whole w kind l n m) vs ls xs ds =
     (n ≤ COUNT) × (m ≤ COUNT) × ((i : ℕ) → i < n → at vs i < 2 ^ at ls i) × ((i : ℕ) → i < m → (at xs i < 2 ^ at ds i) × (at ds i ≤ BITS))

@@ -12,21 +12,21 @@ use crate::lines::bits_line;
 use crate::lines::number_line;
 
 // An entry that was read: its bits as a number, how many they are, its hop; and where the reading stands after it.
-pub(crate) struct Entry {
+pub(crate) struct EntryItem {
     pub(crate) bits: u32,
     pub(crate) len: u8,
     pub(crate) hop: u16,
     pub(crate) spot: Spot,
 }
 
-fn read_entry(s: &[u8], spot: Spot) -> Entry
+fn read_entry(s: &[u8], spot: Spot) -> EntryItem
     requires { ⌜ (spot .at ≤ length (now s)) × (spot .line < LINES) ⌝ }
     ensures { λ r. ⌜ r ≡ entryFrom (now (s .entry)) spot ⌝ }
 {
     let b = bits_line(s, spot, b"bits=", 0);
     let h = number_line(s, b.spot, b"hop=", NUMBER_DIGITS, HOP);
     let after = h.spot;
-    Entry {
+    EntryItem {
         bits: b.value as u32,
         len: b.count as u8,
         hop: h.value as u16,

@@ -24,7 +24,7 @@ pub(crate) struct Head {
 }
 
 pub(crate) enum Parsed {
-    Good {
+    Whole {
         width: u32,
         kind: Kind,
         levels: u32,
@@ -71,14 +71,11 @@ fn read_head(s: &[u8]) -> Head
 fn conclude(head: Head, queries: usize, last: Spot, end: usize) -> Parsed
     ensures { λ r. ⌜ r ≡ concluded head queries last end ⌝ }
 {
-    if !last.good {
-        return Parsed::Bad(last.line);
-    }
-    if last.at != end {
+    if !last.good || last.at != end {
         return Parsed::Bad(last.line);
     }
     let kind = head.kind;
-    Parsed::Good {
+    Parsed::Whole {
         width: head.width,
         kind,
         levels: head.levels,

@@ -42,7 +42,7 @@ fn put_run(out: &mut [u8], text: &[u8]) -> usize
     let parsed = parse(text, &mut bits, &mut lens, &mut hops, &mut adds, &mut digs);
     match parsed {
         Parsed::Bad(line) => put_refusal(out, 0, 11, line as u64),
-        Parsed::Good {
+        Parsed::Whole {
             width,
             kind,
             levels,

@@ -9,11 +9,8 @@ fn placed(width: u32, bits: u32, len: u8) -> u32
     requires { ⌜ bits < 2 ^ len ⌝ }
     ensures { λ r. ⌜ r ≡ valueOf width bits len ⌝ }
 {
-    if table::WIDTH < width {
-        return 0;
-    }
     let l = len as u32;
-    if width < l {
+    if table::WIDTH < width || width < l {
         return 0;
     }
     ((bits as u64) << (width - l)) as u32

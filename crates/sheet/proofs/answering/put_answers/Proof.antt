@@ -7,7 +7,7 @@ use lib.ListN.{length}
 use Rattle.table.specs.Table.{at}
 use Rattle.walk.specs.Rows.{lists}
 use Rattle.sheet.specs.Printing.{joined, Wrote}
-use Rattle.sheet.specs.Answers.{queryLines, hopIn, readsIn}
+use Rattle.sheet.specs.Answers.{queryLines, hopFor, readsFor}
 use Rattle.sheet.proofs.Writing.{wrote-length, wrote-up-to, length-answer, joined-none}
 use Rattle.sheet.proofs.Queries.{query-more}
 use Rattle.sheet.specs.Limits.{ANSWER-BYTES}
@@ -18,7 +18,7 @@ use Rattle.sheet.proofs.answering.put_answers.Tie as tie
 abbrev Inv-loop : tie.InvT-loop
 Inv-loop out₀ p rec hop link stride adds digs q₀ i₀ out q i =
     (i ≤ length digs) × (q ≤ p + i * ANSWER-BYTES)
-    × Wrote out₀ p (joined (queryLines (hopIn rec (lists hop link stride)) (readsIn rec (lists hop link stride)) adds digs) i) out q
+    × Wrote out₀ p (joined (queryLines (hopFor rec (lists hop link stride)) (readsFor rec (lists hop link stride)) adds digs) i) out q
 
 abbrev μ-loop : tie.MeasureT-loop
 μ-loop out₀ p rec hop link stride adds digs q₀ i₀ out q i = length digs - i

@@ -1,21 +1,24 @@
 -- The two tests of the definition, in its order.
+use mathlib.Core.Logic.{⊎-elim}
 use Prim.Native.Nat.{_-_}
-use borrow.Author.Tests.{eq-eqb, ne-eqb, not-true, not-false}
+use lib.Dec.{eqb}
+use borrow.Author.Tests.{not-true, not-false}
 use Rattle.sheet.specs.Text.{concluded}
 use Rattle.sheet.proofs.parsing.conclude.Statement.{statement}
 use Rattle.sheet.proofs.parsing.conclude.Tie as tie
 
 returns : tie.Need-returns
 unfolding concluded
-returns c = simp (not-true (c .before .before .args .last .good) (c .if1 .taken))
+returns c =
+    let a = c .before .before .args in
+    ⊎-elim (λ w. simp (not-true (a .last .good) (w .taken)))
+    (λ w. simp (not-false (a .last .good) (w .0 .left), not-true (eqb (a .last .at) (a .end)) (w .2 .taken))) (c .if1 .came)
 
 returns-2 : tie.Need-returns-2
 unfolding concluded
-returns-2 c = simp (not-false (c .before .before .before .before .args .last .good) (c .before .before .if1 .left), ne-eqb _ _ (c .if2 .taken))
-
-returns-3 : tie.Need-returns-3
-unfolding concluded
-returns-3 c = simp (not-false (c .before .before .before .before .args .last .good) (c .before .before .if1 .left), eq-eqb _ _ (c .if2 .left))
+returns-2 c =
+    let a = c .before .before .before .before .args in
+    simp (not-false (a .last .good) (c .before .before .if1 .left), not-false (eqb (a .last .at) (a .end)) (c .if2 .left))
 
 pub conclude-spec : {M : Type 1} → statement M
-conclude-spec = tie.close (tie.spec returns returns-2 returns-3)
+conclude-spec = tie.close (tie.spec returns returns-2)

@@ -21,7 +21,8 @@ slice-aggregate-put c = search needs
 put-requires-2 : tie.Need-put-requires-2
 put-requires-2 c κs =
     let n = c .before .before .before .before in
-    omega (arith, n .before .before .before .before .put .ensures .next, wrote-length (n .before .before .before .before .put .ensures), wrote-up-to DECIMAL-DIGITS (length-decimal _) (n .put-number .ensures))
+    let k = n .before .before .before .before in
+    omega (arith, k .put .ensures .next, wrote-length (k .put .ensures), wrote-up-to DECIMAL-DIGITS (length-decimal _) (n .put-number .ensures))
 
 same-length : tie.Need-same-length
 same-length c = search needs
