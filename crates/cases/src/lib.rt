@@ -4,6 +4,7 @@
 mod counts;
 mod fills;
 mod fronts;
+mod limits;
 mod numerals;
 mod room;
 mod tables;

@@ -2,55 +2,60 @@
 // the length, which lending the array as a slice needs.
 ghost use mathlib.Core.Path.{_≡_};
 ghost use lib.ListN.{length};
+ghost use Rattle.cases.specs.Limits.{TEXT, PLACES, SCRATCH, ROWS};
+use crate::limits::PLACES;
+use crate::limits::ROWS;
+use crate::limits::SCRATCH;
+use crate::limits::TEXT;
 
-// A mebibyte for the text of all cases.
-pub fn page() -> [u8; 1048576]
-    ensures { λ r. ⌜ 1048576 ≡ length r ⌝ }
+// The text of all cases.
+pub fn page() -> [u8; TEXT]
+    ensures { λ r. ⌜ TEXT ≡ length r ⌝ }
 {
-    [0; 1048576]
+    [0; TEXT]
 }
 
-// A table's lists hold 4,096 entries, and the cases go past that.
-pub fn values() -> [u32; 5000]
-    ensures { λ r. ⌜ 5000 ≡ length r ⌝ }
+// A table's three lists.
+pub fn values() -> [u32; PLACES]
+    ensures { λ r. ⌜ PLACES ≡ length r ⌝ }
 {
-    [0; 5000]
+    [0; PLACES]
 }
 
-pub fn lengths() -> [u8; 5000]
-    ensures { λ r. ⌜ 5000 ≡ length r ⌝ }
+pub fn lengths() -> [u8; PLACES]
+    ensures { λ r. ⌜ PLACES ≡ length r ⌝ }
 {
-    [0; 5000]
+    [0; PLACES]
 }
 
-pub fn hops() -> [u16; 5000]
-    ensures { λ r. ⌜ 5000 ≡ length r ⌝ }
+pub fn hops() -> [u16; PLACES]
+    ensures { λ r. ⌜ PLACES ≡ length r ⌝ }
 {
-    [0; 5000]
+    [0; PLACES]
 }
 
-// Scratch for the largest trie of the cases.
-pub fn scratch() -> [u64; 200000]
-    ensures { λ r. ⌜ 200000 ≡ length r ⌝ }
+// Scratch.
+pub fn scratch() -> [u64; SCRATCH]
+    ensures { λ r. ⌜ SCRATCH ≡ length r ⌝ }
 {
-    [0; 200000]
+    [0; SCRATCH]
 }
 
-// The three element lists hold the rows of the largest build.
-pub fn row_hops() -> [u16; 20000]
-    ensures { λ r. ⌜ 20000 ≡ length r ⌝ }
+// The three element lists.
+pub fn row_hops() -> [u16; ROWS]
+    ensures { λ r. ⌜ ROWS ≡ length r ⌝ }
 {
-    [0; 20000]
+    [0; ROWS]
 }
 
-pub fn row_links() -> [u32; 20000]
-    ensures { λ r. ⌜ 20000 ≡ length r ⌝ }
+pub fn row_links() -> [u32; ROWS]
+    ensures { λ r. ⌜ ROWS ≡ length r ⌝ }
 {
-    [0; 20000]
+    [0; ROWS]
 }
 
-pub fn row_strides() -> [u8; 20000]
-    ensures { λ r. ⌜ 20000 ≡ length r ⌝ }
+pub fn row_strides() -> [u8; ROWS]
+    ensures { λ r. ⌜ ROWS ≡ length r ⌝ }
 {
-    [0; 20000]
+    [0; ROWS]
 }
