@@ -1,13 +1,22 @@
 -- A run's report has its meaning, and the meaning leaves one report.
-use mathlib.Core.Path.{_≡_, refl, sym, ap, subst, _∙_, fun-ext}
-use mathlib.Core.List.{List}
+use mathlib.Core.Path.{_≡_, refl, sym, ap, subst, _∙_}
+use mathlib.Core.Bool.{Bool, true, false, cond}
+use mathlib.Core.List.{List, _++_}
 use mathlib.Core.Logic.{inl, inr}
-use Prim.Native.Nat.{ℕ, _*_}
+use Prim.Native.Nat.{ℕ, _*_, _<_}
+use Prim.Dec.{yes, no}
+use native.Mathlib.Omega.{arith}
+use native.Mathlib.Decide.{decLt}
 use lib.ListN.{length}
+use lib.Dec.{ltb}
+use borrow.Author.Tests.{eqb-true, eqb-false, ltb-true, ltb-false, not-true, not-false}
 use Rattle.table.specs.Refusals.{Test, outcome, Gives}
-use Rattle.table.specs.Table.{at}
+use Rattle.table.specs.Table.{at, Table}
 use Rattle.table.specs.declared.entry.Outcome.{Outcome}
 use Rattle.table.specs.declared.entry.Outcome.the-variants.{Accepted, Refused}
+use Rattle.table.proofs.Find.{FirstTrue, find-first}
+use Rattle.table.proofs.Longest.{longest-is}
+use Rattle.table.proofs.Unique.{longest-unique}
 use Rattle.table.proofs.Refusals.{outcome-gives, gives-unique, gives-outcome, accepted-parts}
 use Rattle.strides.specs.Cheapest.{Kind}
 use Rattle.strides.specs.Trie.{Trie}
@@ -15,7 +24,7 @@ use Rattle.strides.specs.Recurrence.{plain, leastBy}
 use Rattle.strides.proofs.Insertion.{trie-depth-width}
 use Rattle.strides.proofs.Cheapest.{least-cheapest, chosen-follows}
 use Rattle.strides.proofs.Follows.{follows-good, follows-unique}
-use Rattle.layout.specs.Blocks.{Strides, Agree}
+use Rattle.layout.specs.Blocks.{Strides, rowCount, strideOf, Agree}
 use Rattle.tries.specs.Build.{buildTests}
 use Rattle.layout.specs.Laid.{tableTrie}
 use Rattle.tries.specs.Chooser.{chooseTests}
@@ -25,13 +34,14 @@ use Rattle.tries.proofs.ChooseTests.{accepted-levels, accepted-tests-table}
 use Rattle.tries.proofs.BuildSteps.{tests-least}
 use Rattle.sheet.specs.declared.running.Report.{Report}
 use Rattle.sheet.specs.Limits.{LENT-ROWS, LENT-ELEMENTS}
-use Rattle.sheet.specs.Printing.{refusalLines}
-use Rattle.sheet.specs.Answers.{answersReport}
+use Rattle.sheet.specs.Printing.{refusalLines, headLines, answerLines, joined}
+use Rattle.sheet.specs.Answers.{wrong, firstWrong, queryLines, answersReport}
 use Rattle.sheet.specs.Sheet.{Sheet}
 use Rattle.sheet.specs.Text.{Text, good, bad, textOf}
-use Rattle.sheet.specs.Solved.{longestHop, reportBy, buildOutcome, chosen, tableReport, reportFor, solved}
+use Rattle.sheet.specs.Solved.{longestHop, blocksRead, reportBy, buildOutcome, chosen, tableReport, reportFor, solved}
 use Rattle.sheet.specs.Tablet.{textReport, reportOf, answerFor, leftFor, Ran}
-use Rattle.sheet.specs.Meaning.{Solves, SheetSolves, Says, Reports}
+use Rattle.sheet.specs.Meaning.{FirstWrong, pathLines, AnsweredBy, Solves, SheetSolves, Says, Reports}
+use Rattle.sheet.proofs.Writing.{joined-same}
 use Rattle.sheet.proofs.Sound.{sheet-of-text}
 use Rattle.sheet.proofs.Following.{good-is-sound, good-is-spelled}
 use Rattle.sheet.proofs.FirstBad.{bad-is-first, first-bad-unique}
@@ -42,6 +52,35 @@ accepted-tests : (W k : ℕ) (vs ls hs : List ℕ) (words room least : ℕ) → 
     → outcome (chooseTests W k vs ls hs words) ≡ Accepted
 unfolding buildTests
 accepted-tests W k vs ls hs words room least e = accepted-parts (chooseTests W k vs ls hs words) _ e .0
+
+-- the report of an accepted build
+module _ (W k : ℕ) (vs ls hs : List ℕ) (σ : Strides) (xs ds : List ℕ) where
+  report-answers : AnsweredBy W k vs ls hs σ xs ds (reportBy W k vs ls hs σ xs ds)
+  unfolding reportBy answersReport queryLines firstWrong wrong
+  report-answers = go (ltb (firstWrong W ds) (length ds)) refl
+    where
+      first : FirstTrue (wrong W ds) (length ds) 0 (firstWrong W ds)
+      first = find-first (wrong W ds) (length ds) 0 (omega arith)
+
+      right : (i : ℕ) → i < firstWrong W ds → at ds i ≡ W
+      right i h = eqb-true _ _ (not-false _ (first .before i (omega arith) h))
+
+      go : (t : Bool) → ltb (firstWrong W ds) (length ds) ≡ t
+          → AnsweredBy W k vs ls hs σ xs ds
+          (cond t (refusalLines 8 (firstWrong W ds))
+          (headLines (rowCount σ k (tableTrie W vs ls hs)) (strideOf σ k (tableTrie W vs ls hs))
+          ++ joined (queryLines (longestHop W k vs ls hs) (blocksRead W k vs ls hs σ) xs ds) (length ds)))
+      go true e =
+          let h = ltb-true _ _ e in
+          inl (firstWrong W ds, record { inside = h; unlike = eqb-false _ _ (not-true _ (first .holds h)); before = right }, refl)
+      go false e =
+          let h = ltb-false (firstWrong W ds) (length ds) e in
+          inr (record {
+            right = λ i l. right i (omega arith);
+            hop = λ i. longestHop W k vs ls hs (at xs i);
+            longest = λ i l. longest-is W (at vs) (at ls) (at hs) (length vs) (at xs i);
+            lines = refl;
+          })
 
 module _ (kind : Kind) (W k : ℕ) (vs ls hs xs ds : List ℕ) where
   solved-out : (o : Outcome) → buildOutcome kind W k vs ls hs ≡ o → Solves kind W k vs ls hs xs ds (reportFor o (tableReport kind W k vs ls hs xs ds))
@@ -55,7 +94,8 @@ module _ (kind : Kind) (W k : ℕ) (vs ls hs xs ds : List ℕ) where
     accepted = λ a.
         let pass = accepted-tests W k vs ls hs (LENT-ROWS * ROW) LENT-ELEMENTS (leastBy plain kind k (tableTrie W vs ls hs)) (e ∙ a) in
         let some = accepted-levels W k vs ls hs (LENT-ROWS * ROW) pass .0 in
-        (chosen kind W k vs ls hs, chosen-follows kind k (tableTrie W vs ls hs) some, rw a);
+        let σ = chosen kind W k vs ls hs in
+        (σ, chosen-follows kind k (tableTrie W vs ls hs) some, rw a (report-answers W k vs ls hs σ xs ds));
   }
     where
       refused-lines : (o : Outcome) (n d : ℕ) → o ≡ Refused n d → reportFor o (tableReport kind W k vs ls hs xs ds) ≡ refusalLines n d
@@ -77,15 +117,32 @@ ran-reports {s} ran = record { bytes = reportOf s; says = text-says s; answer = 
 
 -- ---- and it leaves one report: nothing here knows how the least cost or the strides are found, but that there are some
 
-module _ (W k : ℕ) (vs ls hs : List ℕ) (σ τ : Strides) (g : Agree σ τ (tableTrie W vs ls hs) 0 k) where
-  report-one : (xs ds : List ℕ) → reportBy W k vs ls hs σ xs ds ≡ reportBy W k vs ls hs τ xs ds
-  unfolding reportBy
-  report-one xs ds =
+first-wrong-unique : {W : ℕ} {ds : List ℕ} {i j : ℕ} → FirstWrong W ds i → FirstWrong W ds j → i ≡ j
+first-wrong-unique {i = i} {j = j} a b =
+    elim (decLt i j) [
+      | yes p ↦ absurd (a .unlike (b .before i p))
+      | no p ↦ elim (decLt j i) [ yes q ↦ absurd (b .unlike (a .before j q)) | no q ↦ omega arith ]
+    ]
+
+module _ (W k : ℕ) (vs ls hs : List ℕ) (table : Table W vs ls hs) (σ τ : Strides) (g : Agree σ τ (tableTrie W vs ls hs) 0 k) (xs ds : List ℕ) where
+  answers-one : {bytes bytes′ : List ℕ} → AnsweredBy W k vs ls hs σ xs ds bytes → AnsweredBy W k vs ls hs τ xs ds bytes′ → bytes ≡ bytes′
+  answers-one (inl a) (inl b) = a .2 ∙ ap (refusalLines 8) (first-wrong-unique (a .1) (b .1)) ∙ sym (b .2)
+  answers-one (inl a) (inr b) = absurd (a .1 .unlike (b .right (a .0) (a .1 .inside)))
+  answers-one (inr a) (inl b) = absurd (b .1 .unlike (a .right (b .0) (b .1 .inside)))
+  answers-one (inr a) (inr b) =
       let t = tableTrie W vs ls hs in
-      same (longestHop W k vs ls hs) (fun-ext (λ (a : ℕ). ap length (blocks-same σ τ W t 0 0 k a g))) (count-same σ τ t k g) (stride-same σ τ t k g)
+      a .lines
+      ∙ same-head (count-same σ τ t k g) (stride-same σ τ t k g)
+      (joined-same (pathLines W k vs ls hs σ xs ds (a .hop)) (pathLines W k vs ls hs τ xs ds (b .hop)) (length ds)
+      (λ i h.
+      same-line i (longest-unique W vs ls hs table (at xs i) (a .longest i h) (b .longest i h)) (ap length (blocks-same σ τ W t 0 0 k (at xs i) g))))
+      ∙ sym (b .lines)
     where
-      same : (hop : ℕ → ℕ) {f f′ : ℕ → ℕ} {e e′ r r′ : ℕ} → f ≡ f′ → e ≡ e′ → r ≡ r′ → answersReport hop f xs ds W e r ≡ answersReport hop f′ xs ds W e′ r′
-      same hop p q z = rw (p, q, z)
+      same-line : (i : ℕ) {h h′ n n′ : ℕ} → h ≡ h′ → n ≡ n′ → answerLines (at xs i) (at ds i) h n ≡ answerLines (at xs i) (at ds i) h′ n′
+      same-line i p q = rw (p, q)
+
+      same-head : {e e′ r r′ : ℕ} {l l′ : List ℕ} → e ≡ e′ → r ≡ r′ → l ≡ l′ → headLines e r ++ l ≡ headLines e′ r′ ++ l′
+      same-head p q z = rw (p, q, z)
 
 pub solves-unique : (kind : Kind) (W k : ℕ) (vs ls hs xs ds : List ℕ) {bytes bytes′ : List ℕ}
     → Solves kind W k vs ls hs xs ds bytes → Solves kind W k vs ls hs xs ds bytes′ → bytes ≡ bytes′
@@ -114,7 +171,7 @@ solves-unique kind W k vs ls hs xs ds {bytes} {bytes′} c d = go (c .out) refl
         let deep = trie-depth-width W (at vs) (at ls) (at hs) (length vs) (λ i l. table .entry i l .prefix) in
         let fine = follows-good kind k t W (a .0) (accepted-levels W k vs ls hs (LENT-ROWS * ROW) pass .0) deep (a .1) in
         let agree = same-agree (a .0) (a′ .0) t W 0 k fine (follows-unique kind k t (a .0) (a′ .0) (a .1) (a′ .1)) in
-        a .2 ∙ report-one W k vs ls hs (a .0) (a′ .0) agree xs ds ∙ sym (a′ .2)
+        answers-one W k vs ls hs table (a .0) (a′ .0) agree xs ds (a .2) (a′ .2)
 
 says-unique : (s : List ℕ) {bytes bytes′ : List ℕ} → Says s bytes → Says s bytes′ → bytes ≡ bytes′
 says-unique s {bytes} (inl a) (inl b) =
