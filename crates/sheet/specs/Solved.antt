@@ -12,7 +12,7 @@ use Rattle.table.specs.declared.entry.Outcome.the-variants.{Accepted, Refused}
 use Rattle.strides.specs.Cheapest.{Kind}
 use Rattle.strides.specs.Recurrence.{plain, leastBy}
 use Rattle.strides.specs.Strides.{chosenBy}
-use Rattle.layout.specs.Blocks.{Strides, blocksAlong, rowCount, strideOf}
+use Rattle.layout.specs.Blocks.{Strides, blockCount, rowCount, strideOf}
 use Rattle.tries.specs.Build.{buildTests}
 use Rattle.layout.specs.Laid.{tableTrie}
 use Rattle.tries.specs.Kinds.{kindOf}
@@ -28,7 +28,7 @@ module _ (W k : ℕ) (vs ls hs : List ℕ) where
   longestHop = longest W (at vs) (at ls) (at hs) (length vs)
 
   abbrev pub blocksRead : Strides → ℕ → ℕ
-  blocksRead σ a = length (blocksAlong σ W (tableTrie W vs ls hs) 0 0 k a)
+  blocksRead σ a = blockCount σ W (tableTrie W vs ls hs) k a
 
   -- the report where the build accepts, and has the strides σ
   unfoldable pub reportBy : Strides → (xs ds : List ℕ) → List ℕ

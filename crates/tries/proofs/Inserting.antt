@@ -134,9 +134,9 @@ module _ (rows : List ℕ) (x p : ℕ) (l : Tree) (q : ℕ) (r : Tree) where
   sib-has (suc s) y h = inr (inl h)
 
   -- a node from its parts: the link at side s is new, all else as it was
-  joined : (rows′ : List ℕ) (s : ℕ) (k : Tree) → s < 2 → ((c : ℕ) → c < ROW → (c ≡ s → ⊥) → col rows′ x c ≡ col rows x c) → col rows′ x s ≡ linkOf k
+  join-side : (rows′ : List ℕ) (s : ℕ) (k : Tree) → s < 2 → ((c : ℕ) → c < ROW → (c ≡ s → ⊥) → col rows′ x c ≡ col rows x c) → col rows′ x s ≡ linkOf k
       → Stand rows T → Stand rows′ k → Stand rows′ (sib s T) → Stand rows′ (setSide s x T k)
-  joined rows′ zero k h same lk u sk ss = (
+  join-side rows′ zero k h same lk u sk ss = (
     record {
       link0 = lk;
       link1 = same 1 (omega arith) (omega arith) ∙ u .0 .link1;
@@ -146,7 +146,7 @@ module _ (rows : List ℕ) (x p : ℕ) (l : Tree) (q : ℕ) (r : Tree) where
     sk,
     ss,
   )
-  joined rows′ (suc zero) k h same lk u sk ss = (
+  join-side rows′ (suc zero) k h same lk u sk ss = (
     record {
       link0 = same 0 (omega arith) (omega arith) ∙ u .0 .link0;
       link1 = lk;
@@ -156,7 +156,7 @@ module _ (rows : List ℕ) (x p : ℕ) (l : Tree) (q : ℕ) (r : Tree) where
     ss,
     sk,
   )
-  joined rows′ (suc (suc s)) k h same lk u sk ss = absurd (omega arith)
+  join-side rows′ (suc (suc s)) k h same lk u sk ss = absurd (omega arith)
 
   -- after the last bit
   mark-put : (h s : ℕ) → s < 2 → (x + 1) * ROW ≤ length rows → Apart T → Stand rows T → Stand (set rows (x * ROW + (2 + s)) h) (setMark s x T h)
@@ -329,7 +329,7 @@ module _ (rows : List ℕ) (x used v n : ℕ) (g : InsertIn rows x used v n) whe
             λ z off zu e he. c .keeps z (not-made used z k off zu) (omega (arith, next-le used k)) e he in
             record {
               stands = rw (step n used t v h ne, ← made-insert (n - 1) used k v h)
-                  (joined rows x p l q r rows2 s (insertR (n - 1) (next used k) (made used k) v h) (in-fits .2)
+                  (join-side rows x p l q r rows2 s (insertR (n - 1) (next used k) (made used k) v h) (in-fits .2)
                   (λ e he es. low x (ka .0) xu e he ∙ rd .same (x * ROW + e) (omega arith))
                   (low x (ka .0) xu s (omega (arith, in-fits .2)) ∙ rd .link ∙ omega (arith, rd .place, link-insert (n - 1) (next used k) (made used k) v h))
                   u (c .stands)
