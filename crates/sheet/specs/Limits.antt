@@ -23,7 +23,7 @@ HOP = 65535
 abbrev pub BITS : ℕ
 BITS = 32
 
--- so many decimal digits are below 2 ^ 64
+-- a number of so many decimal digits is below 2 ^ 64
 abbrev pub SAFE-DIGITS : ℕ
 SAFE-DIGITS = 19
 
@@ -42,7 +42,8 @@ KEY = 16
 abbrev pub LINES : ℕ
 LINES = 5 + COUNT * 3
 
--- the most bytes of each line: its key, its digits and LF. First the lines of the width, the kind, the levels, and a count
+-- the most bytes of each line: its key, its digits and LF. First the lines of the width, the kind (`kind=vst` is as long as
+-- `kind=fst`), the levels, and a count (`queries=` is as long as `entries=`)
 abbrev pub WIDTH-BYTES : ℕ
 WIDTH-BYTES = length widthKey + NUMBER-DIGITS + 1
 
