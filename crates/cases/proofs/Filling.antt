@@ -5,6 +5,7 @@ use Prim.Native.Nat.{ℕ, suc, _+_, _-_, _≤_, _<_, min}
 use native.Mathlib.Numerals.{add-one, unary-clauses}
 use native.Mathlib.Omega.{arith}
 use lib.ListN.{length, set, length-set}
+use Rattle.cases.specs.Limits.{MOST-32, MOST-16, MOST-8}
 use Rattle.cases.specs.declared.numerals.Numeral.{Numeral}
 use Rattle.cases.specs.Numerals.{numberAt}
 use Rattle.cases.specs.Triples.{ThreeLists, putThree, fill, past, Reads}
@@ -29,9 +30,9 @@ pub rows-read-on :
     → x ≡ numberAt s p
     → y ≡ numberAt s (x .next)
     → z ≡ numberAt s (y .next)
-    → u ≡ min (x .value) 4294967295
-    → v ≡ min (y .value) 255
-    → w ≡ min (z .value) 65535
+    → u ≡ min (x .value) MOST-32
+    → v ≡ min (y .value) MOST-8
+    → w ≡ min (z .value) MOST-16
     → RowsRead s n p₀ a₀ b₀ c₀ (z .next) (i + 1) (set a i u) (set b i v) (set c i w)
 unfolding fill past putThree
 rows-read-on {s} {n} {p₀} {a₀} {b₀} {c₀} {p} {i} {a} {b} {c} x y z u v w f h ex ey ez eu ev ew =

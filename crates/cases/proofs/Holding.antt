@@ -2,6 +2,7 @@
 use mathlib.Core.Path.{_≡_, refl}
 use mathlib.Core.List.{List}
 use Prim.Native.Nat.{ℕ, min}
+use Rattle.cases.specs.Limits.{MOST-32}
 use Rattle.cases.specs.Numerals.{numberAt}
 use Rattle.cases.specs.Triples.{Reads}
 use Rattle.cases.specs.Tables.{Holds}
@@ -15,7 +16,7 @@ pub holds-read :
     → z ≡ numberAt s (y .next)
     → w ≡ numberAt s (z .next)
     → Reads s (w .next) a b c a′ b′ c′ t
-    → u ≡ min (x .value) 4294967295
+    → u ≡ min (x .value) MOST-32
     → Holds s p a b c a′ b′ c′ (record { width = u; values = y .value; lengths = z .value; hops = w .value; at = t .next })
 holds-read x y z w t ex ey ez ew read e =
     record {

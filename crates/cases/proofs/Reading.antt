@@ -9,6 +9,7 @@ use borrow.Author.Tests.{leb-true}
 use lib.Dec.{leb}
 use lib.ListN.{length, take, drop, getD, drop-of-length-le}
 use lib.Seq.{drop-cons, take-all}
+use Rattle.cases.specs.Limits.{FIRST-DIGIT, LAST-DIGIT}
 use Rattle.cases.specs.Numerals.{between, seekIn, seekAt, more, digitsIn}
 
 module _ (low high : ℕ) (s : List ℕ) (i : ℕ) where
@@ -25,11 +26,11 @@ module _ (low high : ℕ) (s : List ℕ) (i : ℕ) where
   seek-end h = rw (drop-of-length-le s h)
 
 module _ (s : List ℕ) (v i : ℕ) where
-  pub digits-on : i < length s → between 48 57 (getD s i 0) ≡ true → digitsIn (drop i s) v i ≡ digitsIn (drop (i + 1) s) (more v (getD s i 0)) (i + 1)
+  pub digits-on : i < length s → between FIRST-DIGIT LAST-DIGIT (getD s i 0) ≡ true → digitsIn (drop i s) v i ≡ digitsIn (drop (i + 1) s) (more v (getD s i 0)) (i + 1)
   unfolding digitsIn
   digits-on h e = rw (drop-cons s i 0 h, e, add-one)
 
-  pub digits-stop : i < length s → between 48 57 (getD s i 0) ≡ false → digitsIn (drop i s) v i ≡ record { value = v; next = i }
+  pub digits-stop : i < length s → between FIRST-DIGIT LAST-DIGIT (getD s i 0) ≡ false → digitsIn (drop i s) v i ≡ record { value = v; next = i }
   unfolding digitsIn
   digits-stop h e = rw (drop-cons s i 0 h, e)
 

@@ -1,4 +1,5 @@
--- The sizes of the rooms of a run, named once; `src/limits.rt` has the same ones for the code.
+-- The sizes of the rooms of a run, named once; `src/limits.rt` has the same ones for the code. Then the bytes of the digits 0 and 9,
+-- and the largest numbers of 32, 16 and 8 bits.
 use Prim.Native.Nat.{ℕ}
 
 -- the bytes of a run's text: a mebibyte, more than the cases of any run have
@@ -16,3 +17,22 @@ SCRATCH = 200000
 -- the places of an element list: more than the rows of the largest build
 abbrev pub ROWS : ℕ
 ROWS = 20000
+
+abbrev pub FIRST-DIGIT : ℕ
+FIRST-DIGIT = 48
+
+abbrev pub LAST-DIGIT : ℕ
+LAST-DIGIT = 57
+
+-- a number below this takes a further digit and still fits 64 bits
+abbrev pub ONE-MORE : ℕ
+ONE-MORE = 1000000000000000000
+
+abbrev pub MOST-32 : ℕ
+MOST-32 = 4294967295
+
+abbrev pub MOST-16 : ℕ
+MOST-16 = 65535
+
+abbrev pub MOST-8 : ℕ
+MOST-8 = 255

@@ -3,6 +3,7 @@
 use mathlib.Core.Path.{_≡_}
 use mathlib.Core.List.{List}
 use Prim.Native.Nat.{ℕ, min}
+use Rattle.cases.specs.Limits.{MOST-32}
 use Rattle.cases.specs.Numerals.{numberAt}
 use Rattle.cases.specs.Triples.{secondAt, thirdAt, Reads}
 use Rattle.cases.specs.declared.numerals.Numeral.{Numeral}
@@ -17,7 +18,7 @@ abbrev pub fourthAt : List ℕ → ℕ → Numeral
 fourthAt s p = numberAt s (thirdAt s p .next)
 
 pub record Holds (s : List ℕ) (p : ℕ) (a b c a′ b′ c′ : List ℕ) (r : Held) : Type 0 where
-  pub width : r .width ≡ min (numberAt s p .value) 4294967295
+  pub width : r .width ≡ min (numberAt s p .value) MOST-32
   pub values : r .values ≡ secondAt s p .value
   pub lengths : r .lengths ≡ thirdAt s p .value
   pub hops : r .hops ≡ fourthAt s p .value

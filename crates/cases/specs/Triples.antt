@@ -4,6 +4,7 @@ use mathlib.Core.Path.{_≡_}
 use mathlib.Core.List.{List}
 use Prim.Native.Nat.{ℕ, zero, suc, min}
 use lib.ListN.{length, set}
+use Rattle.cases.specs.Limits.{MOST-32, MOST-16, MOST-8}
 use Rattle.cases.specs.Numerals.{numberAt}
 use Rattle.cases.specs.declared.numerals.Numeral.{Numeral}
 use Rattle.cases.specs.declared.triples.Listed.{Listed}
@@ -23,9 +24,9 @@ thirdAt s p = numberAt s (secondAt s p .next)
 unfoldable pub putThree : ThreeLists → ℕ → ℕ → ℕ → ℕ → ThreeLists
 putThree t i x y z =
     record {
-      first = set (t .first) i (min x 4294967295);
-      second = set (t .second) i (min y 255);
-      third = set (t .third) i (min z 65535);
+      first = set (t .first) i (min x MOST-32);
+      second = set (t .second) i (min y MOST-8);
+      third = set (t .third) i (min z MOST-16);
     }
 
 -- n rows from place p of the text on, written from place i of the lists on

@@ -1,6 +1,7 @@
 // Decimal numbers in a text.
 ghost use mathlib.Core.Path.{_≡_};
 ghost use Prim.Native.Nat.{_≤_, min};
+ghost use Rattle.cases.specs.Limits.{FIRST-DIGIT, LAST-DIGIT, MOST-32, MOST-16, MOST-8};
 ghost use Rattle.cases.specs.Numerals.{seekAt, numberAt, between, more};
 
 pub struct Numeral {
@@ -29,9 +30,9 @@ pub fn seek(text: &[u8], at: usize, low: u8, high: u8) -> usize
     i
 }
 
-// One digit more. Past 18 digits the number stays, so that it always fits.
+// One digit more. Past 19 digits the number stays, so that it always fits.
 fn with_digit(value: u64, digit: u8) -> u64
-    requires { ⌜ (48 ≤ digit) × (digit ≤ 57) ⌝ }
+    requires { ⌜ (FIRST-DIGIT ≤ digit) × (digit ≤ LAST-DIGIT) ⌝ }
     ensures { λ r. ⌜ r ≡ more value digit ⌝ }
 {
     if value < 1000000000000000000 {
@@ -60,7 +61,7 @@ pub fn number(text: &[u8], at: usize) -> Numeral
 
 // A number held at the largest that fewer bits take.
 pub fn held32(value: u64) -> u32
-    ensures { λ r. ⌜ r ≡ min value 4294967295 ⌝ }
+    ensures { λ r. ⌜ r ≡ min value MOST-32 ⌝ }
 {
     if value < 4294967295 {
         return value as u32;
@@ -69,7 +70,7 @@ pub fn held32(value: u64) -> u32
 }
 
 pub fn held16(value: u64) -> u16
-    ensures { λ r. ⌜ r ≡ min value 65535 ⌝ }
+    ensures { λ r. ⌜ r ≡ min value MOST-16 ⌝ }
 {
     if value < 65535 {
         return value as u16;
@@ -78,7 +79,7 @@ pub fn held16(value: u64) -> u16
 }
 
 pub fn held8(value: u64) -> u8
-    ensures { λ r. ⌜ r ≡ min value 255 ⌝ }
+    ensures { λ r. ⌜ r ≡ min value MOST-8 ⌝ }
 {
     if value < 255 {
         return value as u8;

@@ -23,11 +23,11 @@ strides (suc (suc r)) t = 1
 abbrev row : (hop link stride : ℕ) → Row
 row h l s = record { hop = h; link = l; stride = s }
 
-rows : (rowsOf strides 2 table ≡ row 0 0 0 ∷ row 1 2 2 ∷ row 0 0 0 ∷ row 2 0 0 ∷ row 0 0 0 ∷ row 0 0 0 ∷ [])
+run-rows : (rowsOf strides 2 table ≡ row 0 0 0 ∷ row 1 2 2 ∷ row 0 0 0 ∷ row 2 0 0 ∷ row 0 0 0 ∷ row 0 0 0 ∷ [])
     × (rowCount strides 2 table ≡ 6) × (rowsAlong strides 3 2 table 0b101 ≡ 1 ∷ 3 ∷ [])
 unfolding start bit markAlong subAlong nodeIf trieBelow beyond properStart wholeEntry someStart markAt trieOf rowOf wide leftOf
     rowBelow listOf blockRows levelRows firstRow levelsRows rowsOf rowCount blocksAlong blockRow rowsAlong
-rows = (refl, refl, refl)
+run-rows = (refl, refl, refl)
 
 -- The eight-prefix table with the variable strides for two levels: 4 at the root, then as deep as the subtrie is. Its two child
 -- blocks lie left to right, at rows 16 and 18 with strides 1 and 3.

@@ -1,8 +1,8 @@
--- What an inspector reads, in the order of 01, "The element rows": the rows of a trie level by level; the blocks on an address's path,
--- one by one; the same rows by a queue of blocks; the record and lists that one accepted build leaves; 01's run and the eight-prefix
--- table as examples.
+-- What an inspector reads, in the order of 01, "The element rows": the rows of a trie level by level; the same rows by a queue of
+-- blocks; the record and lists that one accepted build leaves; the blocks on an address's path, one by one; 01's run and the
+-- eight-prefix table as examples.
 pub mod Blocks
-pub mod PathBlocks
 pub mod Order
 pub mod Laid
+pub mod PathBlocks
 pub mod ExampleRows

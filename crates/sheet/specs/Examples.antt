@@ -11,8 +11,8 @@ use Rattle.sheet.specs.Sheet.{Sheet}
 use Rattle.sheet.specs.Text.{good, bad, widthItem, kindItem, levelsItem, entriesItem, queriesItem, lastSpot, kindNamed, sheetOf, textOf}
 
 -- width=3, kind=vst, levels=2, entries=2, bits=1, hop=1, bits=101, hop=2, queries=3, address=101, address=111, address=011
-abbrev pub run : List ℕ
-run =
+abbrev pub runText : List ℕ
+runText =
     119 ∷ 105 ∷ 100 ∷ 116 ∷ 104 ∷ 61 ∷ 51 ∷ 10 ∷ 107 ∷ 105 ∷ 110 ∷ 100 ∷ 61 ∷ 118 ∷ 115 ∷ 116 ∷ 10 ∷ 108 ∷ 101 ∷ 118 ∷
     101 ∷ 108 ∷ 115 ∷ 61 ∷ 50 ∷ 10 ∷ 101 ∷ 110 ∷ 116 ∷ 114 ∷ 105 ∷ 101 ∷ 115 ∷ 61 ∷ 50 ∷ 10 ∷ 98 ∷ 105 ∷ 116 ∷ 115 ∷ 61 ∷
     49 ∷ 10 ∷ 104 ∷ 111 ∷ 112 ∷ 61 ∷ 49 ∷ 10 ∷ 98 ∷ 105 ∷ 116 ∷ 115 ∷ 61 ∷ 49 ∷ 48 ∷ 49 ∷ 10 ∷ 104 ∷ 111 ∷ 112 ∷ 61 ∷
@@ -34,8 +34,8 @@ runSheet =
     }
 
 -- read; cut inside line 10; cut after line 2; a byte after the end; and `width=03`
-texts : (textOf run ≡ good runSheet) × (textOf (take 83 run) ≡ bad 10) × (textOf (take 17 run) ≡ bad 3)
-    × (textOf (run ++ (32 ∷ [])) ≡ bad 13) × (textOf (119 ∷ 105 ∷ 100 ∷ 116 ∷ 104 ∷ 61 ∷ 48 ∷ 51 ∷ 10 ∷ []) ≡ bad 1)
+texts : (textOf runText ≡ good runSheet) × (textOf (take 83 runText) ≡ bad 10) × (textOf (take 17 runText) ≡ bad 3)
+    × (textOf (runText ++ (32 ∷ [])) ≡ bad 13) × (textOf (119 ∷ 105 ∷ 100 ∷ 116 ∷ 104 ∷ 61 ∷ 48 ∷ 51 ∷ 10 ∷ []) ≡ bad 1)
 unfolding byteAt keyAt isDigit countAt valueAt digitsAt unpadded badLine close numberLine bitsLine kindLine
     listed entryFrom addressFrom afterEntries afterQueries entryBits entryLength entryHop queryAddress queryPlaces
     widthItem kindItem levelsItem entriesItem queriesItem lastSpot kindNamed sheetOf textOf

@@ -1,4 +1,4 @@
-// Runs the table's four public calls on the cases of standard input, and prints every answer.
+// Runs the table's four calls about tables and prefixes on the cases of standard input, and prints every answer.
 // A line of the input is a case. `table` gives a width, the lengths of the three lists and their entries
 // (value/length>hop), for this line and those below it, and asks the check; `zone` asks for a prefix's zone
 // in that table; `shared` for the shared length of two prefixes.

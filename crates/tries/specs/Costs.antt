@@ -119,7 +119,7 @@ pub record Settled (levels : ℕ) (rows : List ℕ) (k : ℕ) (rows′ : List �
 
 -- ---- a whole tree
 
--- each row of the tree is priced, and its columns above the levels are 0
+-- each row of the tree is priced
 abbrev pub AllPriced : ℕ → List ℕ → Tree → Type 0
 AllPriced levels rows nil = Unit {0}
 AllPriced levels rows (fork x p l q r) =

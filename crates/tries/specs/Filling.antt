@@ -88,19 +88,19 @@ CanBlock rows plan k r base free ls = (w : ℕ) × CanLevel rows plan k w 0 0 r 
 abbrev pub WritesBlock : (rows plan : List ℕ) (k r base free : ℕ) → Lists → (base′ free′ : ℕ) → Lists → Type 0
 WritesBlock rows plan k r base free ls base′ free′ ls′ = (w : ℕ) → WritesLevel rows plan k w 0 0 r base free ls base′ free′ ls′
 
--- ---- all rows of the trie at link k, with L levels
-pub record LayAsks (σ : Strides) (t : Trie) (rows plan : List ℕ) (k w L : ℕ) (ls : Lists) : Type 0 where
-  pub trunk : Trunk σ t rows plan k w 0 L
-  pub room : HasRoom (rowCount σ L t) ls
+-- ---- all rows of the trie at link k, with so many levels
+pub record LayAsks (σ : Strides) (t : Trie) (rows plan : List ℕ) (k w levels : ℕ) (ls : Lists) : Type 0 where
+  pub trunk : Trunk σ t rows plan k w 0 levels
+  pub room : HasRoom (rowCount σ levels t) ls
 
-pub record LayGives (σ : Strides) (t : Trie) (L : ℕ) (ls : Lists) (e : ℕ) (ls′ : Lists) : Type 0 where
-  pub count : e ≡ rowCount σ L t
-  pub wrote : Hold ls′ 0 (rowsOf σ L t)
+pub record LayGives (σ : Strides) (t : Trie) (levels : ℕ) (ls : Lists) (e : ℕ) (ls′ : Lists) : Type 0 where
+  pub count : e ≡ rowCount σ levels t
+  pub wrote : Hold ls′ 0 (rowsOf σ levels t)
   pub after : (i : ℕ) → e ≤ i → rowAt ls′ i ≡ rowAt ls i
 
-abbrev pub CanLay : (rows plan : List ℕ) (k w L : ℕ) → Lists → Type 0
-CanLay rows plan k w L ls = (σ : Strides) × (t : Trie) × LayAsks σ t rows plan k w L ls
+abbrev pub CanLay : (rows plan : List ℕ) (k w levels : ℕ) → Lists → Type 0
+CanLay rows plan k w levels ls = (σ : Strides) × (t : Trie) × LayAsks σ t rows plan k w levels ls
 
-abbrev pub Lays : (rows plan : List ℕ) (k w L : ℕ) → Lists → (e : ℕ) → Lists → Type 0
-Lays rows plan k w L ls e ls′ =
-    (σ : Strides) (t : Trie) → LayAsks σ t rows plan k w L ls → LayGives σ t L ls e ls′
+abbrev pub Lays : (rows plan : List ℕ) (k w levels : ℕ) → Lists → (e : ℕ) → Lists → Type 0
+Lays rows plan k w levels ls e ls′ =
+    (σ : Strides) (t : Trie) → LayAsks σ t rows plan k w levels ls → LayGives σ t levels ls e ls′

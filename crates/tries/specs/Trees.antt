@@ -85,8 +85,8 @@ side zero t = lt t
 side (suc s) t = rt t
 
 abbrev pub setSide : ℕ → ℕ → Tree → Tree → Tree
-setSide zero x t k = fork x (lmark t) k (rmark t) (rt t)
-setSide (suc s) x t k = fork x (lmark t) (lt t) (rmark t) k
+setSide zero x t u = fork x (lmark t) u (rmark t) (rt t)
+setSide (suc s) x t u = fork x (lmark t) (lt t) (rmark t) u
 
 abbrev pub setMark : ℕ → ℕ → Tree → ℕ → Tree
 setMark zero x t h = fork x h (lt t) (rmark t) (rt t)

@@ -12,15 +12,15 @@ use Rattle.walk.specs.Lookup.{readable, trail, tell, pathOf, pathRows, u
 abbrev rec : Record
 rec = record { width = 3; levels = 2; elements = 6; floor = 0; strides = 1 ∷ 0 ∷ 0 ∷ 0 ∷ 0 ∷ 0 ∷ 0 ∷ 0 ∷ [] }
 
-abbrev rows : Lists
-rows = record {
+abbrev runRows : Lists
+runRows = record {
   hop = 0 ∷ 1 ∷ 0 ∷ 2 ∷ 0 ∷ 0 ∷ [];
   link = 0 ∷ 2 ∷ 0 ∷ 0 ∷ 0 ∷ 0 ∷ [];
   stride = 0 ∷ 2 ∷ 0 ∷ 0 ∷ 0 ∷ 0 ∷ [];
 }
 
 -- addresses 101, 111 and 011, with the path of the first, and 1000, which is not below 2 ^ 3
-run : (lookupOf WIDTH rec rows 5 ≡ Match 2 2) × (pathRows rec rows 5 ≡ 1 ∷ 3 ∷ []) × (lookupOf WIDTH rec rows 7 ≡ Match 1 2)
-    × (lookupOf WIDTH rec rows 3 ≡ NoRoute 1) × (lookupOf WIDTH rec rows 8 ≡ Refused 8)
+run-lookups : (lookupOf WIDTH rec runRows 5 ≡ Match 2 2) × (pathRows rec runRows 5 ≡ 1 ∷ 3 ∷ []) × (lookupOf WIDTH rec runRows 7 ≡ Match 1 2)
+    × (lookupOf WIDTH rec runRows 3 ≡ NoRoute 1) × (lookupOf WIDTH rec runRows 8 ≡ Refused 8)
 unfolding outside answer rowOf readable trail latest tell pathOf unfit refusalOf lookupOf
-run = (refl, refl, refl, refl, refl)
+run-lookups = (refl, refl, refl, refl, refl)

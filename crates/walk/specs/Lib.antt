@@ -1,9 +1,10 @@
--- The lookup's promise, in the order of 01: limits, the lookup's tests, element rows, the answers and their numbers, the rule
--- as a function (exact), the rule in 01's sentences (meaning), and 01's run as an example.
+-- What an inspector reads, in the order of 01: limits, element rows, the answers and their numbers, tests in order, the rule in 01's
+-- sentences (meaning), and 01's run as an example.
 pub mod Limits
-pub mod Refusals
 pub mod Rows
 pub mod Answers
-pub mod Lookup
+pub mod Refusals
 pub mod Meaning
 pub mod Examples
+-- The rule as a function (exact), which the meaning does without.
+pub mod Lookup

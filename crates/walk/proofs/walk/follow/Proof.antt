@@ -12,7 +12,7 @@ use Rattle.walk.proofs.Walks.{walk-stops, walk-spends, walk-ends, walk-
 use Rattle.walk.proofs.walk.follow.Statement.{statement}
 use Rattle.walk.proofs.walk.follow.Tie as tie
 
--- the walk from here on is the walk from the root's block
+-- the walk from here on is the walk from the root's block (a link has 32 bits)
 abbrev Inv-loop : tie.InvT-loop
 Inv-loop elements address hop link stride levels root width floor base₀ s₀ left₀ best₀ reads₀ base s left best reads =
     (reads ≤ levels) × (left ≤ WIDTH) × (base < 2 ^ 32)
