@@ -8,7 +8,7 @@ use native.Mathlib.Omega.{arith}
 use lib.ListN.{length}
 use Rattle.table.specs.Prefix.{start}
 use Rattle.table.specs.Table.{at}
-use Rattle.table.specs.Longest.{winnerIn, longest, ofWinner}
+use Rattle.table.specs.Longest.{winnerIn, longest, ofWinner, NoPrefix, LongestHop}
 use Rattle.table.proofs.Longest.{longest-is, longest-zero}
 use Rattle.strides.specs.Strides.{costBy}
 use Rattle.strides.proofs.Longest.{mark-block, last-mark-is-longest}
@@ -18,7 +18,7 @@ use Rattle.walk.specs.Rows.{Lists, shortest, rowAt}
 use Rattle.walk.specs.Answers.{hopOf, readsOf, NotRefused, answer}
 use Rattle.walk.specs.Lookup.{pathRows, lookupOf}
 use Rattle.layout.specs.Blocks.{Strides, blocksAlong, blockCount, rowsAlong}
-use Rattle.layout.specs.Laid.{tableTrie, Laid, NoPrefix, LongestHop}
+use Rattle.layout.specs.Laid.{tableTrie, Laid}
 use Rattle.walk.proofs.Answers.{answer-has, answer-number}
 use Rattle.walk.proofs.Reading.{reads-most, lookup-local}
 use Rattle.layout.proofs.Cost.{count-cost}

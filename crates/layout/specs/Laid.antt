@@ -5,7 +5,6 @@ use mathlib.Core.Path.{_≡_}
 use mathlib.Core.List.{List}
 use lib.ListN.{length}
 use Rattle.table.specs.Table.{at, Table}
-use Rattle.table.specs.Longest.{NoMatch, LongestIs}
 use Rattle.strides.specs.Trie.{Trie}
 use Rattle.strides.specs.Entries.{trieOf, floorOf}
 use Rattle.strides.specs.Strides.{Good}
@@ -38,11 +37,3 @@ pub record Laid (most W : ℕ) (vs ls hs : List ℕ) (σ : Strides) (k : ℕ) (r
   pub levels : rec .levels ≡ k
   pub floor : rec .floor ≡ tableFloor W vs ls hs
   pub built : LaidTrie most σ (tableTrie W vs ls hs) rec rows
-
--- no prefix of the table begins the address a
-abbrev pub NoPrefix : (W : ℕ) (vs ls : List ℕ) (a : ℕ) → Type 0
-NoPrefix W vs ls a = NoMatch W (at vs) (at ls) (length vs) a
-
--- r is the hop of the longest table prefix that begins the address a, else 0
-abbrev pub LongestHop : (W : ℕ) (vs ls hs : List ℕ) (a r : ℕ) → Type 0
-LongestHop W vs ls hs a r = LongestIs W (at vs) (at ls) (at hs) (length vs) a r

@@ -15,7 +15,8 @@ use Rattle.strides.specs.Cheapest.{Kind, Cheapest}
 use Rattle.strides.specs.Strides.{Follows}
 use Rattle.layout.specs.Blocks.{Strides, rowCount, strideOf}
 use Rattle.tries.specs.Build.{buildTests}
-use Rattle.layout.specs.Laid.{tableTrie, LongestHop}
+use Rattle.table.specs.Longest.{LongestHop}
+use Rattle.layout.specs.Laid.{tableTrie}
 use Rattle.tries.specs.Kinds.{kindOf}
 use Rattle.tries.specs.Scratch.{ROW}
 use Rattle.sheet.specs.declared.running.Report.{Report}

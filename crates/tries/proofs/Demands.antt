@@ -14,7 +14,7 @@ use denote.Ref.{RefT, now}
 use borrow.Author.Tests.{lt-ltb, le-ltb}
 use Rattle.table.specs.Refusals.{Test, outcome, Gives}
 use Rattle.table.specs.Prefix.{start}
-use Rattle.table.specs.Longest.{ofWinner, winnerIn}
+use Rattle.table.specs.Longest.{ofWinner, winnerIn, NoPrefix, LongestHop}
 use Rattle.table.specs.Table.{at, tableTests}
 use Rattle.table.specs.Zone.{PartOf}
 use Rattle.table.specs.Answers.{sharedOutcome, sharedTests, Shares, spanOutcome, spanIndex, spanCount, zoneTests, Spans, PartFor, HandsBack}
@@ -23,7 +23,7 @@ use Rattle.table.specs.declared.entry.Outcome.the-variants.{Accepted, Refused}
 use Rattle.table.specs.declared.sharing.Shared.{Shared}
 use Rattle.table.specs.declared.zoning.Span.{Span}
 use Rattle.table.specs.declared.zoning.Span.the-variants.{Part}
-use Rattle.table.proofs.Refusals.{outcome-gives, outcome-fails, outcome-passes, gives-outcome, gives-unique, refused-not-accepted}
+use Rattle.table.proofs.Refusals.{outcome-gives, outcome-fails, outcome-passes, gives-outcome, gives-unique, given-exactly, refused-not-accepted}
 use Rattle.table.proofs.Numbered.{refused-number}
 use Rattle.strides.specs.Trie.{Some}
 use Rattle.strides.specs.Entries.{SomeStart}
@@ -44,7 +44,7 @@ use Rattle.walk.specs.Meaning.{OnPath, Tested, Looked}
 use Rattle.tries.specs.Chooser.{padded}
 use Rattle.layout.specs.Blocks.{linkTo, strideOf, blockRow, rowsAlong, Begun, blocksAlong, blockCount}
 use Rattle.layout.specs.PathBlocks.{nodeOn, BlockAt, rowPath}
-use Rattle.layout.specs.Laid.{tableTrie, NoPrefix, LongestHop}
+use Rattle.layout.specs.Laid.{tableTrie}
 use Rattle.tries.specs.Chooser.{chooseTests, Chooses}
 use Rattle.tries.specs.Build.{roomTest, buildTests, NoRecord, Builds}
 use Rattle.walk.proofs.Unique.{tested-unique, looked-unique}
@@ -58,10 +58,6 @@ use Rattle.tries.proofs.ChooseTests.{numbered-choose}
 use Rattle.tries.proofs.BuildSteps.{early, late}
 
 -- ==== demand 1: bad input is refused by number, in a fixed order; the numbers say what is returned and what each list then holds
-
--- an outcome is given exactly when the tests give it: the refusal of the first that fails, or acceptance where none does
-given-exactly : (ts : List Test) {out : Outcome} → Gives ts out → (o : Outcome) → (out ≡ o) ↔ Gives ts o
-given-exactly ts {out} g o = (λ (e : out ≡ o). subst (Gives ts) e g, λ (h : Gives ts o). gives-unique ts out o g h)
 
 pub check-first : (W : ℕ) (vs ls hs : List ℕ) {out : Outcome} → Gives (tableTests W vs ls hs) out → (o : Outcome)
     → (out ≡ o) ↔ Gives (tableTests W vs ls hs) o

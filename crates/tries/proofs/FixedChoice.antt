@@ -21,7 +21,7 @@ use Rattle.tries.specs.Limits.{ENTRIES}
 use Rattle.tries.specs.Costs.{held, slot, price, bestCost, bestStride}
 use Rattle.tries.specs.FixedChoice.{LEVEL-CELLS, Filled, RowFilled, StridesFilled, ListRead, FixedIn}
 use Rattle.tries.specs.Chooser.{padded}
-use Rattle.tries.proofs.Zeroes.{zeros-read}
+use Rattle.table.proofs.Zeroes.{zeros-read}
 use Rattle.tries.proofs.Gathering.{same?}
 use Rattle.tries.proofs.Pricing.{scan-same}
 

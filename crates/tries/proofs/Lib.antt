@@ -3,7 +3,6 @@ pub mod Filling
 pub mod Leveling
 pub mod Laying
 pub mod Inserting
-pub mod Zeroes
 pub mod LevelCounts
 pub mod Making
 pub mod Counts

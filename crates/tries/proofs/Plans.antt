@@ -25,7 +25,7 @@ use Rattle.tries.specs.Costs.{held, Costed, TreeIn, TreeAsk, TreeDone}
 use Rattle.tries.specs.LevelCounts.{CountsOf}
 use Rattle.tries.specs.FixedChoice.{FixedIn, FixedOut}
 use Rattle.tries.specs.Chooser.{padded}
-use Rattle.tries.proofs.Zeroes.{zeros-read}
+use Rattle.table.proofs.Zeroes.{zeros-read}
 use Rattle.tries.proofs.Making.{tree-shape}
 use Rattle.tries.proofs.Settling.{tree-costed}
 use Rattle.tries.proofs.FixedChoice.{padded-read, padded-length}

@@ -20,7 +20,7 @@ use Rattle.tries.specs.Scratch.{ROW, ask, COST, DEPTH, STRIDE}
 use Rattle.tries.specs.Trees.{Tree, nil, fork, shape, linkOf, col, NodeRow, Stand, HasRow, Apart}
 use Rattle.tries.specs.Costs.{held, Priced, Costed, CELLS, slot, sumAt, GatherIn, Gathered, Summed, DepthOver, bestCost, bestStride, Stored, SettleIn, Settled, AllPriced, AboveZero}
 use Rattle.tries.specs.Costs.{TreeIn, TreeOut, TreeAsk, TreeDone}
-use Rattle.tries.proofs.Zeroes.{zeros-read}
+use Rattle.table.proofs.Zeroes.{zeros-read}
 use Rattle.tries.proofs.Pricing.{best-cost, best-stride}
 
 -- ---- links and rows

@@ -17,9 +17,9 @@ use crate::chooser::Kind;
 use crate::chooser::choose_outcome;
 use crate::chooser::planned;
 use crate::limits::ELEMENTS;
-use crate::scratch::zero;
 use table::Outcome;
 use table::smaller;
+use table::zero;
 use walk::LEVELS;
 use walk::Record;
 

@@ -17,10 +17,10 @@ use crate::scratch::BEFORE_COSTS;
 use crate::scratch::BEFORE_STRIDES;
 use crate::scratch::ROW;
 use crate::scratch::asked;
-use crate::scratch::zero;
 use table::Outcome;
 use table::WIDTH;
 use table::is_outside;
+use table::zero;
 use walk::LEVELS;
 
 // The two kinds of stride choice: one stride a level, or one a block.

@@ -2,7 +2,7 @@
 // that walks the trie goes through these, by links: a link is a row and one, 0 is none.
 ghost use mathlib.Core.Path.{_≡_};
 ghost use Prim.Native.Nat.{_+_, _*_, _<_, _≤_};
-ghost use lib.ListN.{length, replicate, set};
+ghost use lib.ListN.{length, set};
 ghost use Rattle.walk.specs.Limits.{LEVELS};
 ghost use Rattle.tries.specs.Scratch.{ROW, ask, strideAt};
 use crate::limits::SLOTS;
@@ -53,16 +53,4 @@ pub(crate) fn put(rows: &mut [u64], x: usize, c: usize, v: usize)
     ensures { λ _. ⌜ now (rows .exit) ≡ set (now (rows .entry)) (x * ROW + c) v ⌝ }
 {
     rows[x * ROW + c] = v as u64;
-}
-
-// Sets all of a list to 0, a part row at its end included.
-pub(crate) fn zero(rows: &mut [u64])
-    ensures { λ _. ⌜ now (rows .exit) ≡ replicate (length (now (rows .entry))) 0 ⌝ }
-{
-    let n = rows.len();
-    let mut i = 0;
-    while i < n {
-        rows[i] = 0;
-        i += 1;
-    }
 }

@@ -4,7 +4,7 @@ use Prim.Native.Nat.{ℕ, _+_, _^_, _<_}
 use mathlib.Core.Path.{_≡_, refl, sym, ap, _∙_}
 use mathlib.Core.Bool.{Bool, true, false, cond, true≢false}
 use mathlib.Core.List.{List}
-use mathlib.Core.Logic.{_⊎_, inl, inr, ⊎-elim}
+use mathlib.Core.Logic.{⊎-elim}
 use native.Mathlib.Omega.{arith}
 use native.Mathlib.Nat.{zero-add}
 use lib.Dec.{eqb}
@@ -13,27 +13,23 @@ use borrow.Author.Tests.{eqb-true, eqb-false}
 use Rattle.walk.specs.declared.record.Record.{Record}
 use Rattle.walk.specs.declared.walk.Answer.{Answer}
 use Rattle.walk.specs.declared.walk.Answer.the-variants.{Refused}
-use Rattle.walk.specs.Limits.{LEVELS, Outside, Within}
+use Rattle.walk.specs.Limits.{LEVELS, Within}
 use Rattle.walk.specs.Refusals.{fails, passes}
 use Rattle.walk.specs.Rows.{Lists, shortest, rowAt, root}
 use Rattle.walk.specs.Answers.{numberOf, latest, answer, Case}
 use Rattle.walk.specs.Lookup.{ended, tell, fromRoot, pathOf, lookupOf}
 use Rattle.walk.specs.Meaning.{Passed, FromRoot, Damage, short, rootless, breaks, OnPath, empty, walked, Tested, Looked}
-use Rattle.walk.proofs.Tests.{refusal-cases}
+use Rattle.walk.proofs.Tests.{within-not, refusal-cases}
 use Rattle.walk.proofs.Answers.{answer-has, answer-number, answer-case}
 use Rattle.walk.proofs.Unique.{path-unique, looked-unique}
 use Rattle.walk.proofs.Paths.{trail-path}
 
-apart : {x most : ℕ} → Within x most → Outside x most → ⊥
-apart w (inl z) = omega arith
-apart w (inr g) = omega arith
-
 module _ (most : ℕ) (rec : Record) (ls : Lists) (address : ℕ) where
   nine : Within (rec .width) most → Within (rec .levels) LEVELS → address < 2 ^ rec .width → Damage rec ls address → Tested most rec ls address 9
-  nine w k a d = passes (apart w) (passes (apart k) (passes (λ g. omega arith) (fails d)))
+  nine w k a d = passes (within-not w) (passes (within-not k) (passes (λ g. omega arith) (fails d)))
 
   none : {rs : List ℕ} → Passed most rec (shortest ls) address → OnPath rec ls address rs → Tested most rec ls address 0
-  none p o = passes (apart (p .width)) (passes (apart (p .levels)) (passes (λ g. omega (arith, p .inside)) (passes (sound o) refl)))
+  none p o = passes (within-not (p .width)) (passes (within-not (p .levels)) (passes (λ g. omega (arith, p .inside)) (passes (sound o) refl)))
     where
       sound : {rs : List ℕ} → OnPath rec ls address rs → Damage rec ls address → ⊥
       sound o (short s) = omega (arith, p .enough)
@@ -80,8 +76,8 @@ module _ (most : ℕ) (rec : Record) (ls : Lists) (address : ℕ) where
       refusal-cases most rec (shortest ls) address
       (λ (n : ℕ). Looked most rec ls address (cond (eqb n 0) (tell (rowAt ls) (rec .floor) 0 (pathOf rec ls address)) (Refused n)))
       (λ o. refused-looked (fails o) (omega arith))
-      (λ w o. refused-looked (passes (apart w) (fails o)) (omega arith))
-      (λ w k o. refused-looked (passes (apart w) (passes (apart k) (fails o))) (omega arith))
+      (λ w o. refused-looked (passes (within-not w) (fails o)) (omega arith))
+      (λ w k o. refused-looked (passes (within-not w) (passes (within-not k) (fails o))) (omega arith))
       (λ w k a d. refused-looked (nine w k a (⊎-elim short (λ (z : (root rec ≡ 0) × (0 < rec .elements)). rootless (z .0) (z .1)) d)) (omega arith))
       past-tests
 

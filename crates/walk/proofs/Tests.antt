@@ -23,7 +23,11 @@ outside-cases x most P f g = go (eqb x 0) refl (ltb most x) refl
     go false e true d = f (inr (ltb-true _ _ d))
     go false e false d = g (omega (arith, eqb-false x 0 e), ltb-false _ _ d)
 
-leb-cases : (a b : ℕ) (P : Bool → Type 0) → (a ≤ b → P true) → (b < a → P false) → P (leb a b)
+pub within-not : {x most : ℕ} → Within x most → Outside x most → ⊥
+within-not w (inl z) = omega arith
+within-not w (inr g) = omega arith
+
+pub leb-cases : (a b : ℕ) (P : Bool → Type 0) → (a ≤ b → P true) → (b < a → P false) → P (leb a b)
 leb-cases a b P f g = go (leb a b) refl
   where
     go : (t : Bool) → leb a b ≡ t → P t

@@ -5,7 +5,7 @@ use Prim.Native.Nat.{ℕ}
 use lib.ListN.{replicate}
 use Rattle.table.specs.Table.{at}
 use Rattle.tries.specs.FixedChoice.{LEVEL-CELLS}
-use Rattle.tries.proofs.Zeroes.{zeros-read}
+use Rattle.table.proofs.Zeroes.{zeros-read}
 use Rattle.tries.proofs.FixedChoice.{filled-start, counts-small, fixed-out}
 use borrow.Author.Needs.{needs}
 use Rattle.tries.proofs.fixed.fixed_choice.Statement.{statement}

@@ -3,10 +3,10 @@ use Prim.Native.Nat.{ℕ, _≤_, _<_, _-_}
 use mathlib.Core.Path.{_≡_, refl, ap, _∙_}
 use native.Mathlib.Omega.{arith}
 use lib.ListN.{length, getD, length-set, replicate}
-use Rattle.tries.proofs.Zeroes.{zero-more, all-zero}
+use Rattle.table.proofs.Zeroes.{zero-more, all-zero}
 use borrow.Author.Needs.{needs}
-use Rattle.tries.proofs.scratch.zero.Statement.{statement}
-use Rattle.tries.proofs.scratch.zero.Tie as tie
+use Rattle.table.proofs.numbers.zero.Statement.{statement}
+use Rattle.table.proofs.numbers.zero.Tie as tie
 
 abbrev Inv-loop : tie.InvT-loop
 Inv-loop rows₀ n i₀ rows i = (length rows ≡ n) × ((k : ℕ) → k < i → getD rows k 0 ≡ 0) × (i ≤ n)
