@@ -1,0 +1,13 @@
+pub mod Begins
+pub mod Over
+pub mod Order
+pub mod Bits
+pub mod Table
+pub mod Places
+pub mod Counted
+pub mod Inside
+pub mod Ranges
+pub mod Depth
+pub mod Passing
+pub mod RangeCounts
+pub mod Numbering
