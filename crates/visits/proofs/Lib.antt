@@ -1,0 +1,11 @@
+pub mod Masked
+pub mod Tests
+pub mod Means
+pub mod Visiting
+pub mod Unique
+pub mod Looked
+pub mod LaidRows
+pub mod LaidWay
+pub mod PathNumbers
+pub mod Reading
+pub mod Laid

@@ -1,0 +1,110 @@
+-- The masks and counts of one supernode, as the machine has them.
+use Prim.Native.Nat.{ℕ, zero, suc, _+_, _-_, _*_, _/_, _%_, _^_, _≤_, _<_, zero-le}
+use mathlib.Core.Path.{_≡_, refl, sym, ap, subst, _∙_}
+use mathlib.Core.Bool.{true, false}
+use mathlib.Core.Logic.{_⊎_, inl, inr, ⊎-elim}
+use native.Mathlib.Nat.{mod-lt, pow-suc, eq-or-lt-of-le, lt-of-lt-of-le}
+use native.Mathlib.Omega.{arith}
+use native.Mathlib.Decide.{decLe}
+use lib.Bits.{bitAnd, and-mask, and-le-l}
+use lib.Count.{ones, ones-le, leadingZeros, leading-length}
+use lib.Pow.{pow-mono, pow-pos, shr-lt, split}
+use Rattle.table.proofs.Shifts.{one-shl}
+use Rattle.walk.proofs.Bits.{and-shl}
+use Rattle.pieces.specs.Maps.{INTERNAL, EXTERNAL, maskOf, bitAt}
+use Rattle.pieces.specs.Cuts.{pathAt, limit, found, onesBefore, highest}
+use Rattle.pieces.proofs.Bits.{bit-zero, no-bits, highest-is, Highest}
+use Rattle.pieces.proofs.Places.{limit-15, small-bit, true-false}
+
+-- ---- the places within the width, as bits
+pub within-0 : (left : ℕ) → left ≡ 0 → 1 ≡ 2 ^ limit left - 1
+unfolding limit
+within-0 left e = rw e refl
+
+pub within-1 : (left : ℕ) → left ≡ 1 → 7 ≡ 2 ^ limit left - 1
+unfolding limit
+within-1 left e = rw e refl
+
+pub within-2 : (left : ℕ) → left ≡ 2 → 127 ≡ 2 ^ limit left - 1
+unfolding limit
+within-2 left e = rw e refl
+
+pub within-more : (left : ℕ) → (left ≡ 0 → ⊥) → (left ≡ 1 → ⊥) → (left ≡ 2 → ⊥) → 32767 ≡ 2 ^ limit left - 1
+unfolding limit
+within-more zero a b c = absurd (a refl)
+within-more (suc zero) a b c = absurd (b refl)
+within-more (suc (suc zero)) a b c = absurd (c refl)
+within-more (suc (suc (suc n))) a b c = refl
+
+pub found-on : (map mask left : ℕ) {r : ℕ} → r ≡ 2 ^ limit left - 1
+    → ((p : ℕ) → mask ≡ maskOf p → bitAnd (bitAnd map mask) r ≡ found map p left) × (bitAnd (bitAnd map mask) r < 2 ^ INTERNAL)
+unfolding found
+found-on map mask left {r} f =
+    let is : bitAnd (bitAnd map mask) r ≡ bitAnd map mask % 2 ^ limit left = ap (bitAnd (bitAnd map mask)) f ∙ and-mask (bitAnd map mask) (limit left) in (
+      λ p e. is ∙ ap (λ (m : ℕ). bitAnd map m % 2 ^ limit left) e,
+      rw is (lt-of-lt-of-le (mod-lt (bitAnd map mask) (pow-pos (limit left))) (pow-mono {j = INTERNAL} (limit-15 left))),
+    )
+
+-- ---- the highest bit
+-- no bit from h on: below 2 ^ h
+bits-below : (n x h : ℕ) → x < 2 ^ n → h ≤ n → ((k : ℕ) → h ≤ k → k < n → bitAt x k ≡ false) → x < 2 ^ h
+unfolding bitAt
+bits-below zero x h l g f = let e : h ≡ 0 = omega arith in rw e l
+bits-below (suc n) x h l g f = ⊎-elim (λ (e : h ≡ suc n). rw e l) (λ (e : h < suc n). bits-below n x h (less e) (omega arith) (λ k a b. f k a (omega arith))) (eq-or-lt-of-le g)
+  where
+    whole : (a b c x : ℕ) → a ≡ 0 → a * c + b ≡ x → b ≡ x
+    whole zero b c x e h = omega arith
+    whole (suc a) b c x e h = absurd (omega arith)
+
+    less : h < suc n → x < 2 ^ n
+    less e =
+        let s : suc n ≡ 1 + n = omega arith in
+        let v : x / 2 ^ n ≡ 0 = bit-zero (x / 2 ^ n) (shr-lt 1 n (subst (λ (m : ℕ). x < 2 ^ m) s l)) (f n (omega arith) (omega arith)) in
+        let m : x % 2 ^ n ≡ x = whole (x / 2 ^ n) (x % 2 ^ n) (2 ^ n) x v (split x n) in
+        omega (arith, mod-lt x (pow-pos n))
+
+bit-le : (x h : ℕ) → bitAt x h ≡ true → 2 ^ h ≤ x
+bit-le x h e = elim (decLe (2 ^ h) x) [ yes p ↦ p | no p ↦ absurd (true-false (small-bit x h (omega arith)) e) ]
+
+module _ (x : ℕ) (some : 0 < x) (small : x < 32768) where
+  top : Highest 15 x (highest 15 x)
+  top = ⊎-elim (λ (f : (k : ℕ) → k < 15 → bitAt x k ≡ false). absurd (omega (arith, no-bits 15 x small f))) (λ (g : Highest 15 x (highest 15 x)). g) (highest-is 15 x)
+
+  pub leading-highest : leadingZeros 32 x + suc (highest 15 x) ≡ 32
+  leading-highest =
+      let h = highest 15 x in
+      let s = leading-length 32 x (omega arith) in
+      let m = s .0 in
+      let low : 2 ^ h ≤ x = bit-le x h (top .set) in
+      let up : x < 2 ^ suc h = bits-below 15 x (suc h) small (top .within) (λ k a b. top .above k a b) in
+      let a : h < m = more h m low (s .2) in
+      let b : m ≤ suc h = fewer h m up (s .3) in
+      omega (arith, s .1)
+    where
+      more : (h m : ℕ) → 2 ^ h ≤ x → x < 2 ^ m → h < m
+      more h m a b = elim (decLe m h) [ yes p ↦ absurd (omega (arith, pow-mono p)) | no p ↦ omega arith ]
+
+      fewer : (h m : ℕ) → x < 2 ^ suc h → 2 ^ m ≤ 2 * x + 1 → m ≤ suc h
+      fewer h m a b = elim (decLe m (suc h)) [ yes p ↦ p | no p ↦ absurd (omega (arith, pow-mono (beyond h m p), pow-suc 2 (suc h))) ]
+        where
+          beyond : (h m : ℕ) → (m ≤ suc h → ⊥) → suc (suc h) ≤ m
+          beyond h m p = omega arith
+
+  pub highest-lead : (31 - leadingZeros 32 x ≡ highest 15 x) × (31 - leadingZeros 32 x < 15)
+  highest-lead = (omega (arith, leading-highest), omega (arith, leading-highest, top .within))
+
+-- ---- the count before a place
+pub before-is : (map i : ℕ) → map < 65536 → i < EXTERNAL
+    → (ones (bitAnd map ((1 * 2 ^ i) % 4294967296 - 1)) ≡ onesBefore map i) × (ones (bitAnd map ((1 * 2 ^ i) % 4294967296 - 1)) ≤ EXTERNAL)
+unfolding onesBefore
+before-is map i h l = (
+  ap ones (and-shl 32 i map (omega arith)),
+  ones-le 16 _ (omega (arith, and-le-l map ((1 * 2 ^ i) % 4294967296 - 1))),
+)
+
+pub shl-some : (i : ℕ) → i < EXTERNAL → 1 ≤ (1 * 2 ^ i) % 4294967296
+shl-some i l = rw (one-shl 32 i (omega arith)) (pow-pos i)
+
+pub path-is : (address left : ℕ) → (address * 16 / 2 ^ left % 16 ≡ pathAt address left) × (address * 16 / 2 ^ left % 16 < EXTERNAL)
+unfolding pathAt
+path-is address left = (refl, omega arith)

@@ -1,0 +1,172 @@
+// The lookup over supernodes (02 [1]): of each one row is read; the longest match inside it is the new best, and the branch is followed
+// where its external bit is set. Only the last winner's hop is read.
+ghost use mathlib.Core.Path.{_≡_};
+ghost use mathlib.Core.Bool.{_||_};
+ghost use Prim.Native.Nat.{ℕ, suc, _/_, _≤_};
+ghost use lib.ListN.{length};
+ghost use lib.Dec.{ltb};
+ghost use Rattle.table.specs.Table.{at};
+ghost use Rattle.walk.specs.Limits.{WIDTH};
+ghost use Rattle.pieces.specs.Maps.{STEP, maskOf};
+ghost use Rattle.visits.specs.Rows.{rowLists, rowRoom, supernodeAt};
+ghost use Rattle.visits.specs.Lookup.{betterOf, tellBest, visitFrom, listsShort, bitmapRefusal, lookupBitmapOf};
+ghost use Rattle.visits.specs.Meaning.{LookedBitmap};
+ghost use Rattle.visits.specs.declared.looking.Best.the-variants.{Missing};
+use crate::limits::STEP;
+use crate::masks::found_on;
+use crate::masks::highest_of;
+use crate::masks::is_set;
+use crate::masks::masks;
+use crate::masks::ones_before;
+use crate::masks::path_at;
+use crate::record::Bitmap;
+use table::WIDTH;
+use table::is_outside;
+use table::smaller;
+use walk::Answer;
+use walk::finish;
+use walk::is_beyond;
+
+// The longest match so far: the number of its hop.
+pub enum Best {
+    Missing,
+    Won { place: usize },
+}
+
+// The best after one supernode, `left` address bits being left there: `mask` has the places on the path.
+fn better(map: u16, first: u32, mask: u16, left: u32, best: Best) -> Best
+    ensures { λ r. ⌜ ((p : ℕ) → mask ≡ maskOf p → r ≡ betterOf map first p left best) ⌝ }
+{
+    let on = found_on(map, mask, left);
+    if on == 0 {
+        return best;
+    }
+    let i = highest_of(on as u32);
+    Best::Won {
+        place: first as usize + ones_before(map, i) as usize,
+    }
+}
+
+// What the best says: its hop's number is below the count, or that is damage.
+fn told(best: Best, reads: u32, hops: &[u16], count: usize) -> Answer
+    requires { ⌜ count ≤ length (now hops) ⌝ }
+    ensures { λ r. ⌜ r ≡ tellBest count (at (now (hops .entry))) best reads ⌝ }
+{
+    match best {
+        Best::Missing => finish(0, reads),
+        Best::Won { place } => {
+            if count <= place {
+                return Answer::Refused { number: 9 };
+            }
+            finish(hops[place], reads)
+        }
+    }
+}
+
+// The supernodes from number 0 on. The masks stand before the loop, so that they are laid out once; a child's number is summed in usize,
+// so that it does not wrap.
+fn follow(
+    supernodes: usize,
+    winners: usize,
+    address: u32,
+    width: u32,
+    internal: &[u16],
+    external: &[u16],
+    child: &[u32],
+    first: &[u32],
+    hops: &[u16],
+) -> Answer
+    requires { ⌜
+        (width ≤ WIDTH) × (supernodes ≤ rowRoom (rowLists (now internal) (now external) (now child) (now first)))
+        × (winners ≤ length (now hops)) ⌝ }
+    ensures { λ r. ⌜
+        r ≡ visitFrom supernodes winners address
+        (supernodeAt (rowLists (now (internal .entry)) (now (external .entry)) (now (child .entry)) (now (first .entry))))
+        (at (now (hops .entry))) (suc (width / STEP)) 0 width Missing 0 ⌝ }
+{
+    let table = masks();
+    let mut i: usize = 0;
+    let mut left: u32 = width;
+    let mut best = Best::Missing;
+    let mut reads: u32 = 0;
+    while i < supernodes {
+        let p = path_at(address, left);
+        best = better(internal[i], first[i], table[p], left, best);
+        reads += 1;
+        let map = external[i];
+        if !is_set(map, p) {
+            return told(best, reads, hops, winners);
+        }
+        if left < STEP {
+            return Answer::Refused { number: 9 };
+        }
+        left -= STEP;
+        i = child[i] as usize + ones_before(map, p) as usize;
+    }
+    Answer::Refused { number: 9 }
+}
+
+// Refusal 9 before a row is read: a count exceeds its list.
+fn is_short(rows: usize, supernodes: usize, places: usize, winners: usize) -> bool
+    ensures { λ r. ⌜ r ≡ listsShort rows supernodes places winners ⌝ }
+{
+    rows < supernodes || places < winners
+}
+
+// The number of the first test that fails before a row is read, in the order 1, 8, 9; 0 for none.
+fn first_refusal(rec: Bitmap, rows: usize, places: usize, address: u32) -> u32
+    ensures { λ r. ⌜ r ≡ bitmapRefusal WIDTH rec rows places address ⌝ }
+{
+    if is_outside(rec.width, WIDTH) {
+        return 1;
+    }
+    if is_beyond(address, rec.width) {
+        return 8;
+    }
+    if is_short(rows, rec.supernodes as usize, places, rec.hops as usize) {
+        return 9;
+    }
+    0
+}
+
+// One lookup over supernodes, any record and any lists. It answers a match with its hop and reads, no route with its reads, or a
+// refusal: 1 (width), 8 (address) or 9 (damaged record or rows). No list changes.
+pub fn lookup_bitmap(
+    rec: Bitmap,
+    internal: &[u16],
+    external: &[u16],
+    child: &[u32],
+    first: &[u32],
+    hops: &[u16],
+    address: u32,
+) -> Answer
+    ensures exact { λ r. ⌜
+        r ≡ lookupBitmapOf WIDTH rec (rowLists (now (internal .entry)) (now (external .entry)) (now (child .entry)) (now (first .entry)))
+        (now (hops .entry)) address ⌝ }
+    ensures meaning { λ r. ⌜
+        LookedBitmap WIDTH rec (rowLists (now (internal .entry)) (now (external .entry)) (now (child .entry)) (now (first .entry)))
+        (now (hops .entry)) address r ⌝ }
+{
+    let rows = smaller(
+        smaller(internal.len(), external.len()),
+        smaller(child.len(), first.len()),
+    );
+    let refusal = first_refusal(rec, rows, hops.len(), address);
+    if refusal != 0 {
+        return Answer::Refused { number: refusal };
+    }
+    if rec.supernodes == 0 {
+        return finish(0, 0);
+    }
+    follow(
+        rec.supernodes as usize,
+        rec.hops as usize,
+        address,
+        rec.width,
+        internal,
+        external,
+        child,
+        first,
+        hops,
+    )
+}
