@@ -21,8 +21,14 @@ use Rattle.walk.specs.Meaning.{Tested, Looked}
 use Rattle.tries.proofs.ChooseTests.{numbered-choose}
 use Rattle.tries.proofs.BuildSteps.{numbered-build}
 use Rattle.walk.specs.declared.record.Record.{Record}
-use Rattle.gateway.specs.Numbers.{Told, outcomeNumbers, sharedNumbers, spanNumbers, choiceNumbers, buildNumbers, answerNumbers}
-use Rattle.gateway.specs.Allowed.{AllowedChoice, AllowedBuild}
+use Rattle.visits.specs.declared.record.Bitmap.{Bitmap}
+use Rattle.visits.specs.Rows.{RowLists, rowRoom}
+use Rattle.visits.specs.Meaning.{BitmapTested, LookedBitmap}
+use Rattle.supernodes.specs.Build.{bitmapTests}
+use Rattle.supernodes.proofs.Demands.{numbered-bitmap}
+use Rattle.gateway.specs.Numbers.{Told, outcomeNumbers, sharedNumbers, spanNumbers, choiceNumbers, buildNumbers, bitmapNumbers, answerNumbers}
+use Rattle.gateway.specs.Allowed.{AllowedChoice, AllowedBuild, AllowedBitmap}
+use Rattle.gateway.specs.declared.bitmaps.BuiltBitmapNumbers.{BuiltBitmapNumbers}
 use Rattle.gateway.specs.declared.entries.Checked.{Checked}
 use Rattle.gateway.specs.declared.entries.SharedNumbers.{SharedNumbers}
 use Rattle.gateway.specs.declared.entries.SpanNumbers.{SpanNumbers}
@@ -75,3 +81,16 @@ module _ (kind : Kind) (W k : ℕ) (vs ls hs scratch : List ℕ) where
 pub lookup-tells : (rec : Record) (ls : Lists) (address : ℕ) {r : AnswerNumbers} → Told (Looked WIDTH rec ls address) answerNumbers r
     → Tested WIDTH rec ls address (r .number)
 lookup-tells rec ls address t = rw (t .2) (t .1 .tested)
+
+-- ---- tree bitmap arrays
+
+pub bitmap-tells : (W : ℕ) (vs ls hs scratch : List ℕ) {rows rows′ : RowLists} {hops s hops′ : List ℕ} {r : BuiltBitmapNumbers}
+    → Told (AllowedBitmap W vs ls hs scratch rows hops s rows′ hops′) bitmapNumbers r
+    → Tells (bitmapTests W vs ls hs (length scratch) (rowRoom rows) (length hops)) (r .number) (r .detail)
+bitmap-tells W vs ls hs scratch {rows} {hops = hops} t =
+    rw (t .2)
+    (gives-tells 7 (bitmapTests W vs ls hs (length scratch) (rowRoom rows) (length hops)) (numbered-bitmap W vs ls hs (length scratch) (rowRoom rows) (length hops)) (t .0 .outcome) (t .1 .tested))
+
+pub lookup-bitmap-tells : (rec : Bitmap) (rows : RowLists) (hops : List ℕ) (address : ℕ) {r : AnswerNumbers}
+    → Told (LookedBitmap WIDTH rec rows hops address) answerNumbers r → BitmapTested WIDTH rec rows hops address (r .number)
+lookup-bitmap-tells rec rows hops address t = rw (t .2) (t .1 .tested)

@@ -16,12 +16,19 @@ use Rattle.walk.specs.Meaning.{Looked}
 use Rattle.tries.specs.declared.chooser.Chosen.{Chosen}
 use Rattle.tries.specs.declared.building.Built.{Built}
 use Rattle.walk.specs.declared.record.Record.{Record}
+use Rattle.visits.specs.declared.record.Bitmap.{Bitmap}
+use Rattle.visits.specs.Rows.{RowLists}
+use Rattle.visits.specs.Meaning.{LookedBitmap}
+use Rattle.visits.proofs.Unique.{looked-bitmap-unique}
+use Rattle.supernodes.specs.declared.building.BuiltBitmap.{BuiltBitmap}
+use Rattle.supernodes.proofs.Unique.{bitmap-unique}
 use Rattle.tries.proofs.Choosing.{chooses-unique}
 use Rattle.tries.proofs.Unique.{builds-unique}
 use Rattle.walk.proofs.Unique.{looked-unique}
-use Rattle.gateway.specs.Numbers.{Told, outcomeNumbers, sharedNumbers, spanNumbers, choiceNumbers, buildNumbers, answerNumbers}
-use Rattle.gateway.specs.Allowed.{AllowedChoice, AllowedBuild}
+use Rattle.gateway.specs.Numbers.{Told, outcomeNumbers, sharedNumbers, spanNumbers, choiceNumbers, buildNumbers, bitmapNumbers, answerNumbers}
+use Rattle.gateway.specs.Allowed.{AllowedChoice, AllowedBuild, AllowedBitmap}
 use Rattle.gateway.specs.Batch.{Columns, columns, answerAt, BatchWritten, Answered}
+use Rattle.gateway.specs.declared.bitmaps.BuiltBitmapNumbers.{BuiltBitmapNumbers}
 use Rattle.gateway.specs.declared.entries.Checked.{Checked}
 use Rattle.gateway.specs.declared.entries.SharedNumbers.{SharedNumbers}
 use Rattle.gateway.specs.declared.entries.SpanNumbers.{SpanNumbers}
@@ -95,3 +102,19 @@ module _ (rec : Record) (ls : Lists) (xs : List ℕ) (cs : Columns) where
             (ext-getD 0 (cs1 .hop) (cs2 .hop) (w .hops ∙ sym (w′ .hops)) (λ i h. ap (λ (f : AnswerNumbers). f .hop) (one i)))
             (ext-getD 0 (cs1 .reads) (cs2 .reads) (w .counts ∙ sym (w′ .counts)) (λ i h. ap (λ (f : AnswerNumbers). f .reads) (one i))),
       )
+
+-- ---- tree bitmap arrays
+
+pub lookup-bitmap-unique : (rec : Bitmap) (rows : RowLists) (hops : List ℕ) (address : ℕ) {r r′ : AnswerNumbers}
+    → Told (LookedBitmap WIDTH rec rows hops address) answerNumbers r → Told (LookedBitmap WIDTH rec rows hops address) answerNumbers r′ → r ≡ r′
+lookup-bitmap-unique rec rows hops address = told-unique (λ a b p q. looked-bitmap-unique p q)
+
+bitmap-same : {b b′ : BuiltBitmap} → b .outcome ≡ b′ .outcome → b .record ≡ b′ .record → bitmapNumbers b ≡ bitmapNumbers b′
+bitmap-same p q = rw (p, q)
+
+pub built-bitmap-unique : (W : ℕ) (vs ls hs scratch : List ℕ) {rows rows1 rows2 : RowLists} {hops s hops1 s′ hops2 : List ℕ} {r r′ : BuiltBitmapNumbers}
+    → Told (AllowedBitmap W vs ls hs scratch rows hops s rows1 hops1) bitmapNumbers r → Told (AllowedBitmap W vs ls hs scratch rows hops s′ rows2 hops2) bitmapNumbers r′
+    → (r ≡ r′) × (s ≡ s′) × (rows1 ≡ rows2) × (hops1 ≡ hops2)
+built-bitmap-unique W vs ls hs scratch {rows} {hops = hops} t t′ =
+    let u = bitmap-unique W vs ls hs scratch rows hops (t .1) (t′ .1) in
+    (t .2 ∙ bitmap-same {b = t .0} {b′ = t′ .0} (u .0) (u .1) ∙ sym (t′ .2), u .2, u .3, u .4)

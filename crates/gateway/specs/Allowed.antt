@@ -5,6 +5,9 @@ use Rattle.strides.specs.Cheapest.{Kind}
 use Rattle.walk.specs.Rows.{Lists}
 use Rattle.tries.specs.Chooser.{ChosenIs, Chooses}
 use Rattle.tries.specs.Build.{BuildIs, Builds}
+use Rattle.visits.specs.Rows.{RowLists}
+use Rattle.supernodes.specs.Build.{BitmapIs, BuildsBitmap}
+use Rattle.supernodes.specs.declared.building.BuiltBitmap.{BuiltBitmap}
 use Rattle.tries.specs.declared.chooser.Chosen.{Chosen}
 use Rattle.tries.specs.declared.building.Built.{Built}
 
@@ -22,3 +25,11 @@ module _ (kind : Kind) (W k : ℕ) (vs ls hs : List ℕ) where
 
     abbrev pub AllowedBuild : Built → Type 0
     AllowedBuild b = Builds kind W k vs ls hs scratch rows (b .outcome) (b .record) scratch′ rows′
+
+-- and of a bitmap build
+module _ (W : ℕ) (vs ls hs scratch : List ℕ) (rows : RowLists) (hops scratch′ : List ℕ) (rows′ : RowLists) (hops′ : List ℕ) where
+  abbrev pub ExactBitmap : BuiltBitmap → Type 0
+  ExactBitmap b = BitmapIs W vs ls hs scratch rows hops (b .outcome) (b .record) scratch′ rows′ hops′
+
+  abbrev pub AllowedBitmap : BuiltBitmap → Type 0
+  AllowedBitmap b = BuildsBitmap W vs ls hs scratch rows hops (b .outcome) (b .record) scratch′ rows′ hops′

@@ -11,6 +11,8 @@ use Rattle.walk.specs.Answers.{numberOf, hopOf, readsOf}
 use Rattle.tries.specs.declared.chooser.Chosen.{Chosen}
 use Rattle.tries.specs.declared.building.Built.{Built}
 use Rattle.walk.specs.declared.walk.Answer.{Answer}
+use Rattle.supernodes.specs.declared.building.BuiltBitmap.{BuiltBitmap}
+use Rattle.gateway.specs.declared.bitmaps.BuiltBitmapNumbers.{BuiltBitmapNumbers}
 use Rattle.gateway.specs.declared.entries.Checked.{Checked}
 use Rattle.gateway.specs.declared.entries.SharedNumbers.{SharedNumbers}
 use Rattle.gateway.specs.declared.entries.SpanNumbers.{SpanNumbers}
@@ -39,6 +41,9 @@ choiceNumbers c =
 
 abbrev pub buildNumbers : Built → BuiltNumbers
 buildNumbers b = record { number = outcomeNumber (b .outcome); detail = outcomeDetail (b .outcome); «record» = b .record }
+
+abbrev pub bitmapNumbers : BuiltBitmap → BuiltBitmapNumbers
+bitmapNumbers b = record { number = outcomeNumber (b .outcome); detail = outcomeDetail (b .outcome); «record» = b .record }
 
 abbrev pub answerNumbers : Answer → AnswerNumbers
 answerNumbers a = record { number = numberOf a; hop = hopOf a; reads = readsOf a }

@@ -1,11 +1,15 @@
-// The calls for C: the table check, the two answers about entries, the choosers, the builds and the lookup, and a lookup of many
-// addresses in one call. Each is thin over `table` and `tries`, takes any numbers and any lists, and hands its answer back as a
-// struct of plain numbers: 0 for accepted or the refusal, its detail, then the values, which are 0 where it is refused.
+// The calls for C: the table check, the two answers about entries, the choosers, the builds and the lookup, a lookup of many
+// addresses in one call, and build and lookup of tree bitmap arrays. Each is thin over the crates below, takes any numbers and any
+// lists, and hands its answer back as a struct of plain numbers: 0 for accepted or the refusal, its detail, then the values, which are 0 where it is refused.
+mod bitmaps;
 mod choosing;
 mod entries;
 mod looking;
 mod making;
 
+pub use bitmaps::BuiltBitmapNumbers;
+pub use bitmaps::hongsamuk_build_bitmap;
+pub use bitmaps::hongsamuk_lookup_bitmap;
 pub use choosing::ChosenNumbers;
 pub use choosing::hongsamuk_choose_fixed;
 pub use choosing::hongsamuk_choose_variable;

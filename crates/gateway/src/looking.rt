@@ -18,7 +18,7 @@ pub struct AnswerNumbers {
     pub reads: u32,
 }
 
-fn answer_numbers(answer: Answer) -> AnswerNumbers
+pub(crate) fn answer_numbers(answer: Answer) -> AnswerNumbers
     ensures { λ r. ⌜ r ≡ answerNumbers answer ⌝ }
 {
     match answer {
