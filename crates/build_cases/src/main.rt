@@ -7,31 +7,26 @@
 // list longer than the program's room or than the rows that it gives, is answered `bad line` and changes nothing.
 // A text that fills the page is answered `text too long`.
 use cases::Held;
+use cases::ThreeLengths;
 use libc::STDIN_FILENO;
 use printing::put;
 use printing::say;
+use printing::say_answer;
 use printing::say_number;
 use printing::say_outcome;
 use printing::say_scratch;
 use printing::say_strides;
-use tries::Answer;
+use printing::say_swept;
 use tries::Built;
 use tries::Kind;
 use tries::Record;
 
-// The lengths of the three element lists, and the next place of the text.
-struct ListLengths {
-    hops: usize,
-    links: usize,
-    strides: usize,
-    at: usize,
-}
-
-// The table, the record and the element lists of the lines below, and the next place of the text.
+// The table, the record and the lengths of the element lists (hops, links, strides) of the lines below, and the next
+// place of the text.
 struct State {
     held: Held,
     record: Record,
-    lists: ListLengths,
+    lists: ThreeLengths,
     at: usize,
 }
 
@@ -152,51 +147,26 @@ fn build_held(
     )
 }
 
-fn is_letter(byte: u8) -> bool {
-    if byte < b'a' {
-        return false;
-    }
-    byte <= b'z'
-}
-
-// Whether a word stands there, with no letter after it.
-fn is_word(text: &[u8], at: usize, word: &[u8]) -> bool {
-    if text.len() < at {
-        return false;
-    }
-    if text.len() - at < word.len() {
-        return false;
-    }
-    let mut i = 0;
-    while i < word.len() {
-        if text[at + i] != word[i] {
-            return false;
-        }
-        i += 1;
-    }
-    !is_letter(cases::byte(text, at + word.len()))
-}
-
 fn word_at(text: &[u8], at: usize) -> Word {
-    if is_word(text, at, b"table") {
+    if cases::is_word(text, at, b"table") {
         return Word::Table;
     }
-    if is_word(text, at, b"fixed") {
+    if cases::is_word(text, at, b"fixed") {
         return Word::Build(Kind::Fixed);
     }
-    if is_word(text, at, b"variable") {
+    if cases::is_word(text, at, b"variable") {
         return Word::Build(Kind::Variable);
     }
-    if is_word(text, at, b"record") {
+    if cases::is_word(text, at, b"record") {
         return Word::Record;
     }
-    if is_word(text, at, b"print") {
+    if cases::is_word(text, at, b"print") {
         return Word::Print;
     }
-    if is_word(text, at, b"look") {
+    if cases::is_word(text, at, b"look") {
         return Word::Look;
     }
-    if is_word(text, at, b"sweep") {
+    if cases::is_word(text, at, b"sweep") {
         return Word::Sweep;
     }
     Word::Other
@@ -208,38 +178,6 @@ fn bad_line(text: &[u8], at: usize, state: State) -> State {
     let mut next = state;
     next.at = cases::seek(text, at, b'\n', b'\n');
     next
-}
-
-fn lists_at(text: &[u8], at: usize) -> ListLengths {
-    let hops = cases::number(text, at);
-    let links = cases::number(text, hops.next);
-    let strides = cases::number(text, links.next);
-    ListLengths {
-        hops: hops.value as usize,
-        links: links.value as usize,
-        strides: strides.value as usize,
-        at: strides.next,
-    }
-}
-
-// Whether one of the three lists is longer than that.
-fn is_longer(lists: ListLengths, than: usize) -> bool {
-    if than < lists.hops {
-        return true;
-    }
-    if than < lists.links {
-        return true;
-    }
-    than < lists.strides
-}
-
-// Whether the three lists, or the rows that are given next, are more than the room, or a list longer than the rows.
-fn is_unfit(text: &[u8], lists: ListLengths, room: usize) -> bool {
-    let rows = cases::number(text, lists.at).value as usize;
-    if room < rows {
-        return true;
-    }
-    is_longer(lists, rows)
 }
 
 // Lends as many places of scratch and of the element lists as the line says.
@@ -259,17 +197,17 @@ fn build_line(
     let held = state.held;
     let levels = cases::number(text, at);
     let places = cases::number(text, levels.next);
-    let lists = lists_at(text, places.next);
+    let lists = cases::three_at(text, places.next);
     if scratch.len() < places.value as usize {
         return bad_line(text, at, state);
     }
-    if is_longer(lists, row_hops.len()) {
+    if cases::is_longer(lists, row_hops.len()) {
         return bad_line(text, at, state);
     }
     let n = cases::least(places.value as usize, scratch.len());
-    let a = cases::least(lists.hops, row_hops.len());
-    let b = cases::least(lists.links, row_links.len());
-    let c = cases::least(lists.strides, row_strides.len());
+    let a = cases::least(lists.first, row_hops.len());
+    let b = cases::least(lists.second, row_links.len());
+    let c = cases::least(lists.third, row_strides.len());
     let record = build_held(
         kind,
         cases::held32(levels.value),
@@ -286,7 +224,7 @@ fn build_line(
         held,
         record,
         lists,
-        at: lists.at,
+        at: lists.next,
     }
 }
 
@@ -307,50 +245,12 @@ fn record_at(text: &[u8], at: usize, held: Held) -> State {
         floor: cases::held16(floor.value),
         strides,
     };
-    let lists = lists_at(text, others.next);
+    let lists = cases::three_at(text, others.next);
     State {
         held,
         record,
         lists,
-        at: lists.at,
-    }
-}
-
-fn say_answer(answer: Answer) {
-    match answer {
-        Answer::Match { hop, reads } => {
-            say(b"match");
-            put(hop as u64);
-            say(b" reads");
-            put(reads as u64);
-        }
-        Answer::NoRoute { reads } => {
-            say(b"none reads");
-            put(reads as u64);
-        }
-        Answer::Refused { number } => {
-            say(b"refused");
-            put(number as u64);
-        }
-    }
-}
-
-// The same, short: hop/reads, hop 0 for no route, or r and the number of the refusal.
-fn say_swept(answer: Answer) {
-    match answer {
-        Answer::Match { hop, reads } => {
-            put(hop as u64);
-            say(b"/");
-            say_number(reads as u64);
-        }
-        Answer::NoRoute { reads } => {
-            say(b" 0/");
-            say_number(reads as u64);
-        }
-        Answer::Refused { number } => {
-            say(b" r");
-            say_number(number as u64);
-        }
+        at: lists.next,
     }
 }
 
@@ -397,9 +297,9 @@ fn ask(
 ) -> usize {
     let record = state.record;
     let lists = state.lists;
-    let h = cases::front16(row_hops, lists.hops);
-    let l = cases::front32(row_links, lists.links);
-    let s = cases::front8(row_strides, lists.strides);
+    let h = cases::front16(row_hops, lists.first);
+    let l = cases::front32(row_links, lists.second);
+    let s = cases::front8(row_strides, lists.third);
     if let Word::Print = word {
         print(record.elements as usize, h, l, s);
         return cases::seek(text, at, b'\n', b'\n');
@@ -423,7 +323,7 @@ fn record_line(
     row_strides: &mut [u8],
 ) -> State {
     let mut next = record_at(text, at, state.held);
-    if is_unfit(text, next.lists, row_hops.len()) {
+    if cases::is_unfit(text, next.lists, row_hops.len()) {
         return bad_line(text, at, state);
     }
     let listed = cases::rows(text, next.at, row_links, row_strides, row_hops);
@@ -441,8 +341,7 @@ fn table_line(
     lengths: &mut [u8],
     hops: &mut [u16],
 ) -> State {
-    let width = cases::number(text, at);
-    if is_unfit(text, lists_at(text, width.next), values.len()) {
+    if cases::is_bad_table(text, at, values.len()) {
         return bad_line(text, at, state);
     }
     say(b"table");
@@ -505,11 +404,11 @@ fn start(at: usize) -> State {
             floor: 0,
             strides: [0; tries::LEVELS as usize],
         },
-        lists: ListLengths {
-            hops: 0,
-            links: 0,
-            strides: 0,
-            at,
+        lists: ThreeLengths {
+            first: 0,
+            second: 0,
+            third: 0,
+            next: at,
         },
         at,
     }

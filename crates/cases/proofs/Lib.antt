@@ -1,4 +1,6 @@
 pub mod Filling
+pub mod Fitting
 pub mod Holding
 pub mod Marking
 pub mod Reading
+pub mod Spelling

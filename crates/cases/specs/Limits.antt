@@ -1,5 +1,5 @@
--- The sizes of the rooms of a run, named once; `src/limits.rt` has the same ones for the code. Then the bytes of the digits 0 and 9,
--- and the largest numbers of 32, 16 and 8 bits.
+-- The sizes of the rooms of a run, named once; `src/limits.rt` has the same ones for the code. Then the bytes of the digits 0 and 9
+-- and of the letters a and z, and the largest numbers of 32, 16 and 8 bits.
 use Prim.Native.Nat.{ℕ}
 
 -- the bytes of a run's text: a mebibyte, more than the cases of any run have
@@ -18,11 +18,25 @@ SCRATCH = 200000
 abbrev pub ROWS : ℕ
 ROWS = 20000
 
+-- the places of a list of supernode rows: fewer than a table of 4,096 entries can need
+abbrev pub SUPERNODES : ℕ
+SUPERNODES = 4096
+
+-- the places of a hop list: one more than a table has entries
+abbrev pub HOP-ROWS : ℕ
+HOP-ROWS = 4097
+
 abbrev pub FIRST-DIGIT : ℕ
 FIRST-DIGIT = 48
 
 abbrev pub LAST-DIGIT : ℕ
 LAST-DIGIT = 57
+
+abbrev pub FIRST-LETTER : ℕ
+FIRST-LETTER = 97
+
+abbrev pub LAST-LETTER : ℕ
+LAST-LETTER = 122
 
 -- a number below this takes a further digit and still fits 64 bits
 abbrev pub ONE-MORE : ℕ

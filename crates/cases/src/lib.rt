@@ -1,14 +1,16 @@
-// What the vector programs share: room for a run's text and lists, the reading of decimal numbers and of a
-// table's line, and marks laid in a lent list before a call and counted after it.
+// What the vector programs share: room for a run's text and lists, the reading of decimal numbers, of the
+// word that begins a line and of a table's line, and marks laid in a lent list before a call and counted after it.
 // Between two numbers any other bytes may stand, so that a case's line can say what its numbers mean.
 mod counts;
 mod fills;
 mod fronts;
 mod limits;
+mod lists;
 mod numerals;
 mod room;
 mod tables;
 mod triples;
+mod words;
 
 pub use counts::count8;
 pub use counts::count16;
@@ -21,15 +23,24 @@ pub use fills::fill64;
 pub use fronts::front8;
 pub use fronts::front16;
 pub use fronts::front32;
+pub use lists::ThreeLengths;
+pub use lists::is_bad_table;
+pub use lists::is_longer;
+pub use lists::is_unfit;
+pub use lists::three_at;
 pub use numerals::Numeral;
 pub use numerals::held8;
 pub use numerals::held16;
 pub use numerals::held32;
 pub use numerals::least;
+pub use numerals::least_of_four;
 pub use numerals::number;
 pub use numerals::seek;
+pub use room::firsts;
+pub use room::hop_rows;
 pub use room::hops;
 pub use room::lengths;
+pub use room::maps;
 pub use room::page;
 pub use room::row_hops;
 pub use room::row_links;
@@ -42,3 +53,4 @@ pub use tables::no_table;
 pub use tables::table_line;
 pub use triples::Listed;
 pub use triples::rows;
+pub use words::is_word;

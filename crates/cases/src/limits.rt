@@ -11,3 +11,9 @@ pub const SCRATCH: usize = 200000;
 
 // The places of an element list: more than the rows of the largest build.
 pub const ROWS: usize = 20000;
+
+// The places of a list of supernode rows: fewer than a table of 4,096 entries can need, so that builds are refused for them.
+pub const SUPERNODES: usize = 4096;
+
+// The places of a hop list: one more than a table has entries.
+pub const HOP_ROWS: usize = 4097;

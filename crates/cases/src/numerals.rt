@@ -10,7 +10,7 @@ pub struct Numeral {
 }
 
 // Whether a byte lies from `low` to `high`.
-fn is_within(low: u8, high: u8, byte: u8) -> bool
+pub(crate) fn is_within(low: u8, high: u8, byte: u8) -> bool
     ensures { λ r. ⌜ r ≡ between low high byte ⌝ }
 {
     low <= byte && byte <= high
@@ -95,4 +95,10 @@ pub fn least(a: usize, b: usize) -> usize
         return a;
     }
     b
+}
+
+pub fn least_of_four(a: usize, b: usize, c: usize, d: usize) -> usize
+    ensures { λ r. ⌜ r ≡ min (min a b) (min c d) ⌝ }
+{
+    least(least(a, b), least(c, d))
 }

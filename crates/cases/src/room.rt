@@ -2,10 +2,12 @@
 // the length, which lending the array as a slice needs.
 ghost use mathlib.Core.Path.{_≡_};
 ghost use lib.ListN.{length};
-ghost use Rattle.cases.specs.Limits.{TEXT, PLACES, SCRATCH, ROWS};
+ghost use Rattle.cases.specs.Limits.{TEXT, PLACES, SCRATCH, ROWS, SUPERNODES, HOP-ROWS};
+use crate::limits::HOP_ROWS;
 use crate::limits::PLACES;
 use crate::limits::ROWS;
 use crate::limits::SCRATCH;
+use crate::limits::SUPERNODES;
 use crate::limits::TEXT;
 
 // The text of all cases.
@@ -58,4 +60,24 @@ pub fn row_strides() -> [u8; ROWS]
     ensures { λ r. ⌜ ROWS ≡ length r ⌝ }
 {
     [0; ROWS]
+}
+
+// A list of supernode rows: of maps (internal, external), or of numbers (first child, first hop).
+pub fn maps() -> [u16; SUPERNODES]
+    ensures { λ r. ⌜ SUPERNODES ≡ length r ⌝ }
+{
+    [0; SUPERNODES]
+}
+
+pub fn firsts() -> [u32; SUPERNODES]
+    ensures { λ r. ⌜ SUPERNODES ≡ length r ⌝ }
+{
+    [0; SUPERNODES]
+}
+
+// The hops of supernodes.
+pub fn hop_rows() -> [u16; HOP_ROWS]
+    ensures { λ r. ⌜ HOP-ROWS ≡ length r ⌝ }
+{
+    [0; HOP_ROWS]
 }

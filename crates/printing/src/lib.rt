@@ -1,8 +1,10 @@
-// What the vector programs print alike: a word, a number, an outcome, strides, and what a lent scratch holds.
+// What the vector programs print alike: a word, a number, an outcome, strides, what a lent scratch holds, and
+// what a lookup answers.
 // No contract can say what a program prints, so none of these has one: each is proved safe and ending, and the
 // bytes are compared with the reference's.
 use libc::STDOUT_FILENO;
 use table::Outcome;
+use walk::Answer;
 
 pub fn say(word: &[u8]) {
     io::write_all(STDOUT_FILENO, word);
@@ -50,4 +52,43 @@ pub fn say_scratch(scratch: &[u64]) {
     put(cases::count64(scratch, 0, 0) as u64);
     say(b" sevens");
     put(cases::count64(scratch, 0, 7) as u64);
+}
+
+// What a lookup answers.
+pub fn say_answer(answer: Answer) {
+    match answer {
+        Answer::Match { hop, reads } => {
+            say(b"match");
+            put(hop as u64);
+            say(b" reads");
+            put(reads as u64);
+        }
+        Answer::NoRoute { reads } => {
+            say(b"none reads");
+            put(reads as u64);
+        }
+        Answer::Refused { number } => {
+            say(b"refused");
+            put(number as u64);
+        }
+    }
+}
+
+// The same, short: hop/reads, hop 0 for no route, or r and the number of the refusal.
+pub fn say_swept(answer: Answer) {
+    match answer {
+        Answer::Match { hop, reads } => {
+            put(hop as u64);
+            say(b"/");
+            say_number(reads as u64);
+        }
+        Answer::NoRoute { reads } => {
+            say(b" 0/");
+            say_number(reads as u64);
+        }
+        Answer::Refused { number } => {
+            say(b" r");
+            say_number(number as u64);
+        }
+    }
 }

@@ -1,0 +1,21 @@
+use borrow.Author.Needs.{needs}
+use Rattle.cases.proofs.Fitting.{bad-table-read}
+use Rattle.cases.proofs.lists.is_bad_table.Statement.{statement}
+use Rattle.cases.proofs.lists.is_bad_table.Tie as tie
+
+number-requires : tie.Need-number-requires
+number-requires c κs = search needs
+
+three-at-requires : tie.Need-three-at-requires
+three-at-requires c κs = search needs
+
+is-unfit-requires : tie.Need-is-unfit-requires
+is-unfit-requires c κs = search needs
+
+returns : tie.Need-returns
+returns c =
+    bad-table-read _ _ _ (c .before .before .number .result) (c .before .three-at .result) (c .before .before .number .ensures) (c .before .three-at .ensures) (c .is-unfit .ensures)
+
+pub is-bad-table-spec : {M : Type 1} → statement M
+is-bad-table-spec =
+    tie.close (tie.spec number-requires three-at-requires is-unfit-requires returns)
