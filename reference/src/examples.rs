@@ -1,5 +1,7 @@
 //! 01's own examples, line by line, and brute force against recurrence on random small tries.
 
+mod bitmaps;
+
 use crate::build::{build, chosen, lay, Elements, Record, SCRATCH_ROW};
 use crate::choices::*;
 use crate::lookup::{lookup, Found};

@@ -2,6 +2,7 @@
 //! the same on every run. What was hit is counted, and a run that hits something too seldom fails.
 //! A program's input is the number of its cases and then a line for each; its output is a line for each.
 
+mod bitmaps;
 mod builds;
 mod choosers;
 mod sheets;
@@ -121,5 +122,6 @@ pub fn write_all(top: &str) {
     tables::write(top);
     choosers::write(top);
     builds::write(top);
+    bitmaps::write(top);
     sheets::write(top);
 }
