@@ -8,31 +8,40 @@
  *    3  lists of unequal length, or more than 4,096 entries       detail 0
  *    4  an entry is no prefix of that width, or has a bad hop     detail: its index
  *    5  an entry does not stand above the one before              detail: its index
- *    6  scratch has too few whole rows                            detail: the rows needed
- *    7  too little room for elements, or above 16,777,216         detail: the elements needed
+ *    6  scratch has too few whole rows for the table's trie       detail: the rows needed
+ *    7  too little room for elements, or above 16,777,216;        detail: the elements needed;
+ *       of a bitmap too little for supernodes, then for hops      the supernodes or hops needed
  *    8  the address is not below 2^width                          detail 0
- *    9  a damaged record or damaged rows                          detail 0
+ *    9  a damaged record, damaged elements or a damaged bitmap    detail 0
  *   10  a prefix that is asked about is malformed                 detail 0
  *
  * A list is a pointer to its first number and, behind it, how many numbers it has. A pointer may be null where there are none.
  * All lists belong to the caller before, during and after a call; no call keeps a pointer, allocates, or has a state of its
  * own, so calls on different lists may run at the same time. A list that a call writes must not overlap another list of that call.
  *
+ * A table can be laid out in two ways: in elements, as few as a level limit allows, or as a tree bitmap, in supernodes of four
+ * levels and hops. Both give every address the same hop.
+ *
  * How long the lists of a build must be: lend it no scratch. Where it is refused by 6, the detail is the number of scratch rows
  * (HONGSAMUK_ROW numbers each) that the table needs: one for each node of its 1-bit trie. A table with no entry, or with none but
  * the entry of length 0, has no nodes: it needs no scratch and no elements. A chooser answers the number of elements.
+ * A bitmap's scratch rows have HONGSAMUK_NODE_ROW numbers each, and it needs one for each node of the binary trie: for every start
+ * of an entry, the whole entry and length 0 included. It needs as many hops as the table has entries; with these lent, and no
+ * supernode, the detail of 7 is the number of supernodes.
  *
  * The layout of the structs, in bytes: where each field begins, then the size. The code behind the calls, this header and the calls
  * for Rust all have these numbers; the asserts at the end of this file hold a compiler of C11 or C++11 to them, and the tests of
  * the calls for Rust hold all three to this table.
  *
- *    hongsamuk_record    width 0, levels 4, elements 8, floor 12, strides 14, size 24
- *    hongsamuk_checked   number 0, detail 8, size 16
- *    hongsamuk_shared    number 0, bits 4, size 8
- *    hongsamuk_span      number 0, detail 8, index 16, count 20, size 24
- *    hongsamuk_chosen    number 0, detail 8, cost 16, strides 24, size 32
- *    hongsamuk_built     number 0, detail 8, record 16, size 40
- *    hongsamuk_answer    number 0, hop 4, reads 8, size 12
+ *    hongsamuk_record         width 0, levels 4, elements 8, floor 12, strides 14, size 24
+ *    hongsamuk_bitmap         width 0, supernodes 4, hops 8, size 12
+ *    hongsamuk_checked        number 0, detail 8, size 16
+ *    hongsamuk_shared         number 0, bits 4, size 8
+ *    hongsamuk_span           number 0, detail 8, index 16, count 20, size 24
+ *    hongsamuk_chosen         number 0, detail 8, cost 16, strides 24, size 32
+ *    hongsamuk_built          number 0, detail 8, record 16, size 40
+ *    hongsamuk_built_bitmap   number 0, detail 8, record 16, size 32
+ *    hongsamuk_answer         number 0, hop 4, reads 8, size 12
  */
 #ifndef HONGSAMUK_H
 #define HONGSAMUK_H
@@ -49,7 +58,8 @@ enum {
     HONGSAMUK_LEVELS = 8,          /* the most levels */
     HONGSAMUK_ENTRIES = 4096,      /* the most entries of a table */
     HONGSAMUK_ELEMENTS = 16777216, /* the most elements of a build */
-    HONGSAMUK_ROW = 24             /* numbers in a scratch row */
+    HONGSAMUK_ROW = 24,            /* numbers in a scratch row of a chooser or of a build of elements */
+    HONGSAMUK_NODE_ROW = 4         /* numbers in a scratch row of a build of a bitmap */
 };
 
 /* What a build hands back beside its element rows; all of it is lent to each lookup. */
@@ -60,6 +70,13 @@ typedef struct hongsamuk_record {
     uint16_t floor;                      /* the hop of the entry of length 0, else 0 */
     uint8_t strides[HONGSAMUK_LEVELS];   /* unused places 0; a variable build fills the first only */
 } hongsamuk_record;
+
+/* The same for a tree bitmap. */
+typedef struct hongsamuk_bitmap {
+    uint32_t width;
+    uint32_t supernodes;                 /* rows 0 to supernodes - 1 of the four lists are the build's */
+    uint32_t hops;                       /* hop rows 0 to hops - 1 are the build's */
+} hongsamuk_bitmap;
 
 typedef struct hongsamuk_checked {
     uint32_t number;
@@ -91,10 +108,16 @@ typedef struct hongsamuk_built {
     hongsamuk_record record;             /* refused: all 0 */
 } hongsamuk_built;
 
+typedef struct hongsamuk_built_bitmap {
+    uint32_t number;
+    uint64_t detail;
+    hongsamuk_bitmap record;             /* refused: all 0 */
+} hongsamuk_built_bitmap;
+
 typedef struct hongsamuk_answer {
     uint32_t number;                     /* 0, 1, 2, 8 or 9, whose detail is always 0 */
     uint16_t hop;                        /* 0: no route, or refused */
-    uint32_t reads;                      /* blocks read; refused: 0 */
+    uint32_t reads;                      /* blocks, or supernodes, read; refused: 0 */
 } hongsamuk_answer;
 
 /* Whether the three lists are a table of that width: tests 1, 3, 4, 5. No list changes. */
@@ -178,6 +201,42 @@ size_t hongsamuk_lookup_batch(
     uint16_t *hop, size_t hops,
     uint32_t *reads, size_t counts);
 
+/* Turns a table into a tree bitmap: tests 1, 3 to 7. There is a supernode for each start of an entry that has 0, 4, 8 .. bits,
+ * the whole entry included; they lie breadth first, left to right. Row i of the four lists is supernode i:
+ *
+ *    internal      which entries end in its four levels: bit 0 for its own bits, bits 1 and 2 for one bit more (0, then 1),
+ *                  bits 3 to 6 for two more, from left to right, bits 7 to 14 for three more; bit 15 is 0
+ *    external      which children it has, four bits further on: bits 0 to 15, from left to right
+ *    first_child   the number of the first of its children, which lie in a row; 0 where external is 0
+ *    first_hop     the hop row of the first of its entries, which lie in the order of internal's bits; 0 where internal is 0
+ *
+ * Accepted, all of scratch is 0, as many rows of the four lists and as many hop rows as the record says are the build's, and later
+ * rows are as they were. Refused by 7, all of scratch is 0 and no row changes; refused by 1 to 6, no list changes. The table's
+ * lists never change. */
+hongsamuk_built_bitmap hongsamuk_build_bitmap(
+    uint32_t width,
+    const uint32_t *value, size_t values,
+    const uint8_t *length, size_t lengths,
+    const uint16_t *hop, size_t hops,
+    uint64_t *scratch, size_t words,
+    uint16_t *internal, size_t internals,
+    uint16_t *external, size_t externals,
+    uint32_t *first_child, size_t first_children,
+    uint32_t *first_hop, size_t first_hops,
+    uint16_t *hop_row, size_t hop_rows);
+
+/* One lookup in a tree bitmap: tests 1, 8, 9; at most width / 4 + 1 reads. Over a record and lists that one accepted build left
+ * together: the hop of the table's longest prefix that begins the address, or 0 where none does. Over any other: the hop of the
+ * longest entry that the internal maps on the address's path have, as it is found there. No list changes. */
+hongsamuk_answer hongsamuk_lookup_bitmap(
+    hongsamuk_bitmap record,
+    const uint16_t *internal, size_t internals,
+    const uint16_t *external, size_t externals,
+    const uint32_t *first_child, size_t first_children,
+    const uint32_t *first_hop, size_t first_hops,
+    const uint16_t *hop_row, size_t hop_rows,
+    uint32_t address);
+
 #ifdef __cplusplus
 }
 #endif
@@ -197,6 +256,10 @@ HONGSAMUK_AT(hongsamuk_record, elements, 8);
 HONGSAMUK_AT(hongsamuk_record, floor, 12);
 HONGSAMUK_AT(hongsamuk_record, strides, 14);
 HONGSAMUK_SIZE(hongsamuk_record, 24);
+HONGSAMUK_AT(hongsamuk_bitmap, width, 0);
+HONGSAMUK_AT(hongsamuk_bitmap, supernodes, 4);
+HONGSAMUK_AT(hongsamuk_bitmap, hops, 8);
+HONGSAMUK_SIZE(hongsamuk_bitmap, 12);
 HONGSAMUK_AT(hongsamuk_checked, number, 0);
 HONGSAMUK_AT(hongsamuk_checked, detail, 8);
 HONGSAMUK_SIZE(hongsamuk_checked, 16);
@@ -217,6 +280,10 @@ HONGSAMUK_AT(hongsamuk_built, number, 0);
 HONGSAMUK_AT(hongsamuk_built, detail, 8);
 HONGSAMUK_AT(hongsamuk_built, record, 16);
 HONGSAMUK_SIZE(hongsamuk_built, 40);
+HONGSAMUK_AT(hongsamuk_built_bitmap, number, 0);
+HONGSAMUK_AT(hongsamuk_built_bitmap, detail, 8);
+HONGSAMUK_AT(hongsamuk_built_bitmap, record, 16);
+HONGSAMUK_SIZE(hongsamuk_built_bitmap, 32);
 HONGSAMUK_AT(hongsamuk_answer, number, 0);
 HONGSAMUK_AT(hongsamuk_answer, hop, 4);
 HONGSAMUK_AT(hongsamuk_answer, reads, 8);

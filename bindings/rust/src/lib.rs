@@ -10,10 +10,10 @@
 //! | 3 | lists of unequal length, or more than 4,096 entries | 0 |
 //! | 4 | an entry is no prefix of that width, or has a bad hop | its index |
 //! | 5 | an entry does not stand above the one before | its index |
-//! | 6 | scratch has too few whole rows | the rows needed |
-//! | 7 | too little room for elements, or above 16,777,216 | the elements needed |
+//! | 6 | scratch has too few whole rows for the table's trie | the rows needed |
+//! | 7 | too little room for elements, or above 16,777,216; of a bitmap too little for supernodes, then for hops | those needed |
 //! | 8 | the address is not below 2^width | 0 |
-//! | 9 | a damaged record or damaged rows | 0 |
+//! | 9 | a damaged record, damaged elements or a damaged bitmap | 0 |
 //! | 10 | a prefix that is asked about is malformed | 0 |
 
 pub mod raw;
@@ -28,6 +28,9 @@ pub const ENTRIES: usize = 4096;
 pub const ELEMENTS: u32 = 16_777_216;
 /// Numbers in a scratch row; a build needs one row for each node of the table's 1-bit trie.
 pub const SCRATCH_ROW: usize = 24;
+/// Numbers in a scratch row of a bitmap's build; it needs one row for each node of the table's binary trie: for every start of an
+/// entry, the whole entry and length 0 included.
+pub const NODE_ROW: usize = 4;
 
 /// What a call decides before it answers.
 #[derive(Clone, Copy, PartialEq, Eq, Debug)]
@@ -79,6 +82,17 @@ pub struct Record {
     pub strides: [u8; LEVELS],
 }
 
+/// What a bitmap's build hands back beside its rows; all of it is lent to each lookup. Any numbers may stand in it.
+#[repr(C)]
+#[derive(Clone, Copy, PartialEq, Eq, Debug, Default)]
+pub struct Bitmap {
+    pub width: u32,
+    /// Rows 0 to `supernodes` - 1 of the four lists of a bitmap are the build's.
+    pub supernodes: u32,
+    /// Hop rows 0 to `hops` - 1 are the build's: as many as the table has entries.
+    pub hops: u32,
+}
+
 /// A table, lent: the width, and value, length and hop of each entry.
 #[derive(Clone, Copy, PartialEq, Eq, Debug)]
 pub struct Table<'a> {
@@ -111,6 +125,30 @@ pub struct RowsMut<'a> {
     pub stride: &'a mut [u8],
 }
 
+/// The rows of a tree bitmap, to read: four lists of supernodes, and the hops.
+#[derive(Clone, Copy, PartialEq, Eq, Debug)]
+pub struct BitmapRows<'a> {
+    /// Which entries end in the supernode's four levels, level by level, the lowest bit first.
+    pub internal: &'a [u16],
+    /// Which children it has, four bits further on, from left to right, the lowest bit first.
+    pub external: &'a [u16],
+    /// The number of the first of its children, which lie in a row; 0 where it has none.
+    pub first_child: &'a [u32],
+    /// The hop row of the first of its entries, which lie in the order of the internal map; 0 where it has none.
+    pub first_hop: &'a [u32],
+    pub hop_row: &'a [u16],
+}
+
+/// Room for the rows of a tree bitmap.
+#[derive(PartialEq, Eq, Debug)]
+pub struct BitmapRowsMut<'a> {
+    pub internal: &'a mut [u16],
+    pub external: &'a mut [u16],
+    pub first_child: &'a mut [u32],
+    pub first_hop: &'a mut [u32],
+    pub hop_row: &'a mut [u16],
+}
+
 /// Room for the answers of a batch: number (0: accepted), hop (0: no route) and reads of each address.
 #[derive(PartialEq, Eq, Debug)]
 pub struct AnswersMut<'a> {
@@ -132,6 +170,13 @@ pub struct Chosen {
 pub struct Built {
     pub outcome: Outcome,
     pub record: Record,
+}
+
+/// What a bitmap's build answers; refused, the record is all zeros.
+#[derive(Clone, Copy, PartialEq, Eq, Debug)]
+pub struct BuiltBitmap {
+    pub outcome: Outcome,
+    pub record: Bitmap,
 }
 
 fn outcome(number: u32, detail: u64) -> Outcome {
@@ -307,4 +352,61 @@ pub fn lookup_batch(record: &Record, rows: Rows, addresses: &[u32], answers: Ans
             answers.reads.len(),
         )
     }
+}
+
+/// Turns a table into a tree bitmap, with a supernode for each start of an entry that has 0, 4, 8 .. bits: tests 1, 3 to 7.
+/// Accepted, all of scratch is 0, as many rows of the four lists and as many hop rows as the record says are the build's, and later
+/// rows are as they were. Refused by 7, all of scratch is 0 and no row changes; refused by 1 to 6, no list changes.
+pub fn build_bitmap(table: Table, scratch: &mut [u64], rows: BitmapRowsMut) -> BuiltBitmap {
+    let Table { width, value, length, hop } = table;
+    // SAFETY: pointers and lengths are those of slices; the call writes scratch and rows only, which nobody else borrows.
+    let built = unsafe {
+        raw::hongsamuk_build_bitmap(
+            width,
+            value.as_ptr(),
+            value.len(),
+            length.as_ptr(),
+            length.len(),
+            hop.as_ptr(),
+            hop.len(),
+            scratch.as_mut_ptr(),
+            scratch.len(),
+            rows.internal.as_mut_ptr(),
+            rows.internal.len(),
+            rows.external.as_mut_ptr(),
+            rows.external.len(),
+            rows.first_child.as_mut_ptr(),
+            rows.first_child.len(),
+            rows.first_hop.as_mut_ptr(),
+            rows.first_hop.len(),
+            rows.hop_row.as_mut_ptr(),
+            rows.hop_row.len(),
+        )
+    };
+    BuiltBitmap { outcome: outcome(built.number, built.detail), record: built.record }
+}
+
+/// One lookup in a tree bitmap: tests 1, 8, 9. Over a record and rows that one accepted build left together: a match with the hop
+/// of the table's longest prefix that begins the address, or no route where none does. Over any other: the hop of the longest entry
+/// that the internal maps on the address's path have, as it is found there. Reads are the supernodes read.
+#[inline]
+pub fn lookup_bitmap(record: &Bitmap, rows: BitmapRows, address: u32) -> Answer {
+    // SAFETY: pointers and lengths are those of slices, which the call only reads.
+    let answer = unsafe {
+        raw::hongsamuk_lookup_bitmap(
+            *record,
+            rows.internal.as_ptr(),
+            rows.internal.len(),
+            rows.external.as_ptr(),
+            rows.external.len(),
+            rows.first_child.as_ptr(),
+            rows.first_child.len(),
+            rows.first_hop.as_ptr(),
+            rows.first_hop.len(),
+            rows.hop_row.as_ptr(),
+            rows.hop_row.len(),
+            address,
+        )
+    };
+    answer.into()
 }

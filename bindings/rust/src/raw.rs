@@ -1,7 +1,7 @@
 //! The calls of `include/hongsamuk.h` as they are: pointers and lengths. A pointer must be good for its length, or the length 0.
 //! The structures are laid out as in C; `tests/layout.rs` holds them to the table in the header's comment.
 
-use crate::{Record, LEVELS};
+use crate::{Bitmap, Record, LEVELS};
 
 #[repr(C)]
 #[derive(Clone, Copy, PartialEq, Eq, Debug, Default)]
@@ -41,6 +41,14 @@ pub struct Built {
     pub number: u32,
     pub detail: u64,
     pub record: Record,
+}
+
+#[repr(C)]
+#[derive(Clone, Copy, PartialEq, Eq, Debug, Default)]
+pub struct BuiltBitmap {
+    pub number: u32,
+    pub detail: u64,
+    pub record: Bitmap,
 }
 
 #[repr(C)]
@@ -202,4 +210,41 @@ extern "C" {
         reads: *mut u32,
         counts: usize,
     ) -> usize;
+
+    pub fn hongsamuk_build_bitmap(
+        width: u32,
+        value: *const u32,
+        values: usize,
+        length: *const u8,
+        lengths: usize,
+        hop: *const u16,
+        hops: usize,
+        scratch: *mut u64,
+        words: usize,
+        internal: *mut u16,
+        internals: usize,
+        external: *mut u16,
+        externals: usize,
+        first_child: *mut u32,
+        first_children: usize,
+        first_hop: *mut u32,
+        first_hops: usize,
+        hop_row: *mut u16,
+        hop_rows: usize,
+    ) -> BuiltBitmap;
+
+    pub fn hongsamuk_lookup_bitmap(
+        record: Bitmap,
+        internal: *const u16,
+        internals: usize,
+        external: *const u16,
+        externals: usize,
+        first_child: *const u32,
+        first_children: usize,
+        first_hop: *const u32,
+        first_hops: usize,
+        hop_row: *const u16,
+        hop_rows: usize,
+        address: u32,
+    ) -> Answer;
 }
