@@ -1,7 +1,8 @@
 //! The archive's calls over lent lists: what is only read is lent from the view that cannot be written.
 
 use crate::memory::{Edge, Lent};
-use hongsamuk::{raw, Record};
+use hongsamuk::{raw, Bitmap, Record};
+use reference::bitmap::Supernodes;
 use reference::build::Elements;
 use reference::choices::Kind;
 use reference::random::Random;
@@ -16,6 +17,11 @@ pub struct Lists {
     pub row_hop: Lent<u16>,
     pub row_link: Lent<u32>,
     pub row_stride: Lent<u8>,
+    pub internal: Lent<u16>,
+    pub external: Lent<u16>,
+    pub first_child: Lent<u32>,
+    pub first_hop: Lent<u32>,
+    pub hop_row: Lent<u16>,
     address: Lent<u32>,
     pub number: Lent<u32>,
     pub best: Lent<u16>,
@@ -27,6 +33,7 @@ pub struct Most {
     pub entries: usize,
     pub words: usize,
     pub rows: usize,
+    pub supernodes: usize,
     pub addresses: usize,
 }
 
@@ -45,6 +52,11 @@ impl Lists {
             row_hop: Lent::new(most.rows, edge),
             row_link: Lent::new(most.rows, edge),
             row_stride: Lent::new(most.rows, edge),
+            internal: Lent::new(most.supernodes, edge),
+            external: Lent::new(most.supernodes, edge),
+            first_child: Lent::new(most.supernodes, edge),
+            first_hop: Lent::new(most.supernodes, edge),
+            hop_row: Lent::new(most.entries, edge),
             address: Lent::new(most.addresses, edge),
             number: Lent::new(most.addresses, edge),
             best: Lent::new(most.addresses, edge),
@@ -66,6 +78,14 @@ impl Lists {
         lend(&mut self.row_hop, &rows.hop, random);
         lend(&mut self.row_link, &rows.link, random);
         lend(&mut self.row_stride, &rows.stride, random);
+    }
+
+    pub fn lend_bitmap(&mut self, rows: &Supernodes, random: &mut Random) {
+        lend(&mut self.internal, &rows.internal, random);
+        lend(&mut self.external, &rows.external, random);
+        lend(&mut self.first_child, &rows.first_child, random);
+        lend(&mut self.first_hop, &rows.first_hop, random);
+        lend(&mut self.hop_row, &rows.hop_row, random);
     }
 
     pub fn lend_addresses(&mut self, addresses: &[u32], random: &mut Random) {
@@ -166,6 +186,51 @@ impl Lists {
                 self.row_link.len(),
                 self.row_stride.read(),
                 self.row_stride.len(),
+                address,
+            )
+        }
+    }
+
+    pub fn build_bitmap(&mut self, width: u32) -> raw::BuiltBitmap {
+        unsafe {
+            raw::hongsamuk_build_bitmap(
+                width,
+                self.value.read(),
+                self.value.len(),
+                self.length.read(),
+                self.length.len(),
+                self.hop.read(),
+                self.hop.len(),
+                self.scratch.write(),
+                self.scratch.len(),
+                self.internal.write(),
+                self.internal.len(),
+                self.external.write(),
+                self.external.len(),
+                self.first_child.write(),
+                self.first_child.len(),
+                self.first_hop.write(),
+                self.first_hop.len(),
+                self.hop_row.write(),
+                self.hop_row.len(),
+            )
+        }
+    }
+
+    pub fn lookup_bitmap(&self, record: Bitmap, address: u32) -> raw::Answer {
+        unsafe {
+            raw::hongsamuk_lookup_bitmap(
+                record,
+                self.internal.read(),
+                self.internal.len(),
+                self.external.read(),
+                self.external.len(),
+                self.first_child.read(),
+                self.first_child.len(),
+                self.first_hop.read(),
+                self.first_hop.len(),
+                self.hop_row.read(),
+                self.hop_row.len(),
                 address,
             )
         }

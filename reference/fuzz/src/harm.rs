@@ -4,7 +4,7 @@ use reference::build::{Elements, Record};
 use reference::choices::LEVELS;
 use reference::random::Random;
 
-fn pick<T: Copy>(random: &mut Random, from: &[T]) -> T {
+pub fn pick<T: Copy>(random: &mut Random, from: &[T]) -> T {
     from[random.within(0, from.len() as u64 - 1) as usize]
 }
 

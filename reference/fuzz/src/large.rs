@@ -1,5 +1,6 @@
-//! The limit of elements, and tables of 4,096 entries.
+//! The limit of elements, and tables of 4,096 entries in both layouts.
 
+use crate::bitmaps::needed;
 use crate::calls::{Lists, Most};
 use crate::memory::Edge;
 use crate::tally::Tally;
@@ -14,7 +15,8 @@ const KINDS: [Kind; 2] = [Kind::Fixed, Kind::Variable];
 /// Twice the limit of elements.
 const ROWS: usize = 2 * ELEMENTS as usize;
 /// 4,096 entries of 32 bits have at most 131,072 nodes.
-const LARGE: Most = Most { entries: ENTRIES, words: 24 << 17, rows: ROWS, addresses: ASKED as usize + 8 };
+const LARGE: Most =
+    Most { entries: ENTRIES, words: 24 << 17, rows: ROWS, supernodes: 1 << 17, addresses: ASKED as usize + 8 };
 /// Addresses asked of each build.
 const ASKED: u64 = 1_000;
 /// Element lists for tables of 4,096 entries; some builds need more and are refused.
@@ -48,15 +50,18 @@ fn limits(trial: &mut Trial) -> Same {
     Ok(())
 }
 
-/// Tables of 4,096 entries: neighbours, all of 32 bits, of any lengths, and of 8 to 24 bits.
+/// Tables of 4,096 entries: neighbours, all of 32 bits, of any lengths, of 8 to 24 bits, and all of 32 bits that part in the first 12.
 fn tables(random: &mut Random) -> Vec<Table> {
     let n = ENTRIES as u32;
     let neighbours = (0..n).map(|i| (2 * i, 12)).collect();
     let hosts = (0..n).map(|i| (u32::MAX - n + 1 + i, 32)).collect();
+    let parted = (0..n).map(|i| (i << 20, 32)).collect();
     let routes = (0..2 * n).map(|_| random.prefix(32, 8, 24)).collect();
     let nested = random.table(32, 2 * ENTRIES);
     let nested = nested.value.into_iter().zip(nested.length).collect();
-    vec![of(13, neighbours, random), of(32, hosts, random), of(32, nested, random), of(32, routes, random)]
+    let mut tables = vec![of(13, neighbours, random), of(32, hosts, random), of(32, nested, random)];
+    tables.extend([of(32, routes, random), of(32, parted, random)]);
+    tables
 }
 
 fn many(trial: &mut Trial) -> Same {
@@ -69,13 +74,31 @@ fn many(trial: &mut Trial) -> Same {
             }
         }
         println!("table {i}, {} entries of width {}, both kinds, k = 1, 2, 3, 5, 8", table.value.len(), table.width);
+        bitmaps(trial, table).map_err(|text| format!("table {i} as a bitmap: {text}"))?;
     }
+    Ok(())
+}
+
+/// The bitmap of the table that is lent, in lists just long enough, then with each of them in turn one shorter.
+fn bitmaps(trial: &mut Trial, table: &Table) -> Same {
+    let (words, supernodes, hops) = needed(table);
+    let (rows, hops) = (supernodes as usize, hops as usize);
+    let mut outcomes = vec![];
+    for short in 0..7 {
+        let words = words as usize - (short == 1) as usize;
+        let lengths = [2, 3, 4, 5].map(|list| rows - (short == list) as usize);
+        let scratch = trial.marks(words, |mark| mark | 1);
+        let lists = trial.bitmap_room(lengths, hops - (short == 6) as usize);
+        outcomes.push(trial.bitmap_over(table, scratch, lists)?);
+    }
+    let told: String = outcomes.iter().map(|o| format!(" {}/{}", o.number, o.detail)).collect();
+    println!("as a bitmap: {supernodes} supernodes; number/detail just long enough, then one short:{told}");
     Ok(())
 }
 
 pub fn run() -> bool {
     let (mut lists, mut tally) = (Lists::new(&LARGE, Edge::Last), Tally::default());
-    let mut trial = Trial { lists: &mut lists, tally: &mut tally, random: Random::new(SEED), asked: ASKED };
+    let mut trial = Trial::new(&mut lists, &mut tally, Random::new(SEED), ASKED);
     let same = limits(&mut trial).and_then(|()| many(&mut trial));
     if let Err(text) = same {
         println!("DIFFERENCE: {text}");

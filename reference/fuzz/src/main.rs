@@ -1,5 +1,7 @@
 //! The archive for C against the independent reference, call by call, over lists that end at memory that may not be touched.
 
+mod bitmap_harm;
+mod bitmaps;
 mod calls;
 mod harm;
 mod large;
@@ -18,7 +20,8 @@ use trying::{Trial, SMALL};
 const USAGE: &str = "usage: fuzz run [--seed S] [--first CASE] [--builds N] [--lookups M] [--edge 0|1]
        fuzz large
        fuzz planted [--seed S]
-run tries cases until at least N builds and M lookups were done, from case CASE (0) on; the first difference ends it with status 1.
+run tries cases until at least N builds of elements and M lookups in them were done, and tree bitmaps with each, from case CASE (0) on;
+the first difference ends it with status 1.
 Each lent list ends at a page that may not be touched; with --edge 1 each begins after one instead.";
 
 /// Every so many cases one has a record and rows of any numbers instead of a table.
@@ -66,16 +69,16 @@ fn run(wanted: &Wanted) -> bool {
     let mut case = wanted.first;
     while tally.builds() < wanted.builds || tally.lookups() < wanted.lookups {
         let random = generator(wanted.seed, case);
-        let mut trial = Trial { lists: &mut lists, tally: &mut tally, random, asked: ASKED };
+        let mut trial = Trial::new(&mut lists, &mut tally, random, ASKED);
         let same = if case % NOISE == NOISE - 1 { trial.noise() } else { trial.table() };
         case += 1;
         if let Err(text) = same {
             println!("seed {} case {}: DIFFERENCE: {text}", wanted.seed, case - 1);
-            println!("caught after {case} cases, {} builds, {} lookups", tally.builds(), tally.lookups());
+            println!("caught after {case} cases, {}", tally.done());
             return false;
         }
         if case % TOLD == 0 {
-            eprintln!("case {case}: {} builds, {} lookups", tally.builds(), tally.lookups());
+            eprintln!("case {case}: {}", tally.done());
         }
     }
     tally.print();

@@ -1,5 +1,6 @@
 //! How often each call gave each answer.
 
+use reference::bitmap;
 use reference::lookup::Damage;
 use std::collections::BTreeMap;
 
@@ -17,9 +18,11 @@ pub enum Call {
     BuildVariable,
     Lookup,
     BatchedLookup,
+    BuildBitmap,
+    LookupBitmap,
 }
 
-const CALLS: [Call; 9] = [
+const CALLS: [Call; 11] = [
     Call::Check,
     Call::SharedLength,
     Call::ZoneSpan,
@@ -29,15 +32,27 @@ const CALLS: [Call; 9] = [
     Call::BuildVariable,
     Call::Lookup,
     Call::BatchedLookup,
+    Call::BuildBitmap,
+    Call::LookupBitmap,
 ];
 
 #[derive(Default)]
 pub struct Tally {
     numbers: [[u64; NUMBERS]; CALLS.len()],
     damages: BTreeMap<Damage, u64>,
+    bitmap_damages: BTreeMap<bitmap::Damage, u64>,
     pub no_routes: u64,
     pub batches: u64,
     pub longest: u64,
+    /// Of lookups in bitmaps: those without a route, those held to longest match besides, and those held to the hop that the
+    /// elements of the same table gave.
+    pub bitmap_no_routes: u64,
+    pub bitmap_longest: u64,
+    pub agreed: u64,
+}
+
+fn by_clause<T: std::fmt::Debug>(damages: &BTreeMap<T, u64>) -> String {
+    damages.iter().map(|(damage, times)| format!("{damage:?} {times}")).collect::<Vec<_>>().join(", ")
 }
 
 impl Tally {
@@ -49,16 +64,27 @@ impl Tally {
         *self.damages.entry(damage).or_insert(0) += 1;
     }
 
+    pub fn bitmap_damage(&mut self, damage: bitmap::Damage) {
+        *self.bitmap_damages.entry(damage).or_insert(0) += 1;
+    }
+
     pub fn of(&self, call: Call) -> u64 {
         self.numbers[call as usize].iter().sum()
     }
 
+    /// Builds of elements; and below lookups in them.
     pub fn builds(&self) -> u64 {
         self.of(Call::BuildFixed) + self.of(Call::BuildVariable)
     }
 
     pub fn lookups(&self) -> u64 {
         self.of(Call::Lookup) + self.of(Call::BatchedLookup)
+    }
+
+    /// What was done until a difference was met.
+    pub fn done(&self) -> String {
+        let (bitmaps, asked) = (self.of(Call::BuildBitmap), self.of(Call::LookupBitmap));
+        format!("{} builds, {} lookups, {bitmaps} bitmaps, {asked} lookups in these", self.builds(), self.lookups())
     }
 
     pub fn print(&self) {
@@ -70,9 +96,11 @@ impl Tally {
                 .collect();
             println!("{call:?}: {} calls, accepted: {}{refused}", self.of(call), numbers[0]);
         }
-        let damages: Vec<String> = self.damages.iter().map(|(damage, times)| format!("{damage:?} {times}")).collect();
-        println!("lookups without a route: {}; refusal 9 by clause: {}", self.no_routes, damages.join(", "));
+        println!("lookups without a route: {}; refusal 9 by clause: {}", self.no_routes, by_clause(&self.damages));
         println!("batches: {}; answers held to longest match besides: {}", self.batches, self.longest);
-        println!("builds: {}; lookups: {}", self.builds(), self.lookups());
+        let clauses = by_clause(&self.bitmap_damages);
+        println!("lookups in bitmaps without a route: {}; refusal 9 by clause: {clauses}", self.bitmap_no_routes);
+        println!("held to longest match besides: {}; to the elements' hop: {}", self.bitmap_longest, self.agreed);
+        println!("{}", self.done());
     }
 }

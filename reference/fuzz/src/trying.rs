@@ -13,15 +13,16 @@ use reference::random::Random;
 use reference::table::{self, Refusal, Table, ENTRIES};
 use reference::trie::Trie;
 
-/// Lists of the small cases: 12 entries at width 32 have at most 384 nodes; longer element lists are not needed at small widths.
-pub const SMALL: Most = Most { entries: ENTRIES + 8, words: 10_240, rows: 1_200, addresses: 64 };
+/// Lists of the small cases: 12 entries at width 32 have at most 384 nodes and 97 supernodes; longer element lists are not needed
+/// at small widths.
+pub const SMALL: Most = Most { entries: ENTRIES + 8, words: 10_240, rows: 1_200, supernodes: 128, addresses: 64 };
 /// All addresses are asked where there are at most so many.
 const ALL: u32 = 4;
 
 /// The two sides differ: what was asked, and both answers.
 pub type Same = Result<(), String>;
 
-fn same<T: PartialEq + std::fmt::Debug>(what: &str, archive: T, reference: T) -> Same {
+pub fn same<T: PartialEq + std::fmt::Debug>(what: &str, archive: T, reference: T) -> Same {
     if archive == reference {
         return Ok(());
     }
@@ -29,7 +30,7 @@ fn same<T: PartialEq + std::fmt::Debug>(what: &str, archive: T, reference: T) ->
 }
 
 /// Long lists are told by their first difference.
-fn same_list<T: PartialEq + std::fmt::Debug>(what: &str, archive: &[T], reference: &[T]) -> Same {
+pub fn same_list<T: PartialEq + std::fmt::Debug>(what: &str, archive: &[T], reference: &[T]) -> Same {
     if archive == reference {
         return Ok(());
     }
@@ -39,7 +40,7 @@ fn same_list<T: PartialEq + std::fmt::Debug>(what: &str, archive: &[T], referenc
     }
 }
 
-fn numbers(outcome: Result<(), Refusal>) -> (u32, u64) {
+pub fn numbers(outcome: Result<(), Refusal>) -> (u32, u64) {
     outcome.map_or_else(|refusal| (refusal.number, refusal.detail), |()| (0, 0))
 }
 
@@ -54,9 +55,15 @@ pub struct Trial<'a> {
     pub random: Random,
     /// Addresses asked of each build, where not all are.
     pub asked: u64,
+    /// What the last build of elements answers to the addresses that it was asked.
+    pub answers: Vec<(u32, raw::Answer)>,
 }
 
 impl Trial<'_> {
+    pub fn new<'a>(lists: &'a mut Lists, tally: &'a mut Tally, random: Random, asked: u64) -> Trial<'a> {
+        Trial { lists, tally, random, asked, answers: vec![] }
+    }
+
     fn levels(&mut self) -> u32 {
         if self.random.one_in(40) {
             return [0, 9, 255, 256, u32::MAX][self.random.within(0, 4) as usize];
@@ -73,7 +80,7 @@ impl Trial<'_> {
     }
 
     /// A number at, just below or above `about`, or any up to it.
-    fn around(&mut self, about: u64, above: u64) -> usize {
+    pub fn around(&mut self, about: u64, above: u64) -> usize {
         let length = match self.random.within(0, 15) {
             0 => about.saturating_sub(1),
             1 => self.random.within(0, about),
@@ -83,7 +90,7 @@ impl Trial<'_> {
         length as usize
     }
 
-    fn marks<T>(&mut self, length: usize, of: impl Fn(u64) -> T) -> Vec<T> {
+    pub fn marks<T>(&mut self, length: usize, of: impl Fn(u64) -> T) -> Vec<T> {
         let first = self.random.next();
         (0..length as u64).map(|i| of(first.wrapping_mul(2 * i + 1) >> 7)).collect()
     }
@@ -122,7 +129,8 @@ impl Trial<'_> {
         let (kind, levels) = (self.kind(), self.levels());
         let told = |text| format!("{table:?} {kind:?} levels {levels}: {text}");
         let cost = self.choose(&table, kind, levels).map_err(told)?;
-        self.build(&table, kind, levels, cost).map_err(told)
+        self.build(&table, kind, levels, cost).map_err(told)?;
+        self.bitmap(&table).map_err(told)
     }
 
     /// A given table through every call, with just enough scratch and element lists of that length. Answers the build's outcome.
@@ -184,6 +192,7 @@ impl Trial<'_> {
         mut scratch: Vec<u64>,
         mut rows: Elements,
     ) -> Result<Refusal, String> {
+        self.answers.clear();
         self.lists.lend_scratch(&scratch, &mut self.random);
         self.lists.lend_rows(&rows, &mut self.random);
         let (outcome, record) = build(kind, levels, table, &mut scratch, &mut rows);
@@ -207,7 +216,8 @@ impl Trial<'_> {
     fn after(&mut self, table: &Table, mut record: Record, mut rows: Elements) -> Same {
         let addresses = self.addresses(table);
         self.longest(table, &record, &rows, addresses[0])?;
-        self.look(&record, &rows, &addresses)?;
+        let answers = self.look(&record, &rows, &addresses)?;
+        self.answers = addresses.iter().copied().zip(answers).collect();
         if self.random.one_in(2) {
             harm::harm(&mut record, &mut rows, &mut self.random);
             self.lists.lend_rows(&rows, &mut self.random);
@@ -234,11 +244,12 @@ impl Trial<'_> {
         self.lists.lend_rows(&rows, &mut self.random);
         let below = 1u64 << record.width;
         let addresses: Vec<u32> = (0..self.asked).map(|_| self.random.within(0, below) as u32).collect();
-        self.look(&record, &rows, &addresses).map_err(|text| format!("{record:?} {rows:?}: {text}"))
+        self.look(&record, &rows, &addresses).map_err(|text| format!("{record:?} {rows:?}: {text}"))?;
+        self.bitmap_noise()
     }
 
     /// At and around entries, any, and some that are too large; all of a narrow table's.
-    fn addresses(&mut self, table: &Table) -> Vec<u32> {
+    pub fn addresses(&mut self, table: &Table) -> Vec<u32> {
         let last = ((1u64 << table.width) - 1) as u32;
         if table.width <= ALL {
             return (0..=last + 1).collect();
@@ -277,8 +288,8 @@ impl Trial<'_> {
         }
     }
 
-    /// The addresses one by one, then in a batch, over the rows that are lent.
-    fn look(&mut self, record: &Record, rows: &Elements, addresses: &[u32]) -> Same {
+    /// The addresses one by one, then in a batch, over the rows that are lent. Returns the answers, which both sides have.
+    fn look(&mut self, record: &Record, rows: &Elements, addresses: &[u32]) -> Result<Vec<raw::Answer>, String> {
         let mut answers = vec![];
         for address in addresses {
             let expected = self.expected(record, rows, *address);
@@ -287,7 +298,8 @@ impl Trial<'_> {
             same(&format!("lookup of {address}"), answer, expected)?;
             answers.push(expected);
         }
-        self.batch(record, addresses, &answers)
+        self.batch(record, addresses, &answers)?;
+        Ok(answers)
     }
 
     fn batch(&mut self, record: &Record, addresses: &[u32], answers: &[raw::Answer]) -> Same {

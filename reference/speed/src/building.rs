@@ -1,5 +1,7 @@
-//! Builds: the archive against the same algorithm in plain Rust, and how the time grows; and how many elements they need.
+//! Builds: the archive against the same algorithm in plain Rust, and how the time grows; and how many elements they need, and how
+//! many bytes beside a tree bitmap.
 
+use crate::bitmaps::{needed, timed_build, Needed, HOP, SUPERNODE};
 use crate::plain;
 use crate::rounds::{alternate, Timed};
 use crate::routes::{Routes, WIDTH};
@@ -14,6 +16,8 @@ const ROUNDS: usize = 101;
 const ELEMENTS: usize = hongsamuk::ELEMENTS as usize;
 /// Rows of a block of 8 bits.
 const OCTET: u64 = 256;
+/// Bytes of an element in the three lists.
+const ELEMENT: u64 = 7;
 
 /// Element lists.
 #[derive(Clone)]
@@ -93,40 +97,45 @@ fn milliseconds(nanoseconds: f64) -> f64 {
     nanoseconds / 1e6
 }
 
-/// All k at the full size.
+/// What was timed, in the last columns of a row.
+fn columns(timed: &Timed) -> String {
+    format!("{:.2} | {:.2} | {:.2} |", milliseconds(timed.first), milliseconds(timed.second), timed.ratio)
+}
+
+/// All k at the full size, and the bitmap.
 pub fn measure(routes: &Routes) {
-    println!("| Kind | k | E | Archive, ms | Plain Rust, ms | Ratio |");
+    println!("| Kind | k | Rows | Archive, ms | Plain Rust, ms | Ratio |");
     println!("|---|---|---|---|---|---|");
     for kind in [Kind::Fixed, Kind::Variable] {
         for levels in 1..=LEVELS {
             let (timed, cost) = timed(kind, levels, routes);
-            let (ours, theirs) = (milliseconds(timed.first), milliseconds(timed.second));
-            println!("| {kind:?} | {levels} | {cost} | {ours:.2} | {theirs:.2} | {:.2} |", timed.ratio);
+            println!("| {kind:?} | {levels} | {cost} | {}", columns(&timed));
         }
     }
+    let (timed, Needed { supernodes, .. }) = timed_build(routes, ROUNDS);
+    println!("| Bitmap | | {supernodes} | {}", columns(&timed));
 }
 
 /// Growth with the number of routes.
 pub fn growth(seed: u64) {
-    println!("| Kind | k | n | 1-bit nodes | E | Archive, ms | Plain Rust, ms | Ratio |");
+    println!("| Kind | k | n | Trie nodes | Rows | Archive, ms | Plain Rust, ms | Ratio |");
     println!("|---|---|---|---|---|---|---|---|");
     for kind in [Kind::Fixed, Kind::Variable] {
         for levels in [K, LEVELS] {
             for n in SIZES {
                 let routes = Routes::new(n, 0, seed);
                 let (timed, cost) = timed(kind, levels, &routes);
-                let (ours, theirs) = (milliseconds(timed.first), milliseconds(timed.second));
-                let nodes = nodes(&routes);
-                println!(
-                    "| {kind:?} | {levels} | {n} | {nodes} | {cost} | {ours:.2} | {theirs:.2} | {:.2} |",
-                    timed.ratio
-                );
+                println!("| {kind:?} | {levels} | {n} | {} | {cost} | {}", nodes(&routes), columns(&timed));
             }
         }
     }
+    for n in SIZES {
+        let (timed, Needed { nodes, supernodes }) = timed_build(&Routes::new(n, 0, seed), ROUNDS);
+        println!("| Bitmap | | {n} | {nodes} | {supernodes} | {}", columns(&timed));
+    }
 }
 
-/// E of both kinds against a table of one level, and one of 8, 8, 8 and 8 bits.
+/// E of both kinds against a table of one level, and one of 8, 8, 8 and 8 bits; then bytes.
 pub fn memory(routes: &Routes) {
     let octets: u64 = (0..WIDTH).step_by(8).map(|level| routes.nodes(level) * OCTET).sum();
     let one = 1u64 << routes.longest();
@@ -142,4 +151,21 @@ pub fn memory(routes: &Routes) {
             .collect();
         println!("| {levels} |{columns}");
     }
+    println!();
+    bytes(routes);
+}
+
+/// Bytes a route of both kinds, and of the tree bitmap.
+fn bytes(routes: &Routes) {
+    let a_route = |bytes: u64| bytes as f64 / routes.value.len() as f64;
+    println!("| k | Fixed: bytes a route | Variable: bytes a route |");
+    println!("|---|---|---|");
+    for levels in 2..=LEVELS {
+        let of = |kind| a_route(least(kind, levels, routes) * ELEMENT);
+        println!("| {levels} | {:.1} | {:.1} |", of(Kind::Fixed), of(Kind::Variable));
+    }
+    let (supernodes, hops) = (needed(routes).supernodes as u64, routes.value.len() as u64);
+    let bitmap = a_route(supernodes * SUPERNODE + hops * HOP);
+    let reads = routes.longest() / 4 + 1;
+    println!("\nTree bitmap: {supernodes} supernodes, {hops} hops, {bitmap:.1} bytes a route; at most {reads} reads.");
 }

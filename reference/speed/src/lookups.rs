@@ -1,9 +1,10 @@
-//! A million lookups: the archive against the plain walk, one by one and in a batch.
+//! A million lookups: the archive against plain Rust, in elements one by one and in a batch, and in a tree bitmap one by one.
 
+use crate::bitmaps::{timed_lookups, Arrays};
 use crate::building::{Rows, K};
 use crate::plain;
-use crate::rounds::alternate;
-use crate::routes::{Routes, PATTERNS};
+use crate::rounds::{alternate, Timed};
+use crate::routes::{Pattern, Routes, PATTERNS};
 use hongsamuk::{raw, AnswersMut, Kind, Record};
 
 const LOOKUPS: usize = 1_000_000;
@@ -52,15 +53,7 @@ fn archive_one_by_one(record: Record, rows: &Rows, addresses: &[u32]) -> u64 {
 
 fn plain_one_by_one(record: Record, rows: &Rows, addresses: &[u32]) -> u64 {
     let rows = rows.elements();
-    let mut sum = 0;
-    for address in addresses {
-        sum += match plain::lookup(record, rows, *address) {
-            plain::Answer::Match { hop, reads } => u64::from(hop) + u64::from(reads),
-            plain::Answer::NoRoute { reads } => u64::from(reads),
-            plain::Answer::Refused { number } => u64::from(number),
-        };
-    }
-    sum
+    addresses.iter().map(|address| plain::lookup(record, rows, *address).sum()).sum()
 }
 
 fn archive_batch(record: Record, rows: &Rows, addresses: &[u32], to: &mut Answers) -> u64 {
@@ -75,8 +68,14 @@ fn plain_batch(record: Record, rows: &Rows, addresses: &[u32], to: &mut Answers)
     to.sum(answered)
 }
 
+fn tell(kind: &str, rows: u32, pattern: Pattern, call: &str, timed: &Timed) {
+    let each = |time: f64| time / LOOKUPS as f64;
+    let (ours, theirs, ratio) = (each(timed.first), each(timed.second), timed.ratio);
+    println!("| {kind} | {rows} | {pattern:?} | {call} | {ours:.2} | {theirs:.2} | {ratio:.2} |");
+}
+
 pub fn measure(routes: &Routes) {
-    println!("| Kind | E | Addresses | Call | Archive, ns | Plain Rust, ns | Ratio |");
+    println!("| Kind | Rows | Addresses | Call | Archive, ns | Plain Rust, ns | Ratio |");
     println!("|---|---|---|---|---|---|---|");
     for kind in [Kind::Fixed, Kind::Variable] {
         let (record, rows) = Rows::of(kind, K, routes);
@@ -95,14 +94,14 @@ pub fn measure(routes: &Routes) {
             );
             assert!((&ours.number, &ours.hop, &ours.reads) == (&theirs.number, &theirs.hop, &theirs.reads));
             for (call, timed) in [("one by one", one), ("batch", batch)] {
-                println!(
-                    "| {kind:?} | {} | {pattern:?} | {call} | {:.2} | {:.2} | {:.2} |",
-                    record.elements,
-                    timed.first / LOOKUPS as f64,
-                    timed.second / LOOKUPS as f64,
-                    timed.ratio
-                );
+                tell(&format!("{kind:?}"), record.elements, pattern, call, &timed);
             }
         }
+    }
+    let (record, arrays) = Arrays::of(routes);
+    for pattern in PATTERNS {
+        let addresses = routes.addresses(pattern, LOOKUPS, SEED);
+        let timed = timed_lookups(record, &arrays, &addresses, ROUNDS);
+        tell("Bitmap", record.supernodes, pattern, "one by one", &timed);
     }
 }

@@ -1,5 +1,6 @@
 //! How fast the archive is, beside plain Rust that does the same; the tables of docs/SPEED.md.
 
+mod bitmaps;
 mod building;
 mod lookups;
 mod plain;

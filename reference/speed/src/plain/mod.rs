@@ -6,12 +6,16 @@ mod building;
 mod costs;
 mod fixed;
 mod rows;
+mod supernodes;
 mod table;
+mod visits;
 mod walk;
 
 pub use building::{build, Lent, SCRATCH_ROW};
+pub use supernodes::{build_bitmap, NODE_ROW};
 pub use table::Table;
-pub use walk::{lookup, lookup_batch, Answer, Answers, Elements};
+pub use visits::lookup_bitmap;
+pub use walk::{lookup, lookup_batch, Answers, Elements};
 
 /// The widest address.
 const WIDTH: u32 = 32;

@@ -1,0 +1,75 @@
+//! The lookup in a tree bitmap: tests 1, 8, 9, then one row a supernode, with no loop inside one.
+
+use super::walk::{finish, Answer, DAMAGED};
+use super::WIDTH;
+use hongsamuk::{Bitmap, BitmapRows};
+
+/// For each 4-bit path the places of an internal map that lie on it: one in each of its four levels.
+const MASKS: [u16; 16] = {
+    let mut masks = [0; 16];
+    let mut path = 0;
+    while path < 16 {
+        masks[path] = 1 | 1 << (1 + (path >> 3)) | 1 << (3 + (path >> 2)) | 1 << (7 + (path >> 1));
+        path += 1;
+    }
+    masks
+};
+/// The places of entries of at most 0, 1, 2 and 3 bits more than the supernode's own.
+const LIMITS: [u16; 4] = [0x1, 0x7, 0x7f, 0x7fff];
+
+/// How many bits of a map stand before a place.
+#[inline(always)]
+fn ones_before(map: u16, place: u32) -> usize {
+    (map & ((1 << place) - 1)).count_ones() as usize
+}
+
+#[inline(always)]
+fn visit(record: &Bitmap, rows: BitmapRows, address: u32) -> Answer {
+    if record.width == 0 || record.width > WIDTH {
+        return Answer::Refused { number: 1 };
+    }
+    if u64::from(address) >= 1 << record.width {
+        return Answer::Refused { number: 8 };
+    }
+    let (supernodes, hops) = (record.supernodes as usize, record.hops as usize);
+    let shortest = rows.internal.len().min(rows.external.len()).min(rows.first_child.len()).min(rows.first_hop.len());
+    if supernodes > shortest || hops > rows.hop_row.len() {
+        return DAMAGED;
+    }
+    if supernodes == 0 {
+        return Answer::NoRoute { reads: 0 };
+    }
+    let (mut best, mut at, mut left, mut reads) = (None, 0, record.width, 0);
+    loop {
+        if at >= supernodes {
+            return DAMAGED;
+        }
+        reads += 1;
+        let path = (u64::from(address) << 4 >> left) as u32 & 15;
+        let (internal, external) = (rows.internal[at], rows.external[at]);
+        let on = internal & MASKS[path as usize] & LIMITS[left.min(3) as usize];
+        if on != 0 {
+            let place = u16::BITS - 1 - on.leading_zeros();
+            best = Some(rows.first_hop[at] as usize + ones_before(internal, place));
+        }
+        if external >> path & 1 == 0 {
+            break;
+        }
+        if left < 4 {
+            return DAMAGED;
+        }
+        at = rows.first_child[at] as usize + ones_before(external, path);
+        left -= 4;
+    }
+    match best {
+        None => Answer::NoRoute { reads },
+        Some(place) if place >= hops => DAMAGED,
+        Some(place) => finish(rows.hop_row[place], reads),
+    }
+}
+
+/// One lookup behind a call, as the archive's is.
+#[inline(never)]
+pub fn lookup_bitmap(record: Bitmap, rows: BitmapRows, address: u32) -> Answer {
+    visit(&record, rows, address)
+}
