@@ -7,8 +7,8 @@ use crate::table::{refuse, test_width, Refusal, Table};
 use crate::trie::Trie;
 use std::collections::{BTreeMap, VecDeque};
 
-/// The numbers of one scratch row (01 leaves the constant to the project, at most 24).
-pub const SCRATCH_ROW: usize = 24;
+/// The numbers of one scratch row (01 leaves the constant to the project, at most 24; 02 allows 72).
+pub const SCRATCH_ROW: usize = 72;
 /// The largest E that any build accepts.
 pub const ELEMENTS: u64 = 16_777_216;
 
@@ -35,7 +35,7 @@ impl Elements {
     }
 }
 
-/// Test 2: k is 0 or above 8.
+/// Test 2: k is 0 or above 32 (02).
 pub fn test_levels(levels: u32) -> Result<(), Refusal> {
     if levels == 0 || levels > LEVELS as u32 {
         return refuse(2, 0);

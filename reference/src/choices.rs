@@ -5,8 +5,8 @@
 use crate::trie::Trie;
 use std::collections::BTreeMap;
 
-/// The level limit k is 1 to 8.
-pub const LEVELS: usize = 8;
+/// The level limit k is 1 to 32 (02; 01: to 8).
+pub const LEVELS: usize = 32;
 
 #[derive(Clone, Copy, PartialEq, Eq, Debug)]
 pub enum Kind {

@@ -5,8 +5,8 @@
 
 /// Width W is 1 to 32.
 pub const WIDTHS: u32 = 32;
-/// n is 0 to 4,096.
-pub const ENTRIES: usize = 4096;
+/// n is 0 to 65,536 (02; 01: to 4,096).
+pub const ENTRIES: usize = 65536;
 /// The hop that is no hop of an entry, besides 0.
 pub const NO_HOP: u16 = 65535;
 
@@ -57,7 +57,7 @@ impl Table {
         self.test_entries()
     }
 
-    /// Test 3: lists of unequal length, or n above 4,096.
+    /// Test 3: lists of unequal length, or n above 65,536.
     pub fn test_lists(&self) -> Result<(), Refusal> {
         let n = self.value.len();
         if self.length.len() != n || self.hop.len() != n || n > ENTRIES {

@@ -105,7 +105,7 @@ PAGE = 8192
 
 -- what the program lends to a build: scratch rows, and elements
 abbrev pub LENT-ROWS : ℕ
-LENT-ROWS = 320
+LENT-ROWS = 112
 
 abbrev pub LENT-ELEMENTS : ℕ
 LENT-ELEMENTS = 8192

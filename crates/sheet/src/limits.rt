@@ -25,6 +25,6 @@ pub const KIND_KEY: usize = 8;
 pub const PAGE: usize = 8192;
 
 // What the program lends to a build: scratch rows, and elements.
-pub const LENT_ROWS: usize = 320;
+pub const LENT_ROWS: usize = 112;
 
 pub const LENT_ELEMENTS: usize = 8192;

@@ -11,7 +11,7 @@ WIDTH = widthLimit
 
 -- the most levels
 abbrev pub LEVELS : ℕ
-LEVELS = 8
+LEVELS = 32
 
 -- 0, or above the limit
 abbrev pub Outside : (x most : ℕ) → Type 0

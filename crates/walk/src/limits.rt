@@ -1,4 +1,4 @@
 // The most levels of a trie, named once (01, "Stride choices"); `specs/Limits.antt` has the same for the promises. The widest
 // address is the table's.
 
-pub const LEVELS: u32 = 8;
+pub const LEVELS: u32 = 32;

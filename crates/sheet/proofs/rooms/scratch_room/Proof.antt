@@ -6,7 +6,7 @@ use Rattle.sheet.proofs.rooms.scratch_room.Statement.{statement}
 use Rattle.sheet.proofs.rooms.scratch_room.Tie as tie
 
 returns : tie.Need-returns
-returns c = sym (length-replicate {0} {A = ℕ} 7680 0)
+returns c = sym (length-replicate {0} {A = ℕ} 8064 0)
 
 pub scratch-room-spec : {M : Type 1} → statement M
 scratch-room-spec = tie.close (tie.spec returns)
