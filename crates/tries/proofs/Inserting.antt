@@ -2,35 +2,22 @@
 use mathlib.Core.Path.{_≡_, refl, ap, sym, subst, _∙_}
 use mathlib.Core.List.{List}
 use mathlib.Core.Logic.{_⊎_, inl, inr, ⊎-elim}
-use Prim.Native.Nat.{ℕ, zero, suc, _+_, _-_, _*_, _%_, _^_, _≤_, _<_}
+use Prim.Native.Nat.{ℕ, zero, suc, max, _+_, _-_, _*_, _%_, _^_, _≤_, _<_}
 use native.Mathlib.Nat.{mod-lt}
 use native.Mathlib.Omega.{arith}
 use native.Mathlib.Numerals.{sub-one}
-use lib.ListN.{length, getD, set}
+use lib.ListN.{length, getD, set, length-set}
 use lib.Seq.{getD-set-same, getD-set-other}
-use Rattle.strides.specs.Trie.{bit}
+use Rattle.strides.specs.Trie.{bit, depth}
 use Rattle.tries.specs.Scratch.{ROW, DEPTH}
-use Rattle.tries.specs.Trees.{Tree, nil, fork, col, linkOf, NodeRow, Stand, HasRow, Apart, Under, lt, rt, lmark, rmark, rowFor, next, side, setSide, setMark, insertR, countR}
+use Rattle.tries.specs.Trees.{Tree, nil, fork, shape, col, linkOf, NodeRow, Stand, Deep, Deepens, HasRow, Apart, Under, lt, rt, lmark, rmark, rowFor, next, side, setSide, setMark, insertR, countR}
 use Rattle.tries.specs.Inserting.{Downed, InsertIn, InsertOut, Inserted}
+use Rattle.tries.proofs.Frames.{keep-stand, keep-deep}
+use Rattle.tries.proofs.Shapes.{depth-insert}
 
 pub bit-two : (n x : ℕ) → bit n x < 2
 unfolding bit
 bit-two n x = mod-lt _ (omega arith)
-
--- the frame: a tree stands where each of its rows is kept
-module _ (rows rows′ : List ℕ) where
-  keep-row : (x : ℕ) {a b p q : ℕ} → ((c : ℕ) → c < ROW → col rows′ x c ≡ col rows x c) → NodeRow rows x a b p q → NodeRow rows′ x a b p q
-  keep-row x same r = record {
-    link0 = same 0 (omega arith) ∙ r .link0;
-    link1 = same 1 (omega arith) ∙ r .link1;
-    mark0 = same 2 (omega arith) ∙ r .mark0;
-    mark1 = same 3 (omega arith) ∙ r .mark1;
-  }
-
-  keep : (t : Tree) → ((y : ℕ) → HasRow y t → (c : ℕ) → c < ROW → col rows′ y c ≡ col rows y c) → Stand rows t → Stand rows′ t
-  keep nil same u = tt
-  keep (fork x p l q r) same u =
-      (keep-row x (same x (inl refl)) (u .0), keep l (λ y h. same y (inr (inl h))) (u .1), keep r (λ y h. same y (inr (inr h))) (u .2))
 
 step : (n u : ℕ) (t : Tree) (v h : ℕ) → (n ≡ 0 → ⊥) → insertR n u t v h ≡ setSide (bit n v) (rowFor u t) t (insertR (n - 1) (next u t) (side (bit n v) t) v h)
 unfolding insertR
@@ -158,6 +145,18 @@ module _ (rows : List ℕ) (x p : ℕ) (l : Tree) (q : ℕ) (r : Tree) where
   )
   join-side rows′ (suc (suc s)) k h same lk u sk ss = absurd (omega arith)
 
+  -- its depth, where the tree at side s is new and the node's row says how deep it now reaches
+  join-deep : (n : ℕ) (rows′ : List ℕ) (s : ℕ) (k : Tree) → s < 2 → Deepens n rows T → n < col rows x DEPTH → col rows′ x DEPTH ≡ col rows x DEPTH
+      → depth (shape k) ≡ max n (depth (shape (side s T))) → Deep rows′ k → Deep rows′ (sib s T) → Deep rows′ (setSide s x T k)
+  unfolding depth
+  join-deep n rows′ zero k h d up own e dk ds = (own ∙ omega (arith, d .0), dk, ds)
+  join-deep n rows′ (suc zero) k h d up own e dk ds = (own ∙ omega (arith, d .0), ds, dk)
+  join-deep n rows′ (suc (suc s)) k h d up own e dk ds = absurd (omega arith)
+
+  deep-sides : (n s : ℕ) → Deepens n rows T → Deep rows (side s T) × Deep rows (sib s T)
+  deep-sides n zero d = (d .1, d .2)
+  deep-sides n (suc s) d = (d .2, d .1)
+
   -- after the last bit
   mark-put : (h s : ℕ) → s < 2 → (x + 1) * ROW ≤ length rows → Apart T → Stand rows T → Stand (set rows (x * ROW + (2 + s)) h) (setMark s x T h)
   mark-put h s hs fits a u = go s hs
@@ -166,7 +165,7 @@ module _ (rows : List ℕ) (x p : ℕ) (l : Tree) (q : ℕ) (r : Tree) where
       other c i ne = getD-set-other rows (x * ROW + c) i h 0 ne
 
       far : (c : ℕ) → c < ROW → (t : Tree) → (HasRow x t → ⊥) → Stand rows t → Stand (set rows (x * ROW + c) h) t
-      far c hc t off st = keep rows (set rows (x * ROW + c) h) t
+      far c hc t off st = keep-stand rows (set rows (x * ROW + c) h) t
           (λ y hy e he. let ne : y ≡ x → ⊥ = λ z. off (subst (λ (w : ℕ). HasRow w t) z hy) in other c (y * ROW + e) (omega arith)) st
 
       go : (s : ℕ) → s < 2 → Stand (set rows (x * ROW + (2 + s)) h) (setMark s x T h)
@@ -192,10 +191,26 @@ module _ (rows : List ℕ) (x p : ℕ) (l : Tree) (q : ℕ) (r : Tree) where
       )
       go (suc (suc s)) l2 = absurd (omega arith)
 
+  mark-deep : (h s : ℕ) → s < 2 → Apart T → Deepens 0 rows T → 0 < col rows x DEPTH → Deep (set rows (x * ROW + (2 + s)) h) (setMark s x T h)
+  unfolding depth
+  mark-deep h s hs a d up = go s hs
+    where
+      other : (c i : ℕ) → (i ≡ x * ROW + c → ⊥) → getD (set rows (x * ROW + c) h) i 0 ≡ getD rows i 0
+      other c i ne = getD-set-other rows (x * ROW + c) i h 0 ne
+
+      far : (c : ℕ) → c < DEPTH → (t : Tree) → Deep rows t → Deep (set rows (x * ROW + c) h) t
+      far c hc t dt = keep-deep rows (set rows (x * ROW + c) h) t (λ y hy. other c (y * ROW + DEPTH) (omega arith)) dt
+
+      go : (s : ℕ) → s < 2 → Deep (set rows (x * ROW + (2 + s)) h) (setMark s x T h)
+      go zero l2 = (other 2 (x * ROW + DEPTH) (omega arith) ∙ omega (arith, d .0), far 2 (omega arith) l (d .1), far 2 (omega arith) r (d .2))
+      go (suc zero) l2 = (other 3 (x * ROW + DEPTH) (omega arith) ∙ omega (arith, d .0), far 3 (omega arith) l (d .1), far 3 (omega arith) r (d .2))
+      go (suc (suc s)) l2 = absurd (omega arith)
+
 pub record Ready (rows rows1 : List ℕ) (x s used y used1 : ℕ) (k : Tree) : Type 0 where
   pub place : y ≡ rowFor used k
   pub count : used1 ≡ next used k
   pub stand : Stand rows1 (made used k)
+  pub deep : (n : ℕ) → Deep rows k → Deepens n rows1 (made used k)
   pub link : col rows1 x s ≡ y + 1
   pub same : (i : ℕ) → (i ≡ x * ROW + s → ⊥) → getD rows1 i 0 ≡ getD rows i 0
 
@@ -203,17 +218,19 @@ kid-ready : (rows rows1 : List ℕ) (x s used y used1 : ℕ) → (x + 1) * ROW �
     → ((i : ℕ) → used * ROW ≤ i → getD rows i 0 ≡ 0)
     → Downed rows x s used y rows1 → (y ≡ used → used1 ≡ used + 1) × ((y ≡ used → ⊥) → used1 ≡ used)
     → (k : Tree) → col rows x s ≡ linkOf k → Stand rows k → Under used k → Ready rows rows1 x s used y used1 k
+unfolding shape depth
 kid-ready rows rows1 x s used y used1 fits l xu blank d g nil e u under =
     let m = d .made e in
     let eq : rows1 ≡ set rows (x * ROW + s) (used + 1) = m .1 in
     let off : (i : ℕ) → (i ≡ x * ROW + s → ⊥) → getD rows1 i 0 ≡ getD rows i 0 =
     λ i ne. ap (λ (r : List ℕ). getD r i 0) eq ∙ getD-set-other rows (x * ROW + s) i (used + 1) 0 ne in
-    let zeros : (c : ℕ) → c < DEPTH → col rows1 used c ≡ 0 =
+    let zeros : (c : ℕ) → c < ROW → col rows1 used c ≡ 0 =
     λ c h. off (used * ROW + c) (omega arith) ∙ blank (used * ROW + c) (omega arith) in
     record {
       place = m .0;
       count = g .0 (m .0);
       stand = (record { link0 = zeros 0 (omega arith); link1 = zeros 1 (omega arith); mark0 = zeros 2 (omega arith); mark1 = zeros 3 (omega arith) }, tt, tt);
+      deep = λ n dk. (omega (arith, zeros DEPTH (omega arith)), tt, tt);
       link = ap (λ (r : List ℕ). col r x s) eq ∙ getD-set-same rows (x * ROW + s) (used + 1) 0 (omega arith) ∙ omega (arith, m .0);
       same = off;
     }
@@ -226,6 +243,7 @@ kid-ready rows rows1 x s used y used1 fits l xu blank d g (fork w p a q b) e u u
       place = yw;
       count = g .1 (λ z. omega arith);
       stand = rw eq u;
+      deep = λ n dk. rw eq (ap (λ (z : ℕ). max z (suc n)) (dk .0), dk .1, dk .2);
       link = ap (λ (r : List ℕ). col r x s) eq ∙ e ∙ omega arith;
       same = λ i ne. ap (λ (r : List ℕ). getD r i 0) eq;
     }
@@ -238,9 +256,9 @@ module _ (rows : List ℕ) (x used v n : ℕ) (g : InsertIn rows x used v n) whe
       let grows = count-grows n used (fork x (g .p) (g .l) (g .q) (g .r)) v in
       (omega (arith, g .room), omega (arith, g .room), bit-two n v)
 
-  pub last-out : (h : ℕ) (rows′ : List ℕ) → n ≡ 0 → rows′ ≡ set rows (x * ROW + (2 + bit n v)) h → Inserted rows x used v n h used rows′
+  pub last-out : (h : ℕ) (rows′ : List ℕ) → n < col rows x DEPTH → n ≡ 0 → rows′ ≡ set rows (x * ROW + (2 + bit n v)) h → Inserted rows x used v n h used rows′
   unfolding insertR countR
-  last-out h rows′ z e =
+  last-out h rows′ up z e =
       let f = in-fits in
       let xu = g .under x (inl refl) in
       rw (e, z) (record {
@@ -248,12 +266,13 @@ module _ (rows : List ℕ) (x used v n : ℕ) (g : InsertIn rows x used v n) whe
         after = λ i l. getD-set-other rows (x * ROW + (2 + bit 0 v)) i h 0 (omega (arith, bit-two 0 v));
         tree = λ p l q r u a b. record {
           stands = mark-put rows x p l q r h (bit 0 v) (bit-two 0 v) (f .0) a u;
+          deep = λ dp. mark-deep rows x p l q r h (bit 0 v) (bit-two 0 v) a dp (omega arith);
           count = refl;
           keeps = λ y off yu c hc. let ne : y ≡ x → ⊥ = λ w. off (inl w) in getD-set-other rows (x * ROW + (2 + bit 0 v)) (y * ROW + c) h 0 (omega (arith, bit-two 0 v));
         };
       })
 
-  module _ (ne : n ≡ 0 → ⊥) (rows1 : List ℕ) (y used1 : ℕ) (d : Downed rows x (bit n v) used y rows1)
+  module _ (up : n < col rows x DEPTH) (ne : n ≡ 0 → ⊥) (rows1 : List ℕ) (y used1 : ℕ) (d : Downed rows x (bit n v) used y rows1)
       (gr : (y ≡ used → used1 ≡ used + 1) × ((y ≡ used → ⊥) → used1 ≡ used)) where
     go-down : (p : ℕ) (l : Tree) (q : ℕ) (r : Tree) → Stand rows (fork x p l q r) → Under used (fork x p l q r)
         → Ready rows rows1 x (bit n v) used y used1 (side (bit n v) (fork x p l q r))
@@ -327,22 +346,86 @@ module _ (rows : List ℕ) (x used v n : ℕ) (g : InsertIn rows x used v n) whe
             -- a row below `used` that is not the child's is kept by the call
             let low : (z : ℕ) → (HasRow z k → ⊥) → z < used → (e : ℕ) → e < ROW → col rows2 z e ≡ col rows1 z e =
             λ z off zu e he. c .keeps z (not-made used z k off zu) (omega (arith, next-le used k)) e he in
+            let beside : (z : ℕ) → HasRow z (sib s t) → (e : ℕ) → e < ROW → col rows2 z e ≡ col rows z e =
+            λ z hz e he.
+            let ne′ : z ≡ x → ⊥ = λ w. ka .1 (subst (λ (j : ℕ). HasRow j (sib s t)) w hz) in
+            low z (λ hk. ka .2 z hk hz) (b z (sib-has rows x p l q r s z hz)) e he ∙ rd .same (z * ROW + e) (omega (arith, in-fits .2)) in
             record {
               stands = rw (step n used t v h ne, ← made-insert (n - 1) used k v h)
                   (join-side rows x p l q r rows2 s (insertR (n - 1) (next used k) (made used k) v h) (in-fits .2)
                   (λ e he es. low x (ka .0) xu e he ∙ rd .same (x * ROW + e) (omega arith))
                   (low x (ka .0) xu s (omega (arith, in-fits .2)) ∙ rd .link ∙ omega (arith, rd .place, link-insert (n - 1) (next used k) (made used k) v h))
                   u (c .stands)
-                  (keep rows rows2 (sib s t)
-                  (λ z hz e he.
-                  let ne′ : z ≡ x → ⊥ = λ w. ka .1 (subst (λ (j : ℕ). HasRow j (sib s t)) w hz) in
-                  low z (λ hk. ka .2 z hk hz) (b z (sib-has rows x p l q r s z hz)) e he ∙ rd .same (z * ROW + e) (omega (arith, in-fits .2)))
+                  (keep-stand rows rows2 (sib s t) (λ z hz e he. beside z hz e (omega arith))
                   (kid-link rows x p l q r s (in-fits .2) u .2)));
+              deep = λ dp.
+                  let ds = deep-sides rows x p l q r n s dp in
+                  rw (step n used t v h ne, ← made-insert (n - 1) used k v h)
+                  (join-deep rows x p l q r n rows2 s (insertR (n - 1) (next used k) (made used k) v h) (in-fits .2) dp up
+                  (low x (ka .0) xu DEPTH (omega arith) ∙ rd .same (x * ROW + DEPTH) (omega (arith, in-fits .2)))
+                  (omega (arith, ap (λ (w : Tree). depth (shape w)) (made-insert (n - 1) used k v h), depth-insert (n - 1) used k v h))
+                  (c .deep (rd .deep (n - 1) (ds .0)))
+                  (keep-deep rows rows2 (sib s t) (λ z hz. beside z hz DEPTH (omega arith)) (ds .1)));
               count = count-step n used t v ne ∙ sym (made-count (n - 1) used k v) ∙ c .count;
               keeps = λ z off zu e he.
                   let ne′ : z ≡ x → ⊥ = λ w. off (inl w) in
                   low z (λ hk. off (kid-has rows x p l q r s z hk)) zu e he ∙ rd .same (z * ROW + e) (omega (arith, in-fits .2));
             }
+
+-- before all that the node's depth is raised
+module _ (rows : List ℕ) (x used v n : ℕ) (g : InsertIn rows x used v n) (rows0 : List ℕ)
+    (one : rows0 ≡ set rows (x * ROW + DEPTH) (max (col rows x DEPTH) (n + 1))) where
+  off : (i : ℕ) → (i ≡ x * ROW + DEPTH → ⊥) → getD rows0 i 0 ≡ getD rows i 0
+  off i ne = ap (λ (r : List ℕ). getD r i 0) one ∙ getD-set-other rows (x * ROW + DEPTH) i _ 0 ne
+
+  own : col rows0 x DEPTH ≡ max (col rows x DEPTH) (n + 1)
+  own = ap (λ (r : List ℕ). col r x DEPTH) one ∙ getD-set-same rows (x * ROW + DEPTH) _ 0 (omega (arith, in-fits rows x used v n g .0))
+
+  raised-stand : (t : Tree) → Stand rows t → Stand rows0 t
+  raised-stand t s = keep-stand rows rows0 t (λ y h c hc. off (y * ROW + c) (λ e. omega arith)) s
+
+  pub raised-up : n < col rows0 x DEPTH
+  raised-up = omega (arith, own)
+
+  pub raised-in : InsertIn rows0 x used v n
+  raised-in = record {
+    p = g .p;
+    l = g .l;
+    q = g .q;
+    r = g .r;
+    stand = raised-stand (fork x (g .p) (g .l) (g .q) (g .r)) (g .stand);
+    apart = g .apart;
+    under = g .under;
+    room = omega (arith, g .room, ap length one, length-set rows (x * ROW + DEPTH) (max (col rows x DEPTH) (n + 1)));
+    blank = λ i l. off i (λ e. omega (arith, g .under x (inl refl))) ∙ g .blank i l;
+    short = g .short;
+  }
+
+  pub raised-out : (h used′ : ℕ) (rows′ : List ℕ) → Inserted rows0 x used v n h used′ rows′ → Inserted rows x used v n h used′ rows′
+  raised-out h used′ rows′ ins = record {
+    columns = λ y c lo hi. ins .columns y c lo hi ∙ off (y * ROW + c) (λ e. omega arith);
+    after = λ i l. ins .after i l ∙ off i (λ e. omega (arith, grows, g .under x (inl refl)));
+    tree = λ p l q r u a b.
+        let o = ins .tree p l q r (raised-stand (fork x p l q r) u) a b in
+        record {
+          stands = o .stands;
+          deep = λ d. o .deep (omega (arith, own, d .0), below l (a .0) (d .1), below r (a .1) (d .2));
+          count = o .count;
+          keeps = λ y no yu c hc. let ne : y ≡ x → ⊥ = λ e. no (inl e) in o .keeps y no yu c hc ∙ off (y * ROW + c) (λ e. omega arith);
+        };
+  }
+    where
+      grows : used ≤ used′
+      grows =
+          omega (
+            arith,
+            ins .tree (g .p) (g .l) (g .q) (g .r) (raised-stand (fork x (g .p) (g .l) (g .q) (g .r)) (g .stand)) (g .apart) (g .under) .count,
+            count-grows n used (fork x (g .p) (g .l) (g .q) (g .r)) v,
+          )
+
+      below : (t : Tree) → (HasRow x t → ⊥) → Deep rows t → Deep rows0 t
+      below t gone d = keep-deep rows rows0 t
+          (λ y h. let ne : y ≡ x → ⊥ = λ e. gone (subst (λ (w : ℕ). HasRow w t) e h) in off (y * ROW + DEPTH) (λ e. omega arith)) d
 
 -- what a caller has to know for the next entry: the new tree's rows are the old ones and those from `used` up to the new count
 has-mark : (s x y : ℕ) (t : Tree) (h : ℕ) → HasRow y (setMark s x t h) → HasRow y (fork x (lmark t) (lt t) (rmark t) (rt t))

@@ -2,6 +2,8 @@ pub mod Standing
 pub mod Filling
 pub mod Leveling
 pub mod Laying
+pub mod Frames
+pub mod Shapes
 pub mod Inserting
 pub mod LevelCounts
 pub mod Making

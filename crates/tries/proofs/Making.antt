@@ -9,56 +9,23 @@ use native.Mathlib.Numerals.{sub-one, add-one}
 use lib.ListN.{length, getD}
 use Rattle.table.specs.Prefix.{start, IsPrefix}
 use Rattle.table.specs.Table.{at}
-use Rattle.strides.specs.Trie.{Trie, none, node, left, right, leftMark, rightMark, kid, markOn, bit, size, sumBy, nodesAt}
+use Rattle.strides.specs.Trie.{Trie, none, node, bit, depth, size, sumBy, nodesAt}
 use Rattle.strides.specs.Entries.{trieOf}
-use Rattle.strides.specs.Insertion.{insertT, place, met, nodeCount}
+use Rattle.strides.specs.Insertion.{insertT, met, nodeCount}
 use Rattle.strides.proofs.Insertion.{trie-insert, trie-empty, insert-size, met-within}
 use Rattle.strides.proofs.Counting.{node-count}
 use Rattle.walk.specs.Limits.{WIDTH}
 use Rattle.tries.specs.Limits.{WORD}
-use Rattle.tries.specs.Scratch.{ROW}
-use Rattle.tries.specs.Trees.{Tree, nil, fork, shape, linkOf, rowFor, next, side, setSide, setMark, lt, rt, lmark, rmark, Stand, HasRow, Apart, Under, insertR, countR, addEntry, treeOf}
+use Rattle.tries.specs.Scratch.{ROW, DEPTH}
+use Rattle.tries.specs.Trees.{Tree, nil, fork, shape, linkOf, rowFor, next, side, setSide, setMark, lt, rt, lmark, rmark, Stand, Deep, Deepens, HasRow, Apart, Under, insertR, countR, addEntry, treeOf}
 use Rattle.tries.specs.Inserting.{InsertIn, Inserted}
 use Rattle.tries.specs.Making.{Prefixes, InRows, AddIn, AddOut, Added, CountIn, AddCounted, MakeOut}
 use Rattle.tries.specs.LevelCounts.{LevelsAdded, CountsOf}
 use Rattle.tries.proofs.LevelCounts.{counts-can, counts-next}
+use Rattle.tries.proofs.Shapes.{add-shape}
 use Rattle.tries.proofs.Inserting.{made, next-le, made-insert, made-count, made-apart, made-under, count-grows, under-insert, apart-insert, link-insert}
 
 -- ---- a tree and its trie
-
-side-shape : (s : ℕ) (t : Tree) → shape (side s t) ≡ kid s (shape t)
-unfolding shape
-side-shape zero nil = refl
-side-shape (suc s) nil = refl
-side-shape zero (fork x p l q r) = refl
-side-shape (suc s) (fork x p l q r) = refl
-
-mark-shape : (s x h : ℕ) (t : Tree) → shape (setMark s x t h) ≡ place s h (kid s (shape t)) (shape t)
-unfolding shape
-mark-shape zero x h nil = refl
-mark-shape (suc s) x h nil = refl
-mark-shape zero x h (fork y p l q r) = refl
-mark-shape (suc s) x h (fork y p l q r) = refl
-
-set-shape : (s x : ℕ) (t k : Tree) → shape (setSide s x t k) ≡ place s (markOn s (shape t)) (shape k) (shape t)
-unfolding shape
-set-shape zero x nil k = refl
-set-shape (suc s) x nil k = refl
-set-shape zero x (fork y p l q r) k = refl
-set-shape (suc s) x (fork y p l q r) k = refl
-
-pub insert-shape : (n u : ℕ) (t : Tree) (v h : ℕ) → shape (insertR n u t v h) ≡ insertT (suc n) v h (shape t)
-unfolding insertR insertT
-insert-shape zero u t v h = mark-shape (bit 0 v) (rowFor u t) h t
-insert-shape (suc n) u t v h =
-    let s = bit (suc n) v in
-    set-shape s (rowFor u t) t (insertR n (next u t) (side s t) v h)
-    ∙ ap (λ (k : Trie). place s (markOn s (shape t)) k (shape t)) (insert-shape n (next u t) (side s t) v h ∙ ap (insertT (suc n) v h) (side-shape s t))
-
-pub add-shape : (l u : ℕ) (t : Tree) (v h : ℕ) → shape (addEntry l u t v h) ≡ insertT l v h (shape t)
-unfolding addEntry insertT
-add-shape zero u t v h = refl
-add-shape (suc n) u t v h = insert-shape n u t v h
 
 -- as many rows are taken as nodes are new
 size-mark : (s u h : ℕ) (t : Tree) → next u t + size (shape t) ≡ u + size (shape (setMark s (rowFor u t) t h))
@@ -101,6 +68,11 @@ made-stand rows nil a =
     (record { link0 = a .blank 0 (omega arith); link1 = a .blank 1 (omega arith); mark0 = a .blank 2 (omega arith); mark1 = a .blank 3 (omega arith) }, tt, tt)
 made-stand rows (fork x p l q r) a = a .stand
 
+made-deep : (rows : List ℕ) (t : Tree) → InRows rows t → (n : ℕ) → Deepens n rows (made (size (shape t)) t)
+unfolding shape size depth
+made-deep rows nil a n = (omega (arith, a .blank DEPTH (omega arith)), tt, tt)
+made-deep rows (fork x p l q r) a n = (ap (λ (d : ℕ). max d (suc n)) (a .deep .0), a .deep .1, a .deep .2)
+
 link-row : (t : Tree) → linkOf t ≡ 0 + 1 → rowFor 0 t ≡ 0
 link-row nil e = absurd (omega arith)
 link-row (fork x p l q r) e = omega arith
@@ -134,6 +106,7 @@ module _ (rows : List ℕ) (t : Tree) (a : InRows rows t) where
       let b : countR n u t v ≡ size (shape (insertR n u t v h)) = omega (arith, insert-count n u t v h) in (
         record {
           stand = rw (made-insert n u t v h) at (o .stands);
+          deep = rw (made-insert n u t v h) at (o .deep (made-deep rows t a n));
           apart = apart-insert n u t v h (a .apart) (a .under);
           under = rw b at (under-insert n u t v h (a .under));
           rooted = link-row (insertR n u t v h) (link-insert n u t v h ∙ ap (λ (x : ℕ). x + 1) (row-root t u (a .rooted) refl));
@@ -229,7 +202,7 @@ module _ (W : ℕ) (vs ls hs : List ℕ) where
   pub make-start : (rows counts : List ℕ) → ((i : ℕ) → getD rows i 0 ≡ 0) → length counts ≡ WIDTH → ((j : ℕ) → at counts j ≡ 0) → Made 0 0 rows counts
   unfolding treeOf shape size nodesAt sumBy
   make-start rows counts z long clear = record {
-    laid = record { stand = tt; apart = tt; under = λ y h. absurd h; rooted = refl; bare = λ y c lo hi. z (y * ROW + c); blank = λ i h. z i };
+    laid = record { stand = tt; deep = tt; apart = tt; under = λ y h. absurd h; rooted = refl; bare = λ y c lo hi. z (y * ROW + c); blank = λ i h. z i };
     count = refl;
     counted = record { long = long; nodes = λ j h. clear j };
   }

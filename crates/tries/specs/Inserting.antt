@@ -5,7 +5,7 @@ use Prim.Native.Nat.{ℕ, _+_, _*_, _≤_, _<_}
 use lib.ListN.{length, getD, set}
 use Rattle.tries.specs.Limits.{WORD}
 use Rattle.tries.specs.Scratch.{DEPTH, ROW}
-use Rattle.tries.specs.Trees.{Tree, fork, col, Stand, HasRow, Apart, Under, insertR, countR}
+use Rattle.tries.specs.Trees.{Tree, fork, col, Stand, Deep, Deepens, HasRow, Apart, Under, insertR, countR}
 
 -- the way to the child at a side of row x, which is made at row `used` where there is none
 pub record Downed (rows : List ℕ) (x s used y : ℕ) (rows′ : List ℕ) : Type 0 where
@@ -26,12 +26,13 @@ pub record InsertIn (rows : List ℕ) (x used v n : ℕ) : Type 0 where
 
 pub record InsertOut (rows : List ℕ) (x used v n h used′ : ℕ) (rows′ : List ℕ) (t : Tree) : Type 0 where
   pub stands : Stand rows′ (insertR n used t v h)
+  pub deep : Deepens n rows t → Deep rows′ (insertR n used t v h)
   pub count : countR n used t v ≡ used′
   pub keeps : (y : ℕ) → (HasRow y t → ⊥) → y < used → (c : ℕ) → c < ROW → col rows′ y c ≡ col rows y c
 
--- of a row's columns only links and marks are written
+-- of a row's columns only links, marks and the depth are written
 pub record Inserted (rows : List ℕ) (x used v n h used′ : ℕ) (rows′ : List ℕ) : Type 0 where
-  pub columns : (y c : ℕ) → DEPTH ≤ c → c < ROW → col rows′ y c ≡ col rows y c
+  pub columns : (y c : ℕ) → DEPTH < c → c < ROW → col rows′ y c ≡ col rows y c
   pub after : (i : ℕ) → used′ * ROW ≤ i → getD rows′ i 0 ≡ getD rows i 0
   pub tree : (p : ℕ) (l : Tree) (q : ℕ) (r : Tree) → Stand rows (fork x p l q r) → Apart (fork x p l q r) → Under used (fork x p l q r)
       → InsertOut rows x used v n h used′ rows′ (fork x p l q r)

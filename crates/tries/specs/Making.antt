@@ -13,7 +13,7 @@ use Rattle.strides.specs.Insertion.{met}
 use Rattle.walk.specs.Limits.{WIDTH}
 use Rattle.tries.specs.LevelCounts.{CanCount, LevelsAdded, CountsOf}
 use Rattle.tries.specs.Scratch.{DEPTH, ROW}
-use Rattle.tries.specs.Trees.{Tree, shape, linkOf, rowFor, col, Stand, Apart, Under, addEntry, treeOf}
+use Rattle.tries.specs.Trees.{Tree, shape, linkOf, rowFor, col, Stand, Deep, Apart, Under, addEntry, treeOf}
 
 -- a table's prefixes, as far as its trie goes by them: they may repeat
 pub record Prefixes (W : ℕ) (vs ls : List ℕ) : Type 0 where
@@ -23,13 +23,14 @@ pub record Prefixes (W : ℕ) (vs ls : List ℕ) : Type 0 where
   pub prefix : (i : ℕ) → i < length vs → IsPrefix W (at vs i) (at ls i)
   pub rises : (i : ℕ) → suc i < length vs → Rises (at vs i) (at ls i) (at vs (suc i)) (at ls (suc i))
 
--- t stands in the first rows, the root at row 0; the columns from the depth on are 0, and so is what comes after
+-- t stands in the first rows, the root at row 0; the columns after the depth are 0, and so is what comes after the rows
 pub record InRows (rows : List ℕ) (t : Tree) : Type 0 where
   pub stand : Stand rows t
+  pub deep : Deep rows t
   pub apart : Apart t
   pub under : Under (size (shape t)) t
   pub rooted : rowFor 0 t ≡ 0
-  pub bare : (y c : ℕ) → DEPTH ≤ c → c < ROW → col rows y c ≡ 0
+  pub bare : (y c : ℕ) → DEPTH < c → c < ROW → col rows y c ≡ 0
   pub blank : (i : ℕ) → size (shape t) * ROW ≤ i → getD rows i 0 ≡ 0
 
 -- one entry more: the first l bits of v, with the mark h

@@ -3,11 +3,11 @@
 use mathlib.Core.Path.{_≡_}
 use mathlib.Core.List.{List}
 use mathlib.Core.Logic.{_⊎_}
-use Prim.Native.Nat.{ℕ, zero, suc, _+_, _*_, _≤_, _<_}
+use Prim.Native.Nat.{ℕ, zero, suc, max, _+_, _*_, _≤_, _<_}
 use lib.ListN.{getD}
 use Rattle.table.specs.Prefix.{start}
-use Rattle.strides.specs.Trie.{Trie, none, node, bit, size}
-use Rattle.tries.specs.Scratch.{ROW}
+use Rattle.strides.specs.Trie.{Trie, none, node, bit, depth, size}
+use Rattle.tries.specs.Scratch.{ROW, DEPTH}
 
 -- nothing; or a node: its row, left mark, left tree, right mark, right tree
 pub data Tree : Type 0 where
@@ -38,6 +38,17 @@ pub record NodeRow (rows : List ℕ) (x a b p q : ℕ) : Type 0 where
 abbrev pub Stand : List ℕ → Tree → Type 0
 Stand rows nil = Unit {0}
 Stand rows (fork x p l q r) = NodeRow rows x (linkOf l) (linkOf r) p q × Stand rows l × Stand rows r
+
+-- each row holds the depth of what stands there
+abbrev pub Deep : List ℕ → Tree → Type 0
+Deep rows nil = Unit {0}
+Deep rows (fork x p l q r) = (col rows x DEPTH ≡ depth (node p (shape l) q (shape r))) × Deep rows l × Deep rows r
+
+-- the same below the root; the root's own depth is right once it is raised to n + 1, for it may just have been made
+abbrev pub Deepens : ℕ → List ℕ → Tree → Type 0
+Deepens n rows nil = Unit {0}
+Deepens n rows (fork x p l q r) =
+    (max (col rows x DEPTH) (suc n) ≡ max (depth (node p (shape l) q (shape r))) (suc n)) × Deep rows l × Deep rows r
 
 -- y is a row of the tree
 abbrev pub HasRow : ℕ → Tree → Type 0

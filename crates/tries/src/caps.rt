@@ -1,6 +1,6 @@
-// What the choosers count with: a sum and a power of two that never wrap, each held at the cap.
+// What the choosers count with: a sum and a power of two that never wrap, each held at the cap, and the larger of two numbers.
 ghost use mathlib.Core.Path.{_≡_};
-ghost use Prim.Native.Nat.{_+_, _^_};
+ghost use Prim.Native.Nat.{_+_, _^_, max};
 ghost use Rattle.strides.specs.Recurrence.{atCap};
 
 // a + b, held at the cap.
@@ -28,4 +28,10 @@ pub(crate) fn capped_power(s: u64, cap: u64) -> u64
         return cap;
     }
     p
+}
+
+pub(crate) fn larger(a: usize, b: usize) -> usize
+    ensures { λ r. ⌜ r ≡ max a b ⌝ }
+{
+    if a < b { b } else { a }
 }

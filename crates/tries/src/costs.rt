@@ -11,6 +11,7 @@ ghost use Rattle.tries.specs.Costs.{held, CELLS, slot, RowAdded, GatherI
 ghost use Rattle.tries.specs.Costs.{Stored, SettleIn, Summed, DepthOver, Settled, TreeAsk, TreeDone};
 use crate::caps::capped_power;
 use crate::caps::capped_sum;
+use crate::caps::larger;
 use crate::limits::COST_CAP;
 use crate::limits::SLOTS;
 use crate::scratch::COST;
@@ -130,12 +131,6 @@ fn store(rows: &mut [u64], x: usize, depth: usize, levels: usize, sums: &[u64])
         put(rows, x, STRIDE + r, b.place + 1);
         r += 1;
     }
-}
-
-pub(crate) fn larger(a: usize, b: usize) -> usize
-    ensures { λ r. ⌜ r ≡ max a b ⌝ }
-{
-    if a < b { b } else { a }
 }
 
 // Adds up what stands below the row at link k, on both sides.

@@ -1,13 +1,17 @@
-// The 1-bit trie of a table, made in scratch rows that are all 0: one entry after the other.
+// The 1-bit trie of a table, made in scratch rows that are all 0: one entry after the other. Each row on an entry's way is told how
+// deep the trie then is below it.
 ghost use mathlib.Core.Path.{_≡_};
 ghost use Prim.Native.Nat.{_+_, _*_, _<_, _≤_, max};
-ghost use lib.ListN.{length};
-ghost use Rattle.tries.specs.Scratch.{ROW};
+ghost use lib.ListN.{length, set};
+ghost use Rattle.tries.specs.Scratch.{ROW, DEPTH};
+ghost use Rattle.tries.specs.Trees.{col};
 ghost use Rattle.tries.specs.Inserting.{Downed, InsertIn, Inserted};
 ghost use Rattle.walk.specs.Limits.{WIDTH};
 ghost use Rattle.tries.specs.Limits.{GROWS};
 ghost use Rattle.tries.specs.LevelCounts.{CanCount, LevelsAdded};
 ghost use Rattle.tries.specs.Making.{AddIn, Added, CountIn, AddCounted, MakeIn, MakeOut};
+use crate::caps::larger;
+use crate::scratch::DEPTH;
 use crate::scratch::ROW;
 use crate::scratch::put;
 
@@ -25,6 +29,15 @@ fn down(rows: &mut [u64], x: usize, s: usize, used: usize) -> usize
     }
 }
 
+// The depth of row x becomes at least d.
+fn raise(rows: &mut [u64], x: usize, d: usize)
+    requires { ⌜ (x + 1) * ROW ≤ length (now rows) ⌝ }
+    ensures { λ _. ⌜ now (rows .exit) ≡ set (now (rows .entry)) (x * ROW + DEPTH) (max (col (now (rows .entry)) x DEPTH) d) ⌝ }
+{
+    let depth = larger(rows[x * ROW + DEPTH] as usize, d);
+    put(rows, x, DEPTH, depth);
+}
+
 // The next free row, where row y may just have been taken.
 fn grown(used: usize, y: usize) -> usize
     requires { ⌜ used < GROWS ⌝ }
@@ -39,6 +52,7 @@ fn insert(rows: &mut [u64], x: usize, used: usize, v: usize, n: usize, h: usize)
     requires { ⌜ InsertIn (now rows) x used v n ⌝ }
     ensures { λ r. ⌜ Inserted (now (rows .entry)) x used v n h r (now (rows .exit)) ⌝ }
 {
+    raise(rows, x, n + 1);
     let s = (v >> n) % 2;
     if n == 0 {
         put(rows, x, 2 + s, h);

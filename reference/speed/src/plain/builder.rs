@@ -1,7 +1,7 @@
 //! The element rows, level by level, each level by one walk of the trie from left to right.
 
 use super::building::Lent;
-use super::rows::{asked, MARK, STRIDE};
+use super::rows::{asked, DEPTH, MARK, STRIDE};
 
 /// The trie to be laid, and its strides: a plan from the front where they are fixed, else those of the rows.
 pub struct Source<'a> {
@@ -57,7 +57,8 @@ impl Source<'_> {
         self.fill(asked(self.rows, link, 1), c - 1, r, base + (1 << (c - 1)), right, free, to)
     }
 
-    /// Writes the blocks of level n below the trie at a link. The next block on a path begins c levels lower, with r levels left.
+    /// Writes the blocks of level n below the trie at a link. The next block on a path begins c levels lower, with r
+    /// levels left. The n-th block after it begins at least n levels lower, so a subtrie too shallow for that is left.
     fn level(&self, link: usize, c: usize, n: usize, r: usize, front: Front, to: &mut Lent) -> Front {
         if link == 0 {
             return front;
@@ -65,6 +66,9 @@ impl Source<'_> {
         if c > 0 {
             let then = self.level(asked(self.rows, link, 0), c - 1, n, r, front, to);
             return self.level(asked(self.rows, link, 1), c - 1, n, r, then, to);
+        }
+        if n > 0 && asked(self.rows, link, DEPTH) <= n {
+            return front;
         }
         let stride = self.stride(link, r);
         if n > 0 {

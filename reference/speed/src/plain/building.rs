@@ -54,7 +54,7 @@ fn planned(kind: Kind, levels: usize, table: &Table, scratch: &mut [u64]) -> Pla
             Plan { cost, strides, plan: strides, root }
         }
         Kind::Variable => {
-            costs::settle_tree(scratch, root, levels);
+            costs::settle_all(scratch, root, levels);
             let mut strides = [0; LEVELS];
             strides[0] = asked(scratch, root, STRIDE - 1 + levels) as u8;
             Plan { cost: asked(scratch, root, COST - 1 + levels) as u64, strides, plan: [0; LEVELS], root }

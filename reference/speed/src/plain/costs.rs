@@ -1,12 +1,15 @@
-//! The variable choice: from the bottom up, each node sums the costs of the nodes that stand j levels below it, for all j at once.
+//! The variable choice, from the bottom up, in passes of COLUMNS numbers of levels: each node takes over from the two below it what
+//! the nodes j levels below cost together, for all j at once.
 
 use super::rows::{asked, COST, DEPTH, ROW, STRIDE};
-use super::LEVELS;
+use super::WIDTH;
 
 /// Costs are held here, above what any choice at 32 bits costs.
 const CAP: u64 = 1 << 33;
-/// Places of the sums: strides 1 to 32, and 1 to 8 levels left.
-const CELLS: usize = 32 * LEVELS;
+/// Numbers of levels in a pass.
+const COLUMNS: usize = 8;
+/// Rows of the sums: a node at depth d has 32 - d of them, those of the nodes above it stay, and one more is only read, as 0.
+const SUM_ROWS: usize = WIDTH as usize * (WIDTH as usize + 1) / 2 + 1;
 
 fn capped_sum(a: u64, b: u64) -> u64 {
     if a >= CAP || b >= CAP - a {
@@ -20,12 +23,13 @@ fn power(n: usize) -> u64 {
     (1u64 << n).min(CAP)
 }
 
-/// The cheapest stride from 1 to `depth` for n nodes with r + 1 levels left, the smallest of equals, and its cost.
-pub fn choice(sums: &[u64], n: u64, r: usize, depth: usize) -> (u64, usize) {
+/// The cheapest stride from 1 to `depth` for n nodes with r + 1 levels left, the smallest of equals, and its cost. What the blocks
+/// below a stride cost stands at place `at` of the sums, and `pitch` places later for each stride more.
+pub fn choice(sums: &[u64], at: usize, pitch: usize, n: u64, r: usize, depth: usize) -> (u64, usize) {
     if r == 0 {
         return (capped_sum(n * power(depth), 0), depth);
     }
-    let price = |stride: usize| capped_sum(n * power(stride), sums[(stride - 1) * LEVELS + r - 1]);
+    let price = |stride: usize| capped_sum(n * power(stride), sums[at + (stride - 1) * pitch]);
     let mut best = (price(1), 1);
     for stride in 2..=depth {
         let cost = price(stride);
@@ -36,41 +40,52 @@ pub fn choice(sums: &[u64], n: u64, r: usize, depth: usize) -> (u64, usize) {
     best
 }
 
-/// Adds the costs of every node of the subtrie at a link, which stands d + 1 levels lower.
-fn gather(rows: &[u64], link: usize, d: usize, levels: usize, sums: &mut [u64; CELLS]) {
-    if link == 0 {
-        return;
-    }
-    for r in 0..levels {
-        let cell = &mut sums[d * LEVELS + r];
-        *cell = capped_sum(*cell, asked(rows, link, COST + r) as u64);
-    }
-    gather(rows, asked(rows, link, 0), d + 1, levels, sums);
-    gather(rows, asked(rows, link, 1), d + 1, levels, sums);
+/// One pass: the costs with from + 1 to `to` levels left.
+struct Pass {
+    from: usize,
+    to: usize,
+    sums: [u64; SUM_ROWS * COLUMNS],
 }
 
-/// Works out the depth and the choices of a row from those of the rows below it.
-fn settle(rows: &mut [u64], link: usize, levels: usize) {
-    let (left, right) = (asked(rows, link, 0), asked(rows, link, 1));
-    let mut sums = [0; CELLS];
-    gather(rows, left, 0, levels, &mut sums);
-    gather(rows, right, 0, levels, &mut sums);
-    let depth = asked(rows, left, DEPTH).max(asked(rows, right, DEPTH)) + 1;
-    let row = &mut rows[(link - 1) * ROW..link * ROW];
-    row[DEPTH] = depth as u64;
-    for r in 0..levels {
-        let (cost, stride) = choice(&sums, 1, r, depth);
-        row[COST + r] = cost;
-        row[STRIDE + r] = stride as u64;
+impl Pass {
+    /// Adds the sums below a node, which stand from row `below` on, to its own from row `at` on, one row later, and clears them; then
+    /// the costs of the node itself.
+    fn hand_up(&mut self, rows: &[u64], link: usize, at: usize, below: usize, deep: usize) {
+        let (own, lower) = self.sums.split_at_mut(below * COLUMNS);
+        let (own, lower) = (&mut own[(at + 1) * COLUMNS..][..deep * COLUMNS], &mut lower[..deep * COLUMNS]);
+        for (up, down) in own.iter_mut().zip(lower) {
+            *up = capped_sum(*up, *down);
+            *down = 0;
+        }
+        for r in self.from.max(1)..self.to {
+            let sum = &mut self.sums[at * COLUMNS + r - self.from];
+            *sum = capped_sum(*sum, asked(rows, link, COST - 1 + r) as u64);
+        }
+    }
+
+    /// Settles every row of the tree at a link, which stands at depth d, and adds what its nodes cost to the sums from row `at` on.
+    fn settle(&mut self, rows: &mut [u64], link: usize, d: usize, at: usize) {
+        if link == 0 {
+            return;
+        }
+        let below = at + WIDTH as usize - d;
+        self.settle(rows, asked(rows, link, 0), d + 1, below);
+        self.settle(rows, asked(rows, link, 1), d + 1, below);
+        let row = &mut rows[(link - 1) * ROW..link * ROW];
+        let depth = row[DEPTH] as usize;
+        for r in self.from..self.to {
+            let (cost, stride) = choice(&self.sums, below * COLUMNS + r - self.from, COLUMNS, 1, r, depth);
+            row[COST + r] = cost;
+            row[STRIDE + r] = stride as u64;
+        }
+        self.hand_up(rows, link, at, below, depth - 1);
     }
 }
 
-/// Settles every row of the tree at a link, from the bottom up.
-pub fn settle_tree(rows: &mut [u64], link: usize, levels: usize) {
-    if link == 0 {
-        return;
+/// Settles every row of the tree at a link.
+pub fn settle_all(rows: &mut [u64], link: usize, levels: usize) {
+    for from in (0..levels).step_by(COLUMNS) {
+        let mut pass = Pass { from, to: levels.min(from + COLUMNS), sums: [0; SUM_ROWS * COLUMNS] };
+        pass.settle(rows, link, 0, 0);
     }
-    settle_tree(rows, asked(rows, link, 0), levels);
-    settle_tree(rows, asked(rows, link, 1), levels);
-    settle(rows, link, levels);
 }

@@ -3,7 +3,7 @@
 use super::costs::choice;
 use super::{Table, LEVELS, WIDTH};
 
-/// Levels 0 to 32, and 1 to 8 strides left.
+/// Levels 0 to 32, and 1 to 32 strides left.
 const CELLS: usize = (WIDTH as usize + 1) * LEVELS;
 
 /// The least cost, and the strides from the front.
@@ -12,7 +12,7 @@ pub fn fixed_choice(table: &Table, nodes: &[u64; WIDTH as usize], levels: usize)
     let (mut costs, mut strides) = ([0; CELLS], [0; CELLS]);
     for level in (0..depth).rev() {
         for r in 0..levels {
-            let (cost, stride) = choice(&costs[(level + 1) * LEVELS..], nodes[level], r, depth - level);
+            let (cost, stride) = choice(&costs, (level + 1) * LEVELS + r - 1, LEVELS, nodes[level], r, depth - level);
             costs[level * LEVELS + r] = cost;
             strides[level * LEVELS + r] = stride;
         }

@@ -1,15 +1,15 @@
 //! The 1-bit trie in scratch rows: links, marks, depth, and the costs and strides for each number of levels left. A link is a row
 //! and one; 0 is none.
 
-use super::{Table, WIDTH};
+use super::{Table, LEVELS, WIDTH};
 
 /// Numbers in a row.
-pub const ROW: usize = 24;
+pub const ROW: usize = STRIDE + LEVELS;
 /// Columns: the marks after a 0 and a 1, the depth, the costs and the strides; the links are columns 0 and 1.
 pub const MARK: usize = 2;
 pub const DEPTH: usize = 4;
 pub const COST: usize = 8;
-pub const STRIDE: usize = 16;
+pub const STRIDE: usize = COST + LEVELS;
 
 /// Column c of the row at a link, 0 where there is none.
 #[inline]
@@ -20,10 +20,17 @@ pub fn asked(rows: &[u64], link: usize, c: usize) -> usize {
     rows[(link - 1) * ROW + c] as usize
 }
 
+/// The depth of a row is at least so much.
+fn raise(rows: &mut [u64], at: usize, depth: usize) {
+    let deep = &mut rows[at * ROW + DEPTH];
+    *deep = (*deep).max(depth as u64);
+}
+
 /// Puts the last `bits` bits of a value below the root, with a mark. Returns the number of rows then used.
 fn insert(rows: &mut [u64], mut used: usize, value: usize, bits: usize, mark: u16) -> usize {
     let mut at = 0;
     for left in (1..bits).rev() {
+        raise(rows, at, left + 1);
         let side = value >> left & 1;
         let link = rows[at * ROW + side] as usize;
         if link == 0 {
@@ -34,6 +41,7 @@ fn insert(rows: &mut [u64], mut used: usize, value: usize, bits: usize, mark: u1
             at = link - 1;
         }
     }
+    raise(rows, at, 1);
     rows[at * ROW + MARK + (value & 1)] = u64::from(mark);
     used
 }
