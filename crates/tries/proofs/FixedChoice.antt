@@ -7,8 +7,8 @@ use native.Mathlib.Nat.{le-refl, add-zero, zero-add, sub-zero}
 use native.Mathlib.Decide.{decLe}
 use native.Mathlib.Numerals.{add-one}
 use native.Mathlib.Omega.{arith}
-use lib.ListN.{length, getD, set, take, drop, length-set, length-drop, replicate}
-use lib.Seq.{getD-set-same, getD-set-other, getD-drop, take-all, ext-getD}
+use lib.ListN.{length, getD, set, length-set, replicate}
+use lib.Seq.{getD-set-same, getD-set-other, ext-getD}
 use Rattle.table.specs.Table.{at}
 use Rattle.strides.specs.Trie.{Trie, depth, nodesAt}
 use Rattle.strides.specs.Entries.{longestLength}
@@ -18,8 +18,8 @@ use Rattle.strides.proofs.Scan.{scanned}
 use Rattle.strides.proofs.Sums.{nodes-deep}
 use Rattle.walk.specs.Limits.{WIDTH, LEVELS, Within}
 use Rattle.tries.specs.Limits.{ENTRIES}
-use Rattle.tries.specs.Costs.{held, slot, price, bestCost, bestStride}
-use Rattle.tries.specs.FixedChoice.{LEVEL-CELLS, Filled, RowFilled, StridesFilled, ListRead, FixedIn}
+use Rattle.tries.specs.Costs.{held, column, price, bestCost, bestStride}
+use Rattle.tries.specs.FixedChoice.{LEVEL-CELLS, cell, Filled, RowFilled, StridesFilled, ListRead, FixedIn}
 use Rattle.tries.specs.Chooser.{padded}
 use Rattle.table.proofs.Zeroes.{zeros-read}
 use Rattle.tries.proofs.Gathering.{same?}
@@ -31,8 +31,12 @@ longest-next len i = rw (add-one i)
 
 -- ---- one level of the table of fixed strides
 
-module _ (n d i : ℕ) (costs strides sums : List ℕ) where
-  pub fill-start : RowFilled 0 n d i costs strides costs strides sums
+module _ (n d i : ℕ) (costs strides : List ℕ) where
+  -- what the levels below cost, for a choice with r + 1 levels left
+  abbrev lower : List ℕ → ℕ → ℕ → ℕ
+  lower table r = column ((i + 1) * LEVELS + r - 1) LEVELS table
+
+  pub fill-start : RowFilled 0 n d i costs strides costs strides
   fill-start = record {
     long-costs = refl;
     long-strides = refl;
@@ -42,45 +46,55 @@ module _ (n d i : ℕ) (costs strides sums : List ℕ) where
     strides-below = λ x h. refl;
   }
 
-  pub fill-next : (costs1 strides1 : List ℕ) (m c s : ℕ) → m < LEVELS → (i + 1) * LEVELS ≤ length costs → (i + 1) * LEVELS ≤ length strides → RowFilled m n d i costs strides costs1 strides1 sums
-      → c ≡ bestCost sums n d m → s ≡ bestStride sums n d m → RowFilled (m + 1) n d i costs strides (set costs1 (i * LEVELS + m) c) (set strides1 (i * LEVELS + m) s) sums
+  pub fill-next : (costs1 strides1 : List ℕ) (m c s : ℕ) → m < LEVELS → (i + 1) * LEVELS ≤ length costs → (i + 1) * LEVELS ≤ length strides → RowFilled m n d i costs strides costs1 strides1
+      → c ≡ bestCost (lower costs1 m) n d m → s ≡ bestStride (lower costs1 m) n d m
+      → RowFilled (m + 1) n d i costs strides (set costs1 (i * LEVELS + m) c) (set strides1 (i * LEVELS + m) s)
+  unfolding bestCost bestStride
   fill-next costs1 strides1 m c s hm fc fs a ec es =
       let at = i * LEVELS + m in
       let cost-off : (x : ℕ) → (x ≡ at → ⊥) → getD (set costs1 at c) x 0 ≡ getD costs1 x 0 = λ x ne. getD-set-other costs1 at x c 0 ne in
       let stride-off : (x : ℕ) → (x ≡ at → ⊥) → getD (set strides1 at s) x 0 ≡ getD strides1 x 0 = λ x ne. getD-set-other strides1 at x s 0 ne in
+      let same = kept m in
       record {
         long-costs = length-set costs1 at c ∙ a .long-costs;
         long-strides = length-set strides1 at s ∙ a .long-strides;
         cost = λ r h. ⊎-elim
-            (λ (z : r ≡ m). subst (λ (y : ℕ). slot (set costs1 at c) i y ≡ bestCost sums n d y) (sym z) (getD-set-same costs1 at c 0 (omega (arith, a .long-costs)) ∙ ec))
+            (λ (z : r ≡ m). subst (λ (y : ℕ). cell (set costs1 at c) i y ≡ bestCost (lower costs y) n d y) (sym z)
+            (getD-set-same costs1 at c 0 (omega (arith, a .long-costs)) ∙ ec ∙ same .0))
             (λ (z : r ≡ m → ⊥). cost-off (i * LEVELS + r) (λ q. omega arith) ∙ a .cost r (omega arith)) (same? r m);
         stride = λ r h. ⊎-elim
-            (λ (z : r ≡ m). subst (λ (y : ℕ). slot (set strides1 at s) i y ≡ bestStride sums n d y) (sym z) (getD-set-same strides1 at s 0 (omega (arith, a .long-strides)) ∙ es))
+            (λ (z : r ≡ m). subst (λ (y : ℕ). cell (set strides1 at s) i y ≡ bestStride (lower costs y) n d y) (sym z)
+            (getD-set-same strides1 at s 0 (omega (arith, a .long-strides)) ∙ es ∙ same .1))
             (λ (z : r ≡ m → ⊥). stride-off (i * LEVELS + r) (λ q. omega arith) ∙ a .stride r (omega arith)) (same? r m);
         costs-below = λ x h. cost-off x (λ q. omega arith) ∙ a .costs-below x h;
         strides-below = λ x h. stride-off x (λ q. omega arith) ∙ a .strides-below x h;
       }
-
--- the part of a list from a on
-pub rest-all : (l : List ℕ) (a : ℕ) → take (length l - a) (drop a l) ≡ drop a l
-rest-all l a = take-all (length l - a) (drop a l) (omega (arith, length-drop a l))
+    where
+      -- the levels below are as they were; with one level left nothing is read of them
+      kept : (r : ℕ) → (bestCost (lower costs1 r) n d r ≡ bestCost (lower costs r) n d r) × (bestStride (lower costs1 r) n d r ≡ bestStride (lower costs r) n d r)
+      kept zero = (refl, refl)
+      kept (suc q) =
+          let e : lower costs1 (suc q) ≡ lower costs (suc q) = fun-ext (λ j. a .costs-below ((i + 1) * LEVELS + suc q - 1 + j * LEVELS) (omega arith)) in
+          (ap (λ (f : ℕ → ℕ). bestCost f n d (suc q)) e, ap (λ (f : ℕ → ℕ). bestStride f n d (suc q)) e)
 
 -- what is chosen there is what the recurrence says
-module _ (nodes : ℕ → ℕ) (levels i n : ℕ) (sums : List ℕ)
-    (sum : (j q : ℕ) → j ≤ n → q < levels → slot sums j q ≡ fixBy held nodes q (i + suc j) (n - j)) where
-  price-fixed : (q : ℕ) → q < levels → (j : ℕ) → j ≤ n → price sums (nodes i) q j ≡ withFirstFixed held (fixBy held nodes q) nodes i n j
+module _ (nodes : ℕ → ℕ) (i n : ℕ) (below : ℕ → ℕ) where
+  abbrev BelowFixed : ℕ → Type 0
+  BelowFixed q = (j : ℕ) → j ≤ n → below j ≡ fixBy held nodes q (i + suc j) (n - j)
+
+  price-fixed : (q : ℕ) → BelowFixed q → (j : ℕ) → j ≤ n → price below (nodes i) j ≡ withFirstFixed held (fixBy held nodes q) nodes i n j
   unfolding price withFirstFixed
-  price-fixed q l j h = ap (λ (x : ℕ). held (nodes i * held (2 ^ suc j) + x)) (sum j q h l)
+  price-fixed q sum j h = ap (λ (x : ℕ). held (nodes i * held (2 ^ suc j) + x)) (sum j h)
 
-  fixed-cost : (r : ℕ) → r < levels → bestCost sums (nodes i) (suc n) r ≡ fixBy held nodes r i (suc n)
+  fixed-cost : (r : ℕ) → ((q : ℕ) → r ≡ suc q → BelowFixed q) → bestCost below (nodes i) (suc n) r ≡ fixBy held nodes r i (suc n)
   unfolding bestCost fixBy
-  fixed-cost zero l = refl
-  fixed-cost (suc m) l = ap (λ (x : ℕ × ℕ). x .1) (scan-same (price sums (nodes i) m) (withFirstFixed held (fixBy held nodes m) nodes i n) n (price-fixed m (omega arith)))
+  fixed-cost zero s = refl
+  fixed-cost (suc m) s = ap (λ (x : ℕ × ℕ). x .1) (scan-same (price below (nodes i)) (withFirstFixed held (fixBy held nodes m) nodes i n) n (price-fixed m (s m refl)))
 
-  fixed-stride : (r : ℕ) → r < levels → bestStride sums (nodes i) (suc n) r ≡ pickFixedBy held nodes r i (suc n)
+  fixed-stride : (r : ℕ) → ((q : ℕ) → r ≡ suc q → BelowFixed q) → bestStride below (nodes i) (suc n) r ≡ pickFixedBy held nodes r i (suc n)
   unfolding bestStride pickFixedBy
-  fixed-stride zero l = refl
-  fixed-stride (suc m) l = ap (λ (x : ℕ × ℕ). suc (x .0)) (scan-same (price sums (nodes i) m) (withFirstFixed held (fixBy held nodes m) nodes i n) n (price-fixed m (omega arith)))
+  fixed-stride zero s = refl
+  fixed-stride (suc m) s = ap (λ (x : ℕ × ℕ). suc (x .0)) (scan-same (price below (nodes i)) (withFirstFixed held (fixBy held nodes m) nodes i n) n (price-fixed m (s m refl)))
 
 fix-none : (nodes : ℕ → ℕ) (r j : ℕ) → fixBy held nodes r j 0 ≡ 0
 unfolding fixBy
@@ -102,38 +116,35 @@ filled-start nodes levels depth costs strides lc ls zc zs = record {
 }
 
 pub filled-next : (nodes : ℕ → ℕ) (levels depth i : ℕ) (costs strides costs′ strides′ : List ℕ) → levels ≤ LEVELS → i < depth
-    → Filled nodes levels depth (i + 1) costs strides → RowFilled levels (nodes i) (depth - i) i costs strides costs′ strides′ (drop ((i + 1) * LEVELS) costs)
+    → Filled nodes levels depth (i + 1) costs strides → RowFilled levels (nodes i) (depth - i) i costs strides costs′ strides′
     → Filled nodes levels depth i costs′ strides′
 filled-next nodes levels depth i costs strides costs′ strides′ few h f a = record {
   long-costs = a .long-costs ∙ f .long-costs;
   long-strides = a .long-strides ∙ f .long-strides;
   cost = λ j r p q l. ⊎-elim
-      (λ (z : j ≡ i). subst (λ (y : ℕ). slot costs′ y r ≡ fixBy held nodes r y (depth - y)) (sym z) (own-cost r l))
+      (λ (z : j ≡ i). subst (λ (y : ℕ). cell costs′ y r ≡ fixBy held nodes r y (depth - y)) (sym z) (own-cost r l))
       (λ (z : j ≡ i → ⊥). a .costs-below (j * LEVELS + r) (omega arith) ∙ f .cost j r (omega arith) q l) (same? j i);
   stride = λ j r p q l. ⊎-elim
-      (λ (z : j ≡ i). subst (λ (y : ℕ). slot strides′ y r ≡ pickFixedBy held nodes r y (depth - y)) (sym z) (own-stride r l))
+      (λ (z : j ≡ i). subst (λ (y : ℕ). cell strides′ y r ≡ pickFixedBy held nodes r y (depth - y)) (sym z) (own-stride r l))
       (λ (z : j ≡ i → ⊥). a .strides-below (j * LEVELS + r) (omega arith) ∙ f .stride j r (omega arith) q l) (same? j i);
 }
   where
-    n : ℕ
-    n = depth - i - 1
-
-    sums : (j q : ℕ) → j ≤ depth - i - 1 → q < levels → slot (drop ((i + 1) * LEVELS) costs) j q ≡ fixBy held nodes q (i + suc j) (depth - i - 1 - j)
-    sums j q p l =
-        let e : (i + 1) * LEVELS + (j * LEVELS + q) ≡ (i + suc j) * LEVELS + q = omega arith in
+    below-is : (r q : ℕ) → r ≡ suc q → r < levels → (j : ℕ) → j ≤ depth - i - 1
+        → column ((i + 1) * LEVELS + r - 1) LEVELS costs j ≡ fixBy held nodes q (i + suc j) (depth - i - 1 - j)
+    below-is r q z l j p =
+        let e : (i + 1) * LEVELS + r - 1 + j * LEVELS ≡ (i + suc j) * LEVELS + q = omega arith in
         let g : depth - (i + suc j) ≡ depth - i - 1 - j = omega arith in
-        getD-drop ((i + 1) * LEVELS) costs (j * LEVELS + q) 0 ∙ ap (λ (x : ℕ). getD costs x 0) e
-        ∙ f .cost (i + suc j) q (omega arith) (omega arith) l ∙ ap (λ (x : ℕ). fixBy held nodes q (i + suc j) x) g
+        ap (λ (x : ℕ). getD costs x 0) e ∙ f .cost (i + suc j) q (omega arith) (omega arith) (omega arith) ∙ ap (λ (x : ℕ). fixBy held nodes q (i + suc j) x) g
 
-    own-cost : (r : ℕ) → r < levels → slot costs′ i r ≡ fixBy held nodes r i (depth - i)
+    own-cost : (r : ℕ) → r < levels → cell costs′ i r ≡ fixBy held nodes r i (depth - i)
     own-cost r l =
         let e : depth - i ≡ suc (depth - i - 1) = omega arith in
-        rw e (rw e at (a .cost r l) ∙ fixed-cost nodes levels i (depth - i - 1) (drop ((i + 1) * LEVELS) costs) sums r l)
+        rw e (rw e at (a .cost r l) ∙ fixed-cost nodes i (depth - i - 1) _ r (λ q z. below-is r q z l))
 
-    own-stride : (r : ℕ) → r < levels → slot strides′ i r ≡ pickFixedBy held nodes r i (depth - i)
+    own-stride : (r : ℕ) → r < levels → cell strides′ i r ≡ pickFixedBy held nodes r i (depth - i)
     own-stride r l =
         let e : depth - i ≡ suc (depth - i - 1) = omega arith in
-        rw e (rw e at (a .stride r l) ∙ fixed-stride nodes levels i (depth - i - 1) (drop ((i + 1) * LEVELS) costs) sums r l)
+        rw e (rw e at (a .stride r l) ∙ fixed-stride nodes i (depth - i - 1) _ r (λ q z. below-is r q z l))
 
 -- ---- the list of strides
 
@@ -260,7 +271,7 @@ module _ (counts : List ℕ) (deep levels : ℕ) (t : Trie) (g : FixedIn counts 
       go zero w f c l = absurd (omega arith)
       go (suc m) w f c l =
           let m1 : suc m - 1 ≡ m = omega arith in
-          let zero-row : slot costs 0 m ≡ getD costs (suc m - 1) 0 = ap (λ (x : ℕ). getD costs x 0) (omega arith) in (
+          let zero-row : cell costs 0 m ≡ getD costs (suc m - 1) 0 = ap (λ (x : ℕ). getD costs x 0) (omega arith) in (
             c ∙ sym zero-row ∙ f .cost 0 m (omega arith) (omega arith) (omega arith)
                 ∙ ap₂ (λ (ν : ℕ → ℕ) (x : ℕ). fixBy held ν m 0 x) nodes (sub-zero deep ∙ g .depths),
             l (at counts) (λ j r p q. f .stride j r (omega arith) p q)

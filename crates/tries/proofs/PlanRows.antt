@@ -19,7 +19,7 @@ use Rattle.walk.specs.Limits.{WIDTH, LEVELS}
 use Rattle.tries.specs.Limits.{BYTE}
 use Rattle.tries.specs.Scratch.{ROW, ask, strideAt, Stands, BEFORE-STRIDES, COST, MARKS, STRIDE}
 use Rattle.tries.specs.Trees.{Tree, nil, fork, shape, linkOf, Stand, HasRow, lt, rt, lmark, rmark, rowFor, next, side, setSide, setMark, insertR, addEntry, treeOf}
-use Rattle.tries.specs.Costs.{held, Costed, AllPriced}
+use Rattle.tries.specs.Costs.{held, AllPriced}
 use Rattle.tries.specs.Chooser.{padded}
 use Rattle.tries.proofs.Settling.{ask-col}
 use Rattle.tries.proofs.FixedChoice.{list-head}
@@ -100,7 +100,7 @@ strides-own k rows plan (fork x p l q r) z len a = (
     own zero h g = absurd (omega arith)
     own (suc j) h g =
         let e : BEFORE-STRIDES + suc j ≡ STRIDE + j = omega arith in
-        rw (ne-eqb (x + 1) 0 (λ w. omega arith), eq-eqb (getD plan 0 0) 0 z, e) (a .0 .stride j (omega arith))
+        rw (ne-eqb (x + 1) 0 (λ w. omega arith), eq-eqb (getD plan 0 0) 0 z, e) (ask-col rows x (STRIDE + j) ∙ a .0 .stride j (omega arith))
 
 -- any other plan names the strides of the levels
 strides-fixed : (σ : ℕ → Trie → ℕ) (rows plan : List ℕ) (t : Tree) → (getD plan 0 0 ≡ 0 → ⊥)
@@ -115,17 +115,17 @@ strides-fixed σ rows plan (fork x p l q r) z f = (
 
 -- ---- what the root's row says
 
-pub costed-cost : (k : ℕ) (rows : List ℕ) (root : ℕ) (t : Trie) → Costed k rows root t → (r : ℕ) → r < k → ask rows root (COST + r) ≡ optBy held r t
-unfolding ask optBy
-costed-cost k rows root none c zero h = rw c
-costed-cost k rows root none c (suc r) h = rw c
-costed-cost k rows root (node p a q b) c r h = c .2 .cost r h
+pub root-cost : (k : ℕ) (rows : List ℕ) (t : Tree) → AllPriced k rows t → (r : ℕ) → r < k → ask rows (linkOf t) (COST + r) ≡ optBy held r (shape t)
+unfolding ask optBy shape
+root-cost k rows nil a zero h = refl
+root-cost k rows nil a (suc r) h = refl
+root-cost k rows (fork x p l q u) a r h = ask-col rows x (COST + r) ∙ a .0 .cost r h
 
-pub costed-stride : (k : ℕ) (rows : List ℕ) (root : ℕ) (t : Trie) → Costed k rows root t → (r : ℕ) → r < k → ask rows root (STRIDE + r) ≡ pickBy held r t
-unfolding ask pickBy
-costed-stride k rows root none c zero h = rw c
-costed-stride k rows root none c (suc r) h = rw c
-costed-stride k rows root (node p a q b) c r h = c .2 .stride r h
+pub root-pick : (k : ℕ) (rows : List ℕ) (t : Tree) → AllPriced k rows t → (r : ℕ) → r < k → ask rows (linkOf t) (STRIDE + r) ≡ pickBy held r (shape t)
+unfolding ask pickBy shape
+root-pick k rows nil a zero h = refl
+root-pick k rows nil a (suc r) h = refl
+root-pick k rows (fork x p l q u) a r h = ask-col rows x (STRIDE + r) ∙ a .0 .stride r h
 
 pub least-variable : (k : ℕ) (t : Trie) → 1 ≤ k → optBy held (k - 1) t ≡ leastBy held variable k t
 unfolding leastBy

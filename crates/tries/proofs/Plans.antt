@@ -11,7 +11,7 @@ use Rattle.table.specs.Table.{at}
 use Rattle.strides.specs.Trie.{Trie, depth, size}
 use Rattle.strides.specs.Entries.{longestLength}
 use Rattle.strides.specs.Cheapest.{Kind, fixed, variable}
-use Rattle.strides.specs.Recurrence.{plain, pickBy, leastBy, stridesBy, fixedStrides}
+use Rattle.strides.specs.Recurrence.{plain, optBy, pickBy, leastBy, stridesBy, fixedStrides}
 use Rattle.strides.specs.Strides.{variableStride, fixedStride, chosenBy}
 use Rattle.strides.proofs.Insertion.{trie-depth, trie-depth-width, nodes-entries}
 use Rattle.strides.proofs.Capped.{least-capped, strides-capped, cap-never-bites}
@@ -21,17 +21,17 @@ use Rattle.tries.specs.Scratch.{ROW, ask, Stands, BEFORE-COSTS, BEFORE-S
 use Rattle.layout.specs.Laid.{tableTrie}
 use Rattle.tries.specs.Trees.{Tree, nil, fork, shape, linkOf, HasRow, treeOf}
 use Rattle.tries.specs.Making.{Prefixes, MakeIn, MakeOut}
-use Rattle.tries.specs.Costs.{held, Costed, TreeIn, TreeAsk, TreeDone}
+use Rattle.tries.specs.Costs.{held, TreeIn, TreeAsk, TreeDone}
 use Rattle.tries.specs.LevelCounts.{CountsOf}
 use Rattle.tries.specs.FixedChoice.{FixedIn, FixedOut}
 use Rattle.tries.specs.Chooser.{padded}
 use Rattle.table.proofs.Zeroes.{zeros-read}
 use Rattle.tries.proofs.Making.{tree-shape}
-use Rattle.tries.proofs.Settling.{tree-costed}
+use Rattle.tries.proofs.Settling.{priced-none}
 use Rattle.tries.proofs.FixedChoice.{padded-read, padded-length}
 use Rattle.tries.specs.Plans.{PlanIn, Planned}
 use Rattle.tries.proofs.ChooseTests.{table-prefixes}
-use Rattle.tries.proofs.PlanRows.{small-tree, tree-stands, strides-own, costed-cost, costed-stride, least-variable, root-stride, fixed-strides}
+use Rattle.tries.proofs.PlanRows.{small-tree, tree-stands, strides-own, root-cost, root-pick, least-variable, root-stride, fixed-strides}
 
 -- ---- the plan of each kind
 
@@ -74,17 +74,18 @@ module _ (W k : ℕ) (vs ls hs scratch : List ℕ) (g : PlanIn W k vs ls hs scra
     rows-fit : (y : ℕ) → HasRow y tree → (y + 1) * ROW ≤ length rows
     rows-fit y h = omega (arith, m .laid .under y h, ap size tree-trie, g .room)
 
-    tree-in : TreeIn k rows root 0 tree
+    tree-in : TreeIn 0 rows root 0 tree
     tree-in = record {
       link = m .link;
       stand = m .laid .stand;
+      depths = m .laid .deep;
+      priced = priced-none rows tree;
       apart = m .laid .apart;
       fits = rows-fit;
       deep = omega (arith, ap depth tree-trie, plan-depth);
-      few = g .levels .1;
     }
 
-    pub settle-in : TreeAsk k rows root 0
+    pub settle-in : TreeAsk 0 rows root 0
     settle-in = (tree, tree-in)
 
     pub root-fits : (rows′ : List ℕ) → length rows′ ≡ length rows → root * ROW ≤ length rows′
@@ -129,24 +130,24 @@ module _ (W k : ℕ) (vs ls hs scratch : List ℕ) (g : PlanIn W k vs ls hs scra
               (λ i u p q. ap (λ (y : ℕ). getD plan (y - i) 0) long ∙ read (k - i) (omega (arith, long)))));
         }
 
-    pub plan-variable : (rows′ : List ℕ) (cost stride : ℕ) → length rows′ ≡ length rows → TreeDone k rows root 0 rows′ → cost ≡ ask rows′ root (BEFORE-COSTS + k)
+    pub plan-variable : (rows′ : List ℕ) (cost stride : ℕ) → length rows′ ≡ length rows → TreeDone 0 k rows root 0 rows′ → cost ≡ ask rows′ root (BEFORE-COSTS + k)
         → stride ≡ ask rows′ root (BEFORE-STRIDES + k)
         → Planned variable W k vs ls hs cost (set (replicate LEVELS 0) 0 (stride % BYTE)) (replicate LEVELS 0) root rows′
     unfolding chosenBy
     plan-variable rows′ cost stride len′ d e f =
         let o = d tree tree-in in
         let fits : (y : ℕ) → HasRow y tree → (y + 1) * ROW ≤ length rows′ = λ y h. omega (arith, rows-fit y h) in
-        let c : Costed k rows′ root trie
-        = subst (Costed k rows′ root) tree-trie (subst (λ (x : ℕ). Costed k rows′ x (shape tree)) (sym (m .link)) (tree-costed k rows′ tree (o .stand) (o .priced) fits)) in
         let k1 : k - 1 < k = omega (arith, g .levels .0) in
         let costs-from : BEFORE-COSTS + k ≡ COST + (k - 1) = omega (arith, g .levels .0) in
         let strides-from : BEFORE-STRIDES + k ≡ STRIDE + (k - 1) = omega (arith, g .levels .0) in
         let b = below-cap variable in
         let plan = take {A = ℕ} k (replicate LEVELS 0) in
         let long : length plan ≡ k = length-take {A = ℕ} k (replicate LEVELS 0) ∙ omega (arith, g .levels .1) in
-        let own : stride ≡ pickBy held (k - 1) trie = f ∙ ap (ask rows′ root) strides-from ∙ costed-stride k rows′ root trie c (k - 1) k1 in
+        let own : stride ≡ pickBy held (k - 1) trie
+        = f ∙ ap (ask rows′ root) strides-from ∙ ap (λ (x : ℕ). ask rows′ x (STRIDE + (k - 1))) (m .link) ∙ root-pick k rows′ tree (o .priced) (k - 1) k1 ∙ ap (pickBy held (k - 1)) tree-trie in
         record {
-          least = e ∙ ap (ask rows′ root) costs-from ∙ costed-cost k rows′ root trie c (k - 1) k1 ∙ least-variable k trie (g .levels .0)
+          least = e ∙ ap (ask rows′ root) costs-from ∙ ap (λ (x : ℕ). ask rows′ x (COST + (k - 1))) (m .link) ∙ root-cost k rows′ tree (o .priced) (k - 1) k1
+              ∙ ap (optBy held (k - 1)) tree-trie ∙ least-variable k trie (g .levels .0)
               ∙ least-capped COST-CAP variable k trie ∙ omega arith;
           named = root-stride k trie stride (g .levels .0) own plan-depth ∙ ap (padded LEVELS) (strides-capped COST-CAP variable k trie (g .levels .0) b);
           plan-long = refl;

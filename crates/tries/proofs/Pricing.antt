@@ -18,7 +18,7 @@ use Rattle.walk.specs.Limits.{WIDTH, LEVELS}
 use Rattle.tries.specs.Limits.{ENTRIES, COST-CAP}
 use Rattle.tries.specs.Scratch.{ROW, ask, COST, STRIDE}
 use Rattle.tries.specs.Trees.{col}
-use Rattle.tries.specs.Costs.{held, slot, price, bestCost, bestStride, Stored}
+use Rattle.tries.specs.Costs.{held, price, bestCost, bestStride, column, COLUMNS, Stored}
 use Rattle.tries.proofs.Gathering.{same?}
 
 -- ---- the scan
@@ -49,70 +49,72 @@ blocks-fit n p x h e = let le : p ≤ COST-CAP = omega arith in omega (arith, mu
 held-sum : (x y : ℕ) → held (x + y) ≡ held (held x + held y)
 held-sum x y = omega arith
 
-module _ (levels : ℕ) (sums : List ℕ) (a b : Trie)
-    (sum : (j q : ℕ) → j ≤ max (depth a) (depth b) → q < levels → slot sums j q ≡ held (sumBelow j (optBy held q) a + sumBelow j (optBy held q) b)) where
-  price-first : (q j : ℕ) → q < levels → j ≤ max (depth a) (depth b) → price sums 1 q j ≡ withFirst held (optBy held q) a b j
+-- `below` holds what the blocks of a and b cost together on each level, with m + 1 levels left
+module _ (a b : Trie) (below : ℕ → ℕ) where
+  abbrev pub Below : ℕ → Type 0
+  Below m = (j : ℕ) → j ≤ max (depth a) (depth b) → below j ≡ held (sumBelow j (optBy held m) a + sumBelow j (optBy held m) b)
+
+  price-first : (m : ℕ) → Below m → (j : ℕ) → j ≤ max (depth a) (depth b) → price below 1 j ≡ withFirst held (optBy held m) a b j
   unfolding price withFirst
-  price-first q j l h =
-      let f = optBy held q in
-      let low : (u : Trie) → f u ≡ held (f u) = λ u. omega (arith, opt-capped COST-CAP q u) in
+  price-first m sum j h =
+      let f = optBy held m in
+      let low : (u : Trie) → f u ≡ held (f u) = λ u. omega (arith, opt-capped COST-CAP m u) in
       rw (one-mul (held (2 ^ suc j)))
       (ap (λ (s : ℕ). held (held (2 ^ suc j) + s))
-      (sum j q h l ∙ held-sum (sumBelow j f a) (sumBelow j f b) ∙ ap₂ (λ (x y : ℕ). held (x + y)) (sym (sum-capped COST-CAP f f low j a)) (sym (sum-capped COST-CAP f f low j b))))
+      (sum j h ∙ held-sum (sumBelow j f a) (sumBelow j f b) ∙ ap₂ (λ (x y : ℕ). held (x + y)) (sym (sum-capped COST-CAP f f low j a)) (sym (sum-capped COST-CAP f f low j b))))
 
-  pub best-cost : (p q r : ℕ) → r < levels → bestCost sums 1 (suc (max (depth a) (depth b))) r ≡ optBy held r (node p a q b)
+  pub best-cost : (p q r : ℕ) → ((m : ℕ) → r ≡ suc m → Below m) → bestCost below 1 (suc (max (depth a) (depth b))) r ≡ optBy held r (node p a q b)
   unfolding bestCost optBy
-  best-cost p q zero l = omega (arith, one-mul (held (2 ^ suc (max (depth a) (depth b)))))
-  best-cost p q (suc m) l = ap (λ (x : ℕ × ℕ). x .1) (scan-same (price sums 1 m) (withFirst held (optBy held m) a b) (max (depth a) (depth b)) (λ j h. price-first m j (omega arith) h))
+  best-cost p q zero s = omega (arith, one-mul (held (2 ^ suc (max (depth a) (depth b)))))
+  best-cost p q (suc m) s = ap (λ (x : ℕ × ℕ). x .1) (scan-same (price below 1) (withFirst held (optBy held m) a b) (max (depth a) (depth b)) (price-first m (s m refl)))
 
-  pub best-stride : (p q r : ℕ) → r < levels → bestStride sums 1 (suc (max (depth a) (depth b))) r ≡ pickBy held r (node p a q b)
+  pub best-stride : (p q r : ℕ) → ((m : ℕ) → r ≡ suc m → Below m) → bestStride below 1 (suc (max (depth a) (depth b))) r ≡ pickBy held r (node p a q b)
   unfolding bestStride pickBy
-  best-stride p q zero l = refl
-  best-stride p q (suc m) l = ap (λ (x : ℕ × ℕ). suc (x .0)) (scan-same (price sums 1 m) (withFirst held (optBy held m) a b) (max (depth a) (depth b)) (λ j h. price-first m j (omega arith) h))
+  best-stride p q zero s = refl
+  best-stride p q (suc m) s = ap (λ (x : ℕ × ℕ). suc (x .0)) (scan-same (price below 1) (withFirst held (optBy held m) a b) (max (depth a) (depth b)) (price-first m (s m refl)))
 
 -- with more than one level left
-pub choice-more : (sums : List ℕ) (n d r : ℕ) → (r ≡ 0 → ⊥)
-    → (scan (price sums n (r - 1)) (d - 1) .1 ≡ bestCost sums n d r) × (scan (price sums n (r - 1)) (d - 1) .0 + 1 ≡ bestStride sums n d r)
+pub choice-more : (below : ℕ → ℕ) (n d r : ℕ) → (r ≡ 0 → ⊥)
+    → (scan (price below n) (d - 1) .1 ≡ bestCost below n d r) × (scan (price below n) (d - 1) .0 + 1 ≡ bestStride below n d r)
 unfolding bestCost bestStride
-choice-more sums n d zero ne = absurd (ne refl)
-choice-more sums n d (suc q) ne =
-    let e : suc q - 1 ≡ q = omega arith in
-    let f : d - 1 ≡ pred d = omega arith in
-    rw (e, f) (refl, add-one (scan (price sums n q) (pred d) .0))
+choice-more below n d zero ne = absurd (ne refl)
+choice-more below n d (suc q) ne = let f : d - 1 ≡ pred d = omega arith in rw f (refl, add-one (scan (price below n) (pred d) .0))
 
 -- ---- storing them, number by number
 
-pub store-start : (rows : List ℕ) (x d : ℕ) (sums : List ℕ) → Stored 0 rows x d sums rows
-store-start rows x d sums = record {
-  cost = λ r h. absurd (omega arith);
-  stride = λ r h. absurd (omega arith);
-  before = λ i h. refl;
-  after = λ i h. refl;
-  costs-above = λ r h g. refl;
-  strides-above = λ r h g. refl;
-}
+module _ (from : ℕ) (rows : List ℕ) (x d place : ℕ) (sums : List ℕ) where
+  pub store-start : Stored from from rows x d place sums rows
+  store-start = record {
+    cost = λ r h g. absurd (omega arith);
+    stride = λ r h g. absurd (omega arith);
+    before = λ i h. refl;
+    between = λ i h g. refl;
+    after = λ i h. refl;
+  }
 
-pub store-next : (rows : List ℕ) (x d : ℕ) (sums rows1 rows2 rows3 : List ℕ) (m c s : ℕ) → m < LEVELS → (x + 1) * ROW ≤ length rows1 → (x + 1) * ROW ≤ length rows2
-    → Stored m rows x d sums rows1 → c ≡ bestCost sums 1 d m → s ≡ bestStride sums 1 d m
-    → rows2 ≡ set rows1 (x * ROW + (COST + m)) c → rows3 ≡ set rows2 (x * ROW + (STRIDE + m)) s → Stored (m + 1) rows x d sums rows3
-store-next rows x d sums rows1 rows2 rows3 m c s hm f1 f2 st ec es e2 e3 =
-    let one : (i : ℕ) → (i ≡ x * ROW + (COST + m) → ⊥) → getD rows2 i 0 ≡ getD rows1 i 0
-    = λ i ne. ap (λ (l : List ℕ). getD l i 0) e2 ∙ getD-set-other rows1 (x * ROW + (COST + m)) i c 0 ne in
-    let two : (i : ℕ) → (i ≡ x * ROW + (STRIDE + m) → ⊥) → getD rows3 i 0 ≡ getD rows2 i 0
-    = λ i ne. ap (λ (l : List ℕ). getD l i 0) e3 ∙ getD-set-other rows2 (x * ROW + (STRIDE + m)) i s 0 ne in
-    let far : (i : ℕ) → (i ≡ x * ROW + (COST + m) → ⊥) → (i ≡ x * ROW + (STRIDE + m) → ⊥) → getD rows3 i 0 ≡ getD rows1 i 0
-    = λ i n1 n2. two i n2 ∙ one i n1 in
-    let cost : col rows3 x (COST + m) ≡ bestCost sums 1 d m
-    = two (x * ROW + (COST + m)) (λ q. omega arith) ∙ ap (λ (l : List ℕ). getD l (x * ROW + (COST + m)) 0) e2 ∙ getD-set-same rows1 (x * ROW + (COST + m)) c 0 (omega arith) ∙ ec in
-    let stride : col rows3 x (STRIDE + m) ≡ bestStride sums 1 d m
-    = ap (λ (l : List ℕ). getD l (x * ROW + (STRIDE + m)) 0) e3 ∙ getD-set-same rows2 (x * ROW + (STRIDE + m)) s 0 (omega arith) ∙ es in
-    record {
-      cost = λ r h. ⊎-elim (λ (z : r ≡ m). subst (λ (y : ℕ). col rows3 x (COST + y) ≡ bestCost sums 1 d y) (sym z) cost)
-          (λ (z : r ≡ m → ⊥). far (x * ROW + (COST + r)) (λ q. omega arith) (λ q. omega arith) ∙ st .cost r (omega arith)) (same? r m);
-      stride = λ r h. ⊎-elim (λ (z : r ≡ m). subst (λ (y : ℕ). col rows3 x (STRIDE + y) ≡ bestStride sums 1 d y) (sym z) stride)
-          (λ (z : r ≡ m → ⊥). far (x * ROW + (STRIDE + r)) (λ q. omega arith) (λ q. omega arith) ∙ st .stride r (omega arith)) (same? r m);
-      before = λ i h. far i (λ q. omega arith) (λ q. omega arith) ∙ st .before i h;
-      after = λ i h. far i (λ q. omega arith) (λ q. omega arith) ∙ st .after i h;
-      costs-above = λ r h g. far (x * ROW + (COST + r)) (λ q. omega arith) (λ q. omega arith) ∙ st .costs-above r (omega arith) g;
-      strides-above = λ r h g. far (x * ROW + (STRIDE + r)) (λ q. omega arith) (λ q. omega arith) ∙ st .strides-above r (omega arith) g;
-    }
+  abbrev below : ℕ → ℕ → ℕ
+  below r = column (place + (r - from)) COLUMNS sums
+
+  pub store-next : (rows1 rows2 rows3 : List ℕ) (m c s : ℕ) → from ≤ m → m < LEVELS → (x + 1) * ROW ≤ length rows1 → (x + 1) * ROW ≤ length rows2
+      → Stored from m rows x d place sums rows1 → c ≡ bestCost (below m) 1 d m → s ≡ bestStride (below m) 1 d m
+      → rows2 ≡ set rows1 (x * ROW + (COST + m)) c → rows3 ≡ set rows2 (x * ROW + (STRIDE + m)) s → Stored from (m + 1) rows x d place sums rows3
+  store-next rows1 rows2 rows3 m c s lo hm f1 f2 st ec es e2 e3 =
+      let one : (i : ℕ) → (i ≡ x * ROW + (COST + m) → ⊥) → getD rows2 i 0 ≡ getD rows1 i 0
+      = λ i ne. ap (λ (l : List ℕ). getD l i 0) e2 ∙ getD-set-other rows1 (x * ROW + (COST + m)) i c 0 ne in
+      let two : (i : ℕ) → (i ≡ x * ROW + (STRIDE + m) → ⊥) → getD rows3 i 0 ≡ getD rows2 i 0
+      = λ i ne. ap (λ (l : List ℕ). getD l i 0) e3 ∙ getD-set-other rows2 (x * ROW + (STRIDE + m)) i s 0 ne in
+      let far : (i : ℕ) → (i ≡ x * ROW + (COST + m) → ⊥) → (i ≡ x * ROW + (STRIDE + m) → ⊥) → getD rows3 i 0 ≡ getD rows1 i 0
+      = λ i n1 n2. two i n2 ∙ one i n1 in
+      let cost : col rows3 x (COST + m) ≡ bestCost (below m) 1 d m
+      = two (x * ROW + (COST + m)) (λ q. omega arith) ∙ ap (λ (l : List ℕ). getD l (x * ROW + (COST + m)) 0) e2 ∙ getD-set-same rows1 (x * ROW + (COST + m)) c 0 (omega arith) ∙ ec in
+      let stride : col rows3 x (STRIDE + m) ≡ bestStride (below m) 1 d m
+      = ap (λ (l : List ℕ). getD l (x * ROW + (STRIDE + m)) 0) e3 ∙ getD-set-same rows2 (x * ROW + (STRIDE + m)) s 0 (omega arith) ∙ es in
+      record {
+        cost = λ r g h. ⊎-elim (λ (z : r ≡ m). subst (λ (y : ℕ). col rows3 x (COST + y) ≡ bestCost (below y) 1 d y) (sym z) cost)
+            (λ (z : r ≡ m → ⊥). far (x * ROW + (COST + r)) (λ q. omega arith) (λ q. omega arith) ∙ st .cost r g (omega arith)) (same? r m);
+        stride = λ r g h. ⊎-elim (λ (z : r ≡ m). subst (λ (y : ℕ). col rows3 x (STRIDE + y) ≡ bestStride (below y) 1 d y) (sym z) stride)
+            (λ (z : r ≡ m → ⊥). far (x * ROW + (STRIDE + r)) (λ q. omega arith) (λ q. omega arith) ∙ st .stride r g (omega arith)) (same? r m);
+        before = λ i h. far i (λ q. omega arith) (λ q. omega arith) ∙ st .before i h;
+        between = λ i h g. far i (λ q. omega arith) (λ q. omega arith) ∙ st .between i (omega arith) g;
+        after = λ i h. far i (λ q. omega arith) (λ q. omega arith) ∙ st .after i (omega arith);
+      }

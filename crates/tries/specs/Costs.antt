@@ -1,151 +1,174 @@
--- The least costs in the rows (columns DEPTH, COST and STRIDE), and how a row's are worked out from the rows below: `sums` holds, for
--- each stride and number of levels left, what the blocks that many levels below cost together. Every sum and power is held
--- at the cap.
+-- The least costs in the rows (columns COST and STRIDE), and how they are worked out from the bottom up, some numbers of levels in a
+-- pass: `sums` holds, for each level below a node and each number of levels left, what the blocks there cost together; a node hands its
+-- sums up to the one above. Every sum and power is held at the cap.
 use mathlib.Core.Path.{_≡_}
 use mathlib.Core.List.{List}
-use mathlib.Core.Bool.{Bool, cond}
-use Prim.Native.Nat.{ℕ, zero, suc, pred, max, _+_, _-_, _*_, _^_, _≤_, _<_}
+use Prim.Native.Nat.{ℕ, zero, suc, pred, _+_, _-_, _*_, _/_, _^_, _≤_, _<_}
 use lib.ListN.{length, getD}
-use lib.Dec.{ltb, eqb}
-use Rattle.strides.specs.Trie.{Trie, none, node, depth, sumBelow}
+use Rattle.strides.specs.Trie.{Trie, node, depth, sumBelow}
 use Rattle.strides.specs.Recurrence.{atCap, scan, optBy, pickBy}
 use Rattle.walk.specs.Limits.{WIDTH, LEVELS}
 use Rattle.tries.specs.Limits.{COST-CAP}
-use Rattle.tries.specs.Scratch.{ROW, ask, COST, DEPTH, STRIDE}
-use Rattle.tries.specs.Trees.{Tree, nil, fork, shape, linkOf, col, Stand, HasRow, Apart}
+use Rattle.tries.specs.Scratch.{ROW, ask, COST, DEPTH, STRIDE, BEFORE-COSTS}
+use Rattle.tries.specs.Trees.{Tree, nil, fork, shape, linkOf, col, Stand, Deep, HasRow, Apart}
 
 abbrev pub held : ℕ → ℕ
 held x = atCap COST-CAP x
 
 -- ---- what the rows hold
 
--- the row of link k holds the depth of t and, for 1 to `levels` levels left, its least costs and strides
-pub record Priced (levels : ℕ) (rows : List ℕ) (k : ℕ) (t : Trie) : Type 0 where
-  pub deep : ask rows k DEPTH ≡ depth t
-  pub cost : (r : ℕ) → r < levels → ask rows k (COST + r) ≡ optBy held r t
-  pub stride : (r : ℕ) → r < levels → ask rows k (STRIDE + r) ≡ pickBy held r t
+-- row x holds the least costs and strides of t for 1 to `levels` levels left
+pub record Priced (levels : ℕ) (rows : List ℕ) (x : ℕ) (t : Trie) : Type 0 where
+  pub cost : (r : ℕ) → r < levels → col rows x (COST + r) ≡ optBy held r t
+  pub stride : (r : ℕ) → r < levels → col rows x (STRIDE + r) ≡ pickBy held r t
 
--- so do all the rows that links lead to
-abbrev pub Costed : ℕ → List ℕ → ℕ → Trie → Type 0
-Costed levels rows k none = k ≡ 0
-Costed levels rows k (node p a q b) =
-    (0 < k) × (k * ROW ≤ length rows) × Priced levels rows k (node p a q b)
-    × Costed levels rows (ask rows k 0) a × Costed levels rows (ask rows k 1) b
-
--- ---- sums over the rows below
-
--- the place for stride j + 1 and r + 1 levels left, of WIDTH times LEVELS
-abbrev pub CELLS : ℕ
-CELLS = WIDTH * LEVELS
-
-abbrev pub slot : List ℕ → ℕ → ℕ → ℕ
-slot sums j r = getD sums (j * LEVELS + r) 0
-
--- what f says of the subtries at depth j, where t stands at depth d
-unfoldable pub sumAt : ℕ → ℕ → (Trie → ℕ) → Trie → ℕ
-sumAt d j f t = cond (ltb j d) 0 (sumBelow (j - d) f t)
-
--- the row of link k, standing at depth d, is added at each of the first m numbers of levels
-pub record RowAdded (m : ℕ) (rows : List ℕ) (k d : ℕ) (sums sums′ : List ℕ) : Type 0 where
-  pub here : (r : ℕ) → r < m → slot sums′ d r ≡ held (slot sums d r + ask rows k (COST + r))
-  pub later : (r : ℕ) → m ≤ r → r < LEVELS → slot sums′ d r ≡ slot sums d r
-  pub other : (j r : ℕ) → (j ≡ d → ⊥) → r < LEVELS → slot sums′ j r ≡ slot sums j r
-
-pub record GatherIn (levels : ℕ) (rows : List ℕ) (k d : ℕ) (sums : List ℕ) : Type 0 where
-  pub trie : Trie
-  pub costed : Costed levels rows k trie
-  pub deep : d + depth trie ≤ WIDTH
-  pub long : length sums ≡ CELLS
-  pub few : levels ≤ LEVELS
-
-abbrev pub Gathered : ℕ → List ℕ → ℕ → ℕ → List ℕ → List ℕ → Type 0
-Gathered levels rows k d sums sums′ =
-    (t : Trie) → Costed levels rows k t → ((j r : ℕ) → j < WIDTH → r < levels → slot sums j r ≤ COST-CAP)
-    → (j r : ℕ) → j < WIDTH → r < levels → slot sums′ j r ≡ held (slot sums j r + sumAt d j (optBy held r) t)
-
--- ---- the cheapest stride of a node of the given depth
-
--- what n blocks of stride j + 1 cost, where the blocks below have q + 1 levels left
-unfoldable pub price : List ℕ → ℕ → ℕ → ℕ → ℕ
-price sums n q j = held (n * held (2 ^ suc j) + slot sums j q)
-
--- with one level left the stride reaches the bottom
-unfoldable pub bestCost : List ℕ → ℕ → ℕ → ℕ → ℕ
-bestCost sums n d zero = held (n * held (2 ^ d))
-bestCost sums n d (suc q) = scan (price sums n q) (pred d) .1
-
-unfoldable pub bestStride : List ℕ → ℕ → ℕ → ℕ → ℕ
-bestStride sums n d zero = d
-bestStride sums n d (suc q) = suc (scan (price sums n q) (pred d) .0)
-
--- ---- one row settled from those below
-
--- row x: what is stored of the choices, and what is kept
-pub record Stored (levels : ℕ) (rows : List ℕ) (x d : ℕ) (sums rows′ : List ℕ) : Type 0 where
-  pub cost : (r : ℕ) → r < levels → col rows′ x (COST + r) ≡ bestCost sums 1 d r
-  pub stride : (r : ℕ) → r < levels → col rows′ x (STRIDE + r) ≡ bestStride sums 1 d r
-  pub before : (i : ℕ) → i < x * ROW + COST → getD rows′ i 0 ≡ getD rows i 0
-  pub after : (i : ℕ) → (x + 1) * ROW ≤ i → getD rows′ i 0 ≡ getD rows i 0
-  pub costs-above : (r : ℕ) → levels ≤ r → r < LEVELS → col rows′ x (COST + r) ≡ col rows x (COST + r)
-  pub strides-above : (r : ℕ) → levels ≤ r → r < LEVELS → col rows′ x (STRIDE + r) ≡ col rows x (STRIDE + r)
-
-pub record SettleIn (levels : ℕ) (rows : List ℕ) (k : ℕ) : Type 0 where
-  pub some : 0 < k
-  pub fits : k * ROW ≤ length rows
-  pub few : levels ≤ LEVELS
-  pub a : Trie
-  pub b : Trie
-  pub left : Costed levels rows (ask rows k 0) a
-  pub right : Costed levels rows (ask rows k 1) b
-  pub deep : suc (max (depth a) (depth b)) ≤ WIDTH
-
--- what the subtries on both sides of the row at link k cost together, s levels down, from sums that are 0
-abbrev pub Summed : ℕ → List ℕ → ℕ → List ℕ → List ℕ → Type 0
-Summed levels rows k sums sums′ =
-    (a b : Trie) → Costed levels rows (ask rows k 0) a → Costed levels rows (ask rows k 1) b → ((j r : ℕ) → j < WIDTH → r < levels → slot sums j r ≡ 0)
-    → (j r : ℕ) → j < WIDTH → r < levels → slot sums′ j r ≡ held (sumBelow j (optBy held r) a + sumBelow j (optBy held r) b)
-
-abbrev pub DepthOver : ℕ → List ℕ → ℕ → ℕ → Type 0
-DepthOver levels rows k d = (a b : Trie) → Costed levels rows (ask rows k 0) a → Costed levels rows (ask rows k 1) b → d ≡ suc (max (depth a) (depth b))
-
--- only row k's depth, costs and strides change
-pub record Settled (levels : ℕ) (rows : List ℕ) (k : ℕ) (rows′ : List ℕ) : Type 0 where
-  pub priced : (a b : Trie) (p q : ℕ) → Costed levels rows (ask rows k 0) a → Costed levels rows (ask rows k 1) b → Priced levels rows′ k (node p a q b)
-  pub others : (y c : ℕ) → (y + 1 ≡ k → ⊥) → c < ROW → col rows′ y c ≡ col rows y c
-  pub links : (c : ℕ) → c < DEPTH → ask rows′ k c ≡ ask rows k c
-  pub spare : (c : ℕ) → DEPTH < c → c < COST → ask rows′ k c ≡ ask rows k c
-  pub costs-above : (r : ℕ) → levels ≤ r → r < LEVELS → ask rows′ k (COST + r) ≡ ask rows k (COST + r)
-  pub strides-above : (r : ℕ) → levels ≤ r → r < LEVELS → ask rows′ k (STRIDE + r) ≡ ask rows k (STRIDE + r)
-
--- ---- a whole tree
-
--- each row of the tree is priced
+-- so does each row of the tree
 abbrev pub AllPriced : ℕ → List ℕ → Tree → Type 0
 AllPriced levels rows nil = Unit {0}
 AllPriced levels rows (fork x p l q r) =
-    Priced levels rows (x + 1) (node p (shape l) q (shape r)) × AllPriced levels rows l × AllPriced levels rows r
+    Priced levels rows x (node p (shape l) q (shape r)) × AllPriced levels rows l × AllPriced levels rows r
 
--- the columns for more levels are 0
-abbrev pub AboveZero : ℕ → List ℕ → Tree → Type 0
-AboveZero levels rows t = (y r : ℕ) → HasRow y t → levels ≤ r → r < LEVELS → (col rows y (COST + r) ≡ 0) × (col rows y (STRIDE + r) ≡ 0)
+-- ---- the cheapest stride of a node of depth d, where `below j` is what the blocks j + 1 levels lower cost together
 
--- the tree stands in rows that are there
-pub record TreeIn (levels : ℕ) (rows : List ℕ) (k d : ℕ) (t : Tree) : Type 0 where
+-- what n blocks of stride j + 1 cost
+unfoldable pub price : (ℕ → ℕ) → ℕ → ℕ → ℕ
+price below n j = held (n * held (2 ^ suc j) + below j)
+
+-- with one level left the stride reaches the bottom
+unfoldable pub bestCost : (ℕ → ℕ) → ℕ → ℕ → ℕ → ℕ
+bestCost below n d zero = held (n * held (2 ^ d))
+bestCost below n d (suc q) = scan (price below n) (pred d) .1
+
+unfoldable pub bestStride : (ℕ → ℕ) → ℕ → ℕ → ℕ → ℕ
+bestStride below n d zero = d
+bestStride below n d (suc q) = suc (scan (price below n) (pred d) .0)
+
+-- a column of a list in rows: its first number stands at a place, and the next ones `pitch` places later each
+abbrev pub column : (place pitch : ℕ) → List ℕ → ℕ → ℕ
+column place pitch list j = getD list (place + j * pitch) 0
+
+-- ---- a pass: from + 1 to `to` levels left
+
+-- numbers of levels in a pass
+abbrev pub COLUMNS : ℕ
+COLUMNS = 8
+
+pub record Pass (from to : ℕ) : Type 0 where
+  pub some : from < to
+  pub few : to ≤ from + COLUMNS
+  pub most : to ≤ LEVELS
+
+-- rows of the sums: at depth d those of WIDTH - d levels, and of the nodes above; and one that is only read
+abbrev pub SUM-ROWS : ℕ
+SUM-ROWS = WIDTH * (WIDTH + 1) / 2 + 1
+
+abbrev pub SUM-CELLS : ℕ
+SUM-CELLS = SUM-ROWS * COLUMNS
+
+-- row j, at a number of levels left that is c more than the pass begins with
+abbrev pub slot : List ℕ → ℕ → ℕ → ℕ
+slot sums j c = getD sums (j * COLUMNS + c) 0
+
+-- row x: what is stored of the choices, from the sums that stand from `place` on; all else is kept
+pub record Stored (from to : ℕ) (rows : List ℕ) (x d place : ℕ) (sums rows′ : List ℕ) : Type 0 where
+  pub cost : (r : ℕ) → from ≤ r → r < to → col rows′ x (COST + r) ≡ bestCost (column (place + (r - from)) COLUMNS sums) 1 d r
+  pub stride : (r : ℕ) → from ≤ r → r < to → col rows′ x (STRIDE + r) ≡ bestStride (column (place + (r - from)) COLUMNS sums) 1 d r
+  pub before : (i : ℕ) → i < x * ROW + (COST + from) → getD rows′ i 0 ≡ getD rows i 0
+  pub between : (i : ℕ) → x * ROW + (COST + to) ≤ i → i < x * ROW + (STRIDE + from) → getD rows′ i 0 ≡ getD rows i 0
+  pub after : (i : ℕ) → x * ROW + (STRIDE + to) ≤ i → getD rows′ i 0 ≡ getD rows i 0
+
+-- no sum is above the cap
+abbrev pub SmallSums : List ℕ → Type 0
+SmallSums sums = (i : ℕ) → getD sums i 0 ≤ COST-CAP
+
+-- the costs of the row at link k are added in row j of the sums
+pub record RowAdded (from to : ℕ) (rows : List ℕ) (k j : ℕ) (sums sums′ : List ℕ) : Type 0 where
+  pub here : (r : ℕ) → 1 ≤ r → from ≤ r → r < to → slot sums′ j (r - from) ≡ held (slot sums j (r - from) + ask rows k (BEFORE-COSTS + r))
+  pub before : (i : ℕ) → i < j * COLUMNS → getD sums′ i 0 ≡ getD sums i 0
+  pub after : (i : ℕ) → j * COLUMNS + (to - from) ≤ i → getD sums′ i 0 ≡ getD sums i 0
+  pub small : SmallSums sums → SmallSums sums′
+
+-- the n places from `down` on are added to those from `up` on, and cleared
+pub record Lifted (sums : List ℕ) (up down n : ℕ) (sums′ : List ℕ) : Type 0 where
+  pub lifted : (i : ℕ) → i < n → getD sums′ (up + i) 0 ≡ held (getD sums (up + i) 0 + getD sums (down + i) 0)
+  pub gone : (i : ℕ) → i < n → getD sums′ (down + i) 0 ≡ 0
+  pub before : (i : ℕ) → i < up → getD sums′ i 0 ≡ getD sums i 0
+  pub between : (i : ℕ) → up + n ≤ i → i < down → getD sums′ i 0 ≡ getD sums i 0
+  pub after : (i : ℕ) → down + n ≤ i → getD sums′ i 0 ≡ getD sums i 0
+  pub small : SmallSums sums → SmallSums sums′
+
+-- the m rows from row `below` on are added to those after row j, and cleared; the costs of the row at link k are added in row j
+pub record HandedUp (from to : ℕ) (rows : List ℕ) (k j below m : ℕ) (sums sums′ : List ℕ) : Type 0 where
+  pub own : (r : ℕ) → 1 ≤ r → from ≤ r → r < to → slot sums′ j (r - from) ≡ held (slot sums j (r - from) + ask rows k (BEFORE-COSTS + r))
+  pub lifted : (i c : ℕ) → i < m → c < COLUMNS → slot sums′ (j + suc i) c ≡ held (slot sums (j + suc i) c + slot sums (below + i) c)
+  pub gone : (i : ℕ) → below * COLUMNS ≤ i → i < (below + m) * COLUMNS → getD sums′ i 0 ≡ 0
+  pub before : (i : ℕ) → i < j * COLUMNS → getD sums′ i 0 ≡ getD sums i 0
+  pub between : (i : ℕ) → (j + suc m) * COLUMNS ≤ i → i < below * COLUMNS → getD sums′ i 0 ≡ getD sums i 0
+  pub after : (i : ℕ) → (below + m) * COLUMNS ≤ i → getD sums′ i 0 ≡ getD sums i 0
+  pub small : SmallSums sums → SmallSums sums′
+
+-- settled from the sums that stand from row `below` on, which are then handed up to row j
+pub record FinishIn (from to : ℕ) (rows : List ℕ) (k j below : ℕ) (sums : List ℕ) : Type 0 where
+  pub pass : Pass from to
+  pub some : 0 < k
+  pub fits : k * ROW ≤ length rows
+  pub deep : (1 ≤ ask rows k DEPTH) × (ask rows k DEPTH ≤ WIDTH)
+  pub reach : j + ask rows k DEPTH ≤ below
+  pub room : (below + ask rows k DEPTH) * COLUMNS ≤ length sums
+
+-- ---- a whole tree
+
+-- the tree stands in rows that are there, with its depths, and is priced for the numbers of levels before the pass
+pub record TreeIn (from : ℕ) (rows : List ℕ) (k d : ℕ) (t : Tree) : Type 0 where
   pub link : k ≡ linkOf t
   pub stand : Stand rows t
+  pub depths : Deep rows t
+  pub priced : AllPriced from rows t
   pub apart : Apart t
   pub fits : (y : ℕ) → HasRow y t → (y + 1) * ROW ≤ length rows
   pub deep : d + depth (shape t) ≤ WIDTH
-  pub few : levels ≤ LEVELS
 
-pub record TreeOut (levels : ℕ) (rows rows′ : List ℕ) (t : Tree) : Type 0 where
+-- then it is priced; the columns for more levels, and all other rows, are kept
+pub record TreeOut (to : ℕ) (rows rows′ : List ℕ) (t : Tree) : Type 0 where
   pub stand : Stand rows′ t
-  pub priced : AllPriced levels rows′ t
-  pub above : AboveZero levels rows t → AboveZero levels rows′ t
-  pub others : (y c : ℕ) → (HasRow y t → ⊥) → c < ROW → col rows′ y c ≡ col rows y c
+  pub depths : Deep rows′ t
+  pub priced : AllPriced to rows′ t
+  pub above : (y r : ℕ) → HasRow y t → to ≤ r → r < LEVELS → (col rows′ y (COST + r) ≡ col rows y (COST + r)) × (col rows′ y (STRIDE + r) ≡ col rows y (STRIDE + r))
+  pub others : (y : ℕ) → (HasRow y t → ⊥) → (c : ℕ) → c < ROW → col rows′ y c ≡ col rows y c
 
-abbrev pub TreeAsk : ℕ → List ℕ → ℕ → ℕ → Type 0
-TreeAsk levels rows k d = (t : Tree) × TreeIn levels rows k d t
+abbrev pub TreeAsk : (from : ℕ) → List ℕ → ℕ → ℕ → Type 0
+TreeAsk from rows k d = (t : Tree) × TreeIn from rows k d t
 
-abbrev pub TreeDone : ℕ → List ℕ → ℕ → ℕ → List ℕ → Type 0
-TreeDone levels rows k d rows′ = (t : Tree) → TreeIn levels rows k d t → TreeOut levels rows rows′ t
+abbrev pub TreeDone : (from to : ℕ) → List ℕ → ℕ → ℕ → List ℕ → Type 0
+TreeDone from to rows k d rows′ = (t : Tree) → TreeIn from rows k d t → TreeOut to rows rows′ t
+
+-- ---- and its sums
+
+-- n and n - 1 and so on, together
+unfoldable pub downTo0 : ℕ → ℕ
+downTo0 zero = 0
+downTo0 (suc n) = suc n + downTo0 n
+
+-- the rows from j on are for w levels; those after them are 0
+pub record PagesIn (j w : ℕ) (sums : List ℕ) : Type 0 where
+  pub long : length sums ≡ SUM-CELLS
+  pub room : j + downTo0 w + 1 ≤ SUM-ROWS
+  pub small : SmallSums sums
+  pub blank : (i : ℕ) → (j + w) * COLUMNS ≤ i → getD sums i 0 ≡ 0
+
+-- what the nodes of t cost with r + 1 levels left is added, level by level, and all else is kept
+pub record SumsOut (from to j : ℕ) (t : Trie) (sums sums′ : List ℕ) : Type 0 where
+  pub added : (i r : ℕ) → i < depth t → from ≤ suc r → suc r < to
+      → slot sums′ (j + i) (suc r - from) ≡ held (slot sums (j + i) (suc r - from) + sumBelow i (optBy held r) t)
+  pub before : (i : ℕ) → i < j * COLUMNS → getD sums′ i 0 ≡ getD sums i 0
+  pub after : (i : ℕ) → (j + depth t) * COLUMNS ≤ i → getD sums′ i 0 ≡ getD sums i 0
+  pub small : SmallSums sums′
+
+abbrev pub SumsDone : (from to : ℕ) → List ℕ → (k d j : ℕ) → List ℕ → List ℕ → Type 0
+SumsDone from to rows k d j sums sums′ = (t : Tree) → TreeIn from rows k d t → SumsOut from to j (shape t) sums sums′
+
+-- what the nodes of a and b cost together, i levels below their roots, stands from row j on
+abbrev pub Sums : (from to j : ℕ) → List ℕ → Trie → Trie → Type 0
+Sums from to j sums a b =
+    (i r : ℕ) → from ≤ suc r → suc r < to
+    → slot sums (j + i) (suc r - from) ≡ held (sumBelow i (optBy held r) a + sumBelow i (optBy held r) b)

@@ -10,33 +10,37 @@ use Rattle.strides.specs.Recurrence.{fixBy, pickFixedBy, listBy, leastBy, strid
 use Rattle.walk.specs.Limits.{WIDTH, LEVELS, Within}
 use Rattle.tries.specs.Limits.{ENTRIES}
 use Rattle.tries.specs.Chooser.{padded}
-use Rattle.tries.specs.Costs.{held, slot, bestCost, bestStride}
+use Rattle.tries.specs.Costs.{held, column, bestCost, bestStride}
 use Rattle.tries.specs.LevelCounts.{CountsOf}
 
 -- places of the table of fixed strides: a row for each level, and one past the last
 abbrev pub LEVEL-CELLS : ℕ
 LEVEL-CELLS = (WIDTH + 1) * LEVELS
 
+-- the place for level i and r + 1 levels left
+abbrev pub cell : List ℕ → ℕ → ℕ → ℕ
+cell table i r = getD table (i * LEVELS + r) 0
+
 -- from level i on the table is what the recurrence says of a trie of `depth` levels
 pub record Filled (nodes : ℕ → ℕ) (levels depth i : ℕ) (costs strides : List ℕ) : Type 0 where
   pub long-costs : length costs ≡ LEVEL-CELLS
   pub long-strides : length strides ≡ LEVEL-CELLS
-  pub cost : (j r : ℕ) → i ≤ j → j ≤ depth → r < levels → slot costs j r ≡ fixBy held nodes r j (depth - j)
-  pub stride : (j r : ℕ) → i ≤ j → j ≤ depth → r < levels → slot strides j r ≡ pickFixedBy held nodes r j (depth - j)
+  pub cost : (j r : ℕ) → i ≤ j → j ≤ depth → r < levels → cell costs j r ≡ fixBy held nodes r j (depth - j)
+  pub stride : (j r : ℕ) → i ≤ j → j ≤ depth → r < levels → cell strides j r ≡ pickFixedBy held nodes r j (depth - j)
 
 -- one level more, as far as r levels left; rows below it are kept
-pub record RowFilled (levels n d i : ℕ) (costs strides costs′ strides′ : List ℕ) (sums : List ℕ) : Type 0 where
+pub record RowFilled (levels n d i : ℕ) (costs strides costs′ strides′ : List ℕ) : Type 0 where
   pub long-costs : length costs′ ≡ length costs
   pub long-strides : length strides′ ≡ length strides
-  pub cost : (r : ℕ) → r < levels → slot costs′ i r ≡ bestCost sums n d r
-  pub stride : (r : ℕ) → r < levels → slot strides′ i r ≡ bestStride sums n d r
+  pub cost : (r : ℕ) → r < levels → cell costs′ i r ≡ bestCost (column ((i + 1) * LEVELS + r - 1) LEVELS costs) n d r
+  pub stride : (r : ℕ) → r < levels → cell strides′ i r ≡ bestStride (column ((i + 1) * LEVELS + r - 1) LEVELS costs) n d r
   pub costs-below : (x : ℕ) → (i + 1) * LEVELS ≤ x → getD costs′ x 0 ≡ getD costs x 0
   pub strides-below : (x : ℕ) → (i + 1) * LEVELS ≤ x → getD strides′ x 0 ≡ getD strides x 0
 
 -- the strides of the table, for some counts of nodes
 abbrev pub StridesFilled : (ℕ → ℕ) → ℕ → ℕ → List ℕ → Type 0
 StridesFilled nodes levels depth strides =
-    (j r : ℕ) → j ≤ depth → r < levels → slot strides j r ≡ pickFixedBy held nodes r j (depth - j)
+    (j r : ℕ) → j ≤ depth → r < levels → cell strides j r ≡ pickFixedBy held nodes r j (depth - j)
 
 abbrev pub SomeNodes : ℕ → ℕ → List ℕ → Type 0
 SomeNodes levels depth strides = (nodes : ℕ → ℕ) × StridesFilled nodes levels depth strides

@@ -7,7 +7,7 @@ ghost use Rattle.strides.specs.Cheapest.{fixed, variable};
 ghost use Rattle.tries.specs.Kinds.{kindOf};
 ghost use Rattle.tries.specs.Chooser.{chooseTests, ChosenIs, Chooses};
 ghost use Rattle.tries.specs.Plans.{PlanIn, Planned};
-use crate::costs::settle_tree;
+use crate::costs::settle_all;
 use crate::counting::node_count;
 use crate::fixed::fixed_choice;
 use crate::fixed::longest_length;
@@ -99,7 +99,7 @@ fn plan_variable(
     let mut nodes = [0u64; WIDTH as usize];
     let root = make_rows(scratch, &mut nodes, width, vals, lens, hops);
     let k = levels as usize;
-    settle_tree(scratch, root, 0, k);
+    settle_all(scratch, root, k);
     let mut strides = [0u8; LEVELS as usize];
     strides[0] = (asked(scratch, root, BEFORE_STRIDES + k) % BYTE) as u8;
     Plan {

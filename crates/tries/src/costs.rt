@@ -1,69 +1,36 @@
-// The least cost and its stride of every node, for each number of levels left (source document 000's recurrence): from the
-// bottom up, each node sums the costs of the nodes that stand j levels below it, for all j at once.
+// The least cost and its stride of every node, for each number of levels left (source document 000's recurrence), from the bottom up:
+// each node takes over from the two below it what the nodes j levels below cost together, for all j at once. It is done in passes of
+// COLUMNS numbers of levels, so that these sums take little room.
 ghost use mathlib.Core.Path.{_≡_};
-ghost use Prim.Native.Nat.{_+_, _-_, _*_, _^_, _<_, _≤_, max};
-ghost use lib.ListN.{length, set};
+ghost use Prim.Native.Nat.{ℕ, _+_, _-_, _*_, _^_, _<_, _≤_};
+ghost use lib.ListN.{length, getD, set};
 ghost use Rattle.strides.specs.Recurrence.{scan};
 ghost use Rattle.walk.specs.Limits.{WIDTH, LEVELS};
 ghost use Rattle.tries.specs.Limits.{ENTRIES};
-ghost use Rattle.tries.specs.Scratch.{ROW, ask};
-ghost use Rattle.tries.specs.Costs.{held, CELLS, slot, RowAdded, GatherIn, Gathered, price, bestCost, bestStride};
-ghost use Rattle.tries.specs.Costs.{Stored, SettleIn, Summed, DepthOver, Settled, TreeAsk, TreeDone};
+ghost use Rattle.tries.specs.Scratch.{ROW, DEPTH, ask};
+ghost use Rattle.tries.specs.Costs.{held, column, price, bestCost, bestStride, Pass, COLUMNS, SUM-ROWS, SUM-CELLS};
+ghost use Rattle.tries.specs.Costs.{Stored, RowAdded, Lifted, HandedUp, FinishIn, TreeAsk, TreeDone, PagesIn, SumsDone};
 use crate::caps::capped_power;
 use crate::caps::capped_sum;
 use crate::caps::larger;
 use crate::limits::COST_CAP;
-use crate::limits::SLOTS;
+use crate::scratch::BEFORE_COSTS;
 use crate::scratch::COST;
 use crate::scratch::DEPTH;
 use crate::scratch::STRIDE;
 use crate::scratch::asked;
 use crate::scratch::put;
 use table::WIDTH;
+use table::smaller;
 
-// Places of the sums: every stride, and every number of levels left.
-const CELLS: usize = WIDTH as usize * SLOTS;
-
-// Adds v at stride j + 1 and r + 1 levels left.
-fn bump(sums: &mut [u64], j: usize, r: usize, v: usize)
-    requires { ⌜ (length (now sums) ≡ CELLS) × (j < WIDTH) × (r < LEVELS) ⌝ }
-    ensures { λ _. ⌜ now (sums .exit) ≡ set (now (sums .entry)) (j * LEVELS + r) (held (slot (now (sums .entry)) j r + v)) ⌝ }
-{
-    let i = j * SLOTS + r;
-    sums[i] = capped_sum(sums[i], v as u64, COST_CAP);
-}
-
-// Adds the costs of the row at link k, which stands at depth d.
-fn add_row(rows: &[u64], k: usize, d: usize, levels: usize, sums: &mut [u64])
-    requires { ⌜ (0 < k) × (k * ROW ≤ length (now rows)) × (d < WIDTH) × (levels ≤ LEVELS) × (length (now sums) ≡ CELLS) ⌝ }
-    ensures { λ _. ⌜ RowAdded levels (now (rows .entry)) k d (now (sums .entry)) (now (sums .exit)) ⌝ }
-{
-    let mut r = 0;
-    while r < levels {
-        bump(sums, d, r, asked(rows, k, COST + r));
-        r += 1;
-    }
-}
-
-// Adds the costs of every node of the subtrie at link k, which stands at depth d.
-fn gather(rows: &[u64], k: usize, d: usize, levels: usize, sums: &mut [u64])
-    requires { ⌜ GatherIn levels (now rows) k d (now sums) ⌝ }
-    ensures { λ _. ⌜ Gathered levels (now (rows .entry)) k d (now (sums .entry)) (now (sums .exit)) ⌝ }
-{
-    if k != 0 {
-        add_row(rows, k, d, levels, sums);
-        gather(rows, asked(rows, k, 0), d + 1, levels, sums);
-        gather(rows, asked(rows, k, 1), d + 1, levels, sums);
-    }
-}
-
-// What n blocks of stride j + 1 cost, where the blocks below have q + 1 levels left.
-fn price_at(sums: &[u64], n: usize, q: usize, j: usize) -> u64
-    requires { ⌜ ((j + 1) * LEVELS ≤ length (now sums)) × (n ≤ ENTRIES) × (j < WIDTH) × (q < LEVELS) ⌝ }
-    ensures { λ r. ⌜ r ≡ price (now (sums .entry)) n q j ⌝ }
+// What n blocks of stride j + 1 cost, where what the blocks below cost stands at place `at` of the sums for stride 1, and `pitch`
+// places later for each stride more.
+fn price_at(sums: &[u64], at: usize, pitch: usize, n: usize, j: usize) -> u64
+    requires { ⌜ (at + j * pitch < length (now sums)) × (n ≤ ENTRIES) × (j < WIDTH) ⌝ }
+    ensures { λ r. ⌜ r ≡ price (column at pitch (now (sums .entry))) n j ⌝ }
 {
     let blocks = n as u64 * capped_power(j as u64 + 1, COST_CAP);
-    capped_sum(blocks, sums[j * SLOTS + q], COST_CAP)
+    capped_sum(blocks, sums[at + j * pitch], COST_CAP)
 }
 
 // A stride, less one, and its cost.
@@ -84,29 +51,36 @@ fn cheaper(b: Best, j: usize, c: u64) -> Best
     }
 }
 
-// The cheapest stride from 1 to `depth` for n nodes, the smallest of equals, where the blocks below have q + 1 levels left.
-fn cheapest(sums: &[u64], n: usize, q: usize, depth: usize) -> Best
-    requires { ⌜ (depth * LEVELS ≤ length (now sums)) × (n ≤ ENTRIES) × (q < LEVELS) × (1 ≤ depth) × (depth ≤ WIDTH) ⌝ }
-    ensures cost { λ r. ⌜ r .cost ≡ scan (price (now (sums .entry)) n q) (depth - 1) .1 ⌝ }
-    ensures place { λ r. ⌜ r .place ≡ scan (price (now (sums .entry)) n q) (depth - 1) .0 ⌝ }
+// The cheapest stride from 1 to `depth` for n nodes, the smallest of equals.
+fn cheapest(sums: &[u64], at: usize, pitch: usize, n: usize, depth: usize) -> Best
+    requires { ⌜ ((j : ℕ) → j < depth → at + j * pitch < length (now sums)) × (n ≤ ENTRIES) × (1 ≤ depth) × (depth ≤ WIDTH) ⌝ }
+    ensures cost { λ r. ⌜ r .cost ≡ scan (price (column at pitch (now (sums .entry))) n) (depth - 1) .1 ⌝ }
+    ensures place { λ r. ⌜ r .place ≡ scan (price (column at pitch (now (sums .entry))) n) (depth - 1) .0 ⌝ }
 {
     let mut b = Best {
         place: 0,
-        cost: price_at(sums, n, q, 0),
+        cost: price_at(sums, at, pitch, n, 0),
     };
     let mut j = 0;
     while j + 1 < depth {
         j += 1;
-        b = cheaper(b, j, price_at(sums, n, q, j));
+        b = cheaper(b, j, price_at(sums, at, pitch, n, j));
     }
     b
 }
 
 // The choice for n nodes of the depth, with r + 1 levels left: with one level the stride reaches the bottom.
-pub(crate) fn choice(sums: &[u64], n: usize, r: usize, depth: usize) -> Best
-    requires { ⌜ (depth * LEVELS ≤ length (now sums)) × (n ≤ ENTRIES) × (r < LEVELS) × (1 ≤ depth) × (depth ≤ WIDTH) ⌝ }
-    ensures cost { λ b. ⌜ b .cost ≡ bestCost (now (sums .entry)) n depth r ⌝ }
-    ensures place { λ b. ⌜ b .place + 1 ≡ bestStride (now (sums .entry)) n depth r ⌝ }
+pub(crate) fn choice(
+    sums: &[u64],
+    at: usize,
+    pitch: usize,
+    n: usize,
+    r: usize,
+    depth: usize,
+) -> Best
+    requires { ⌜ ((j : ℕ) → j < depth → at + j * pitch < length (now sums)) × (n ≤ ENTRIES) × (1 ≤ depth) × (depth ≤ WIDTH) ⌝ }
+    ensures cost { λ b. ⌜ b .cost ≡ bestCost (column at pitch (now (sums .entry))) n depth r ⌝ }
+    ensures place { λ b. ⌜ b .place + 1 ≡ bestStride (column at pitch (now (sums .entry))) n depth r ⌝ }
     ensures small { λ b. ⌜ b .place < WIDTH ⌝ }
 {
     if r == 0 {
@@ -115,63 +89,154 @@ pub(crate) fn choice(sums: &[u64], n: usize, r: usize, depth: usize) -> Best
             cost: capped_sum(n as u64 * capped_power(depth as u64, COST_CAP), 0, COST_CAP),
         }
     } else {
-        cheapest(sums, n, r - 1, depth)
+        cheapest(sums, at, pitch, n, depth)
     }
 }
 
-// Stores the choices in row x.
-fn store(rows: &mut [u64], x: usize, depth: usize, levels: usize, sums: &[u64])
-    requires { ⌜ ((x + 1) * ROW ≤ length (now rows)) × (length (now sums) ≡ CELLS) × (levels ≤ LEVELS) × (1 ≤ depth) × (depth ≤ WIDTH) ⌝ }
-    ensures { λ _. ⌜ Stored levels (now (rows .entry)) x depth (now (sums .entry)) (now (rows .exit)) ⌝ }
+// Numbers of levels in a pass.
+const COLUMNS: usize = 8;
+
+// Rows of the sums, of COLUMNS places each: a node at depth d has one for each of the WIDTH - d levels from it on, those of the nodes
+// above it stay, and one more is only read, as 0.
+const SUM_ROWS: usize = WIDTH as usize * (WIDTH as usize + 1) / 2 + 1;
+
+const SUM_CELLS: usize = SUM_ROWS * COLUMNS;
+
+// Stores the choices of row x with from + 1 to `to` levels left. What the blocks below cost with r levels left stands in the column
+// of the sums that begins r - from places after `at`.
+fn store(rows: &mut [u64], x: usize, depth: usize, from: usize, to: usize, at: usize, sums: &[u64])
+    requires { ⌜ Pass from to × ((x + 1) * ROW ≤ length (now rows)) × (1 ≤ depth) × (depth ≤ WIDTH) × (at + depth * COLUMNS ≤ length (now sums)) ⌝ }
+    ensures { λ _. ⌜ Stored from to (now (rows .entry)) x depth at (now (sums .entry)) (now (rows .exit)) ⌝ }
 {
-    let mut r = 0;
-    while r < levels {
-        let b = choice(sums, 1, r, depth);
+    let mut r = from;
+    while r < to {
+        let b = choice(sums, at + (r - from), COLUMNS, 1, r, depth);
         put(rows, x, COST + r, b.cost as usize);
         put(rows, x, STRIDE + r, b.place + 1);
         r += 1;
     }
 }
 
-// Adds up what stands below the row at link k, on both sides.
-fn sum_below(rows: &[u64], k: usize, levels: usize, sums: &mut [u64])
-    requires { ⌜ SettleIn levels (now rows) k × (length (now sums) ≡ CELLS) ⌝ }
-    ensures { λ _. ⌜ Summed levels (now (rows .entry)) k (now (sums .entry)) (now (sums .exit)) ⌝ }
+// Adds v at place i.
+fn bump(sums: &mut [u64], i: usize, v: usize)
+    requires { ⌜ i < length (now sums) ⌝ }
+    ensures { λ _. ⌜ now (sums .exit) ≡ set (now (sums .entry)) i (held (getD (now (sums .entry)) i 0 + v)) ⌝ }
 {
-    gather(rows, asked(rows, k, 0), 0, levels, sums);
-    gather(rows, asked(rows, k, 1), 0, levels, sums);
+    sums[i] = capped_sum(sums[i], v as u64, COST_CAP);
 }
 
-// The depth of the row at link k, from those of the rows below it.
-fn depth_over(rows: &[u64], k: usize, levels: usize) -> usize
-    requires { ⌜ SettleIn levels (now rows) k ⌝ }
-    ensures { λ d. ⌜ DepthOver levels (now (rows .entry)) k d ⌝ }
+// Adds the costs of the row at link k to row `at` of the sums: with r levels left at place r - from. With no level left there is
+// none.
+fn add_row(rows: &[u64], k: usize, from: usize, to: usize, at: usize, sums: &mut [u64])
+    requires { ⌜ Pass from to × (0 < k) × (k * ROW ≤ length (now rows)) × ((at + 1) * COLUMNS ≤ length (now sums)) ⌝ }
+    ensures { λ _. ⌜ RowAdded from to (now (rows .entry)) k at (now (sums .entry)) (now (sums .exit)) ⌝ }
 {
-    let a = asked(rows, asked(rows, k, 0), DEPTH);
-    let b = asked(rows, asked(rows, k, 1), DEPTH);
-    larger(a, b) + 1
+    let mut r = larger(from, 1);
+    while r < to {
+        bump(
+            sums,
+            at * COLUMNS + (r - from),
+            asked(rows, k, BEFORE_COSTS + r),
+        );
+        r += 1;
+    }
 }
 
-// Works out the depth and the choices of the row at link k from those of the rows below it.
-fn settle(rows: &mut [u64], k: usize, levels: usize)
-    requires { ⌜ SettleIn levels (now rows) k ⌝ }
-    ensures { λ _. ⌜ Settled levels (now (rows .entry)) k (now (rows .exit)) ⌝ }
+// Adds the n sums from place `down` on to those from place `up` on, which end before them, and clears them.
+fn lift(sums: &mut [u64], up: usize, down: usize, n: usize)
+    requires { ⌜ (up + n ≤ down) × (down + n ≤ length (now sums)) ⌝ }
+    ensures { λ _. ⌜ Lifted (now (sums .entry)) up down n (now (sums .exit)) ⌝ }
 {
-    let mut sums = [0u64; CELLS];
-    sum_below(rows, k, levels, &mut sums);
-    let depth = depth_over(rows, k, levels);
-    put(rows, k - 1, DEPTH, depth);
-    store(rows, k - 1, depth, levels, &sums);
+    let mut i = 0;
+    while i < n {
+        sums[up + i] = capped_sum(sums[up + i], sums[down + i], COST_CAP);
+        sums[down + i] = 0;
+        i += 1;
+    }
 }
 
-// Settles every row of the tree at link k, which stands at depth d, from the bottom up.
-pub(crate) fn settle_tree(rows: &mut [u64], k: usize, d: usize, levels: usize)
-    requires { ⌜ TreeAsk levels (now rows) k d ⌝ }
-    ensures { λ _. ⌜ TreeDone levels (now (rows .entry)) k d (now (rows .exit)) ⌝ }
+// Adds the m rows of sums below a node, which stand from row `below` on, to its own from row `at` on, one row later, and clears them;
+// then the costs of the node itself, at link k.
+fn hand_up(
+    rows: &[u64],
+    k: usize,
+    from: usize,
+    to: usize,
+    at: usize,
+    below: usize,
+    m: usize,
+    sums: &mut [u64],
+)
+    requires { ⌜ Pass from to × (0 < k) × (k * ROW ≤ length (now rows)) × (at + m < below) × ((below + m) * COLUMNS ≤ length (now sums)) ⌝ }
+    ensures { λ _. ⌜ HandedUp from to (now (rows .entry)) k at below m (now (sums .entry)) (now (sums .exit)) ⌝ }
+{
+    lift(sums, (at + 1) * COLUMNS, below * COLUMNS, m * COLUMNS);
+    add_row(rows, k, from, to, at, sums);
+}
+
+// Settles the row at link k from the sums that stand from row `below` on, and hands them up to row `at`.
+fn finish(
+    rows: &mut [u64],
+    k: usize,
+    from: usize,
+    to: usize,
+    at: usize,
+    below: usize,
+    sums: &mut [u64],
+)
+    requires { ⌜ FinishIn from to (now rows) k at below (now sums) ⌝ }
+    ensures stored { λ _. ⌜
+        Stored from to (now (rows .entry)) (k - 1) (ask (now (rows .entry)) k DEPTH) (below * COLUMNS) (now (sums .entry)) (now (rows .exit)) ⌝ }
+    ensures handed { λ _. ⌜
+        HandedUp from to (now (rows .exit)) k at below (ask (now (rows .entry)) k DEPTH - 1) (now (sums .entry)) (now (sums .exit)) ⌝ }
+{
+    let depth = asked(rows, k, DEPTH);
+    store(rows, k - 1, depth, from, to, below * COLUMNS, sums);
+    hand_up(rows, k, from, to, at, below, depth - 1, sums);
+}
+
+// Settles every row of the tree at link k, which stands at depth d, from the bottom up, and adds what its nodes cost to the sums from
+// row `at` on, a row for each level. What stands below it is summed in the rows after those, which are 0 before and after.
+fn settle_tree(
+    rows: &mut [u64],
+    k: usize,
+    d: usize,
+    from: usize,
+    to: usize,
+    at: usize,
+    sums: &mut [u64],
+)
+    requires { ⌜ TreeAsk from (now rows) k d × Pass from to ⌝ }
+    requires { ⌜ PagesIn at (WIDTH - d) (now sums) ⌝ }
+    ensures rows { λ _. ⌜ TreeDone from to (now (rows .entry)) k d (now (rows .exit)) ⌝ }
+    ensures sums { λ _. ⌜ SumsDone from to (now (rows .entry)) k d at (now (sums .entry)) (now (sums .exit)) ⌝ }
 {
     if k != 0 {
-        settle_tree(rows, asked(rows, k, 0), d + 1, levels);
-        settle_tree(rows, asked(rows, k, 1), d + 1, levels);
-        settle(rows, k, levels);
+        let below = at + (WIDTH as usize - d);
+        settle_tree(rows, asked(rows, k, 0), d + 1, from, to, below, sums);
+        settle_tree(rows, asked(rows, k, 1), d + 1, from, to, below, sums);
+        finish(rows, k, from, to, at, below, sums);
+    }
+}
+
+// One pass over the tree at link k.
+fn settle_pass(rows: &mut [u64], k: usize, from: usize, to: usize)
+    requires { ⌜ TreeAsk from (now rows) k 0 × Pass from to ⌝ }
+    ensures { λ _. ⌜ TreeDone from to (now (rows .entry)) k 0 (now (rows .exit)) ⌝ }
+{
+    let mut sums = [0u64; SUM_CELLS];
+    settle_tree(rows, k, 0, from, to, 0, &mut sums);
+}
+
+// Settles every row of the tree at link k, for 1 to `levels` levels left.
+pub(crate) fn settle_all(rows: &mut [u64], k: usize, levels: usize)
+    requires { ⌜ TreeAsk 0 (now rows) k 0 × (levels ≤ LEVELS) ⌝ }
+    ensures { λ _. ⌜ TreeDone 0 levels (now (rows .entry)) k 0 (now (rows .exit)) ⌝ }
+{
+    let mut from = 0;
+    while from < levels {
+        let to = smaller(from + COLUMNS, levels);
+        settle_pass(rows, k, from, to);
+        from = to;
     }
 }

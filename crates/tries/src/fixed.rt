@@ -2,7 +2,7 @@
 // made, and from the last level up, the cheapest strides for the levels from there on.
 ghost use mathlib.Core.Path.{_≡_};
 ghost use Prim.Native.Nat.{ℕ, _+_, _-_, _*_, _^_, _<_, _≤_};
-ghost use lib.ListN.{length, getD, drop};
+ghost use lib.ListN.{length, getD};
 ghost use Rattle.table.specs.Table.{at};
 ghost use Rattle.strides.specs.Entries.{longestLength};
 ghost use Rattle.strides.specs.Recurrence.{listBy};
@@ -37,14 +37,11 @@ pub(crate) fn longest_length(lens: &[u8]) -> usize
 fn fill_row(n: usize, i: usize, d: usize, levels: usize, costs: &mut [u64], strides: &mut [u64])
     requires { ⌜ (length (now costs) ≡ LEVEL-CELLS) × (length (now strides) ≡ LEVEL-CELLS) ⌝ }
     requires { ⌜ (n ≤ ENTRIES) × (1 ≤ d) × (i + d ≤ WIDTH) × (levels ≤ LEVELS) ⌝ }
-    ensures { λ _. ⌜
-        RowFilled levels n d i (now (costs .entry)) (now (strides .entry)) (now (costs .exit)) (now (strides .exit))
-        (drop ((i + 1) * LEVELS) (now (costs .entry))) ⌝ }
+    ensures { λ _. ⌜ RowFilled levels n d i (now (costs .entry)) (now (strides .entry)) (now (costs .exit)) (now (strides .exit)) ⌝ }
 {
     let mut r = 0;
     while r < levels {
-        let from = (i + 1) * SLOTS;
-        let b = choice(&costs[from..], n, r, d);
+        let b = choice(costs, (i + 1) * SLOTS + r - 1, SLOTS, n, r, d);
         let at = i * SLOTS + r;
         costs[at] = b.cost;
         strides[at] = b.place as u64 + 1;

@@ -15,11 +15,11 @@ make-rows-requires c κs =
     let S = c .before .before .before .before .before .before .before .before .before .before in
     rw (c .before .before .before .before .zero .ensures) (make-in (S .args .width) (S .args .levels) (S .args .vals .now) (S .args .lens .now) (S .args .hops .now) (S .args .scratch .now) (S .pre))
 
-settle-tree-requires : tie.Need-settle-tree-requires
-settle-tree-requires c κs =
+settle-all-requires : tie.Need-settle-all-requires
+settle-all-requires c κs =
     let S = c .before .before .before .before .before .before .before .before .before .before .before .before .before .before .before in
     let M = c .before .before .before .before .make-rows in
-    settle-in (S .args .width) (S .args .levels) (S .args .vals .now) (S .args .lens .now) (S .args .hops .now) (S .args .scratch .now) (S .pre) _ _ _ (M .ensures) (omega (arith, M .kept))
+    (settle-in (S .args .width) (S .args .levels) (S .args .vals .now) (S .args .lens .now) (S .args .hops .now) (S .args .scratch .now) (S .pre) _ _ _ (M .ensures) (omega (arith, M .kept)), S .pre .levels .1)
 
 add-asked : tie.Need-add-asked
 add-asked c = search needs
@@ -28,7 +28,7 @@ asked-requires : tie.Need-asked-requires
 asked-requires c κs =
     let S = c .before .before .before .before .before .before .before .before .before .before .before .before .before .before .before .before .before .before .before in
     let M = c .before .before .before .before .before .before .before .before .make-rows in
-    let T = c .before .before .before .settle-tree in (
+    let T = c .before .before .before .settle-all in (
       root-fits (S .args .width) (S .args .levels) (S .args .vals .now) (S .args .lens .now) (S .args .hops .now) (S .args .scratch .now) (S .pre) _ _ _ (M .ensures) (omega (arith, M .kept))
           (T .last .0) (omega (arith, T .kept)),
       omega (arith, S .pre .levels .1),
@@ -47,7 +47,7 @@ asked-requires-2 : tie.Need-asked-requires-2
 asked-requires-2 c κs =
     let S = c .before .before .before .before .before .before .before .before .before .before .before .before .before .before .before .before .before .before .before .before .before in
     let M = c .before .before .before .before .before .before .before .before .before .before .make-rows in
-    let T = c .before .before .before .before .before .settle-tree in (
+    let T = c .before .before .before .before .before .settle-all in (
       root-fits (S .args .width) (S .args .levels) (S .args .vals .now) (S .args .lens .now) (S .args .hops .now) (S .args .scratch .now) (S .pre) _ _ _ (M .ensures) (omega (arith, M .kept))
           (T .last .0) (omega (arith, T .kept)),
       omega (arith, S .pre .levels .1),
@@ -61,7 +61,7 @@ returns c =
     let S = c .before .before .before .before .before .before .before .before .before .before .before .before .before .before .before .before .before .before .before .before .before .before in
     let M = c .before .before .before .before .before .before .before .before .before .before .before .make-rows in
     let Z = c .before .before .before .before .before .before .before .before .before .before .before .before .before .before .before .before .zero in
-    let T = c .before .before .before .before .before .before .settle-tree in
+    let T = c .before .before .before .before .before .before .settle-all in
     plan-variable (S .args .width) (S .args .levels) (S .args .vals .now) (S .args .lens .now) (S .args .hops .now) (S .args .scratch .now) (S .pre) _ _ _ (M .ensures)
     (omega (arith, M .kept, Z .kept)) _ _ _ (omega (arith, T .kept))
     (T .ensures) (c .asked2 .ensures) (c .before .before .asked .ensures)
@@ -73,7 +73,7 @@ plan-variable-spec =
     zero-requires
     slice-aggregate-make-rows
     make-rows-requires
-    settle-tree-requires
+    settle-all-requires
     add-asked
     asked-requires
     cast-strides

@@ -2,12 +2,6 @@ use borrow.Author.Needs.{needs}
 use Rattle.tries.proofs.costs.bump.Statement.{statement}
 use Rattle.tries.proofs.costs.bump.Tie as tie
 
-mul-i : tie.Need-mul-i
-mul-i c = search needs
-
-add-i : tie.Need-add-i
-add-i c = search needs
-
 mul-capped-sum : tie.Need-mul-capped-sum
 mul-capped-sum c = search needs
 
@@ -33,8 +27,6 @@ pub bump-spec : {M : Type 1} → statement M
 bump-spec =
     tie.close
     (tie.spec
-    mul-i
-    add-i
     mul-capped-sum
     slice-read-capped-sum
     capped-sum-requires

@@ -3,14 +3,14 @@ use mathlib.Core.Path.{_≡_, ap, _∙_}
 use native.Mathlib.Nat.{add-zero}
 use native.Mathlib.Omega.{arith}
 use Rattle.strides.proofs.Scan.{scanned}
-use Rattle.tries.specs.Costs.{price, bestCost, bestStride}
+use Rattle.tries.specs.Costs.{price, column, bestCost, bestStride}
 use Rattle.tries.proofs.Pricing.{blocks-fit, choice-more}
 use borrow.Author.Needs.{needs}
 use Rattle.tries.proofs.costs.choice.Statement.{statement}
 use Rattle.tries.proofs.costs.choice.Tie as tie
 
-sub-t7 : tie.Need-sub-t7
-sub-t7 c = search needs
+sub-t9 : tie.Need-sub-t9
+sub-t9 c = search needs
 
 capped-power-requires : tie.Need-capped-power-requires
 capped-power-requires c κs = search needs
@@ -20,9 +20,6 @@ mul-capped-sum c = let S = c .before .before .before in omega (arith, blocks-fit
 
 capped-sum-requires : tie.Need-capped-sum-requires
 capped-sum-requires c κs = search needs
-
-sub-cheapest : tie.Need-sub-cheapest
-sub-cheapest c = search needs
 
 cheapest-requires : tie.Need-cheapest-requires
 cheapest-requires c κs = search needs
@@ -36,19 +33,19 @@ returns c =
 returns-2 : tie.Need-returns-2
 returns-2 c =
     let S = c .before .before .before in
-    let b = choice-more (S .args .sums .now) (S .args .n) (S .args .depth) (S .args .r) (c .before .if1 .left) in
-    let w = scanned (price (S .args .sums .now) (S .args .n) (S .args .r - 1)) (S .args .depth - 1) .within in
+    let below = column (S .args .at) (S .args .pitch) (S .args .sums .now) in
+    let b = choice-more below (S .args .n) (S .args .depth) (S .args .r) (c .before .if1 .left) in
+    let w = scanned (price below (S .args .n)) (S .args .depth - 1) .within in
     (c .cheapest .ensures .0 ∙ b .0, (ap (λ (x : ℕ). x + 1) (c .cheapest .ensures .1) ∙ b .1, omega (arith, c .cheapest .ensures .1)))
 
 pub choice-spec : {M : Type 1} → statement M
 choice-spec =
     tie.close
     (tie.spec
-    sub-t7
+    sub-t9
     capped-power-requires
     mul-capped-sum
     capped-sum-requires
-    sub-cheapest
     cheapest-requires
     returns
     returns-2)

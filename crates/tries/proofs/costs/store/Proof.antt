@@ -10,16 +10,24 @@ use Rattle.tries.proofs.costs.store.Statement.{statement}
 use Rattle.tries.proofs.costs.store.Tie as tie
 
 abbrev Inv-loop : tie.InvT-loop
-Inv-loop rows₀ x depth levels sums r₀ rows r = (r ≤ levels) × (length rows ≡ length rows₀) × Stored r rows₀ x depth sums rows
+Inv-loop rows₀ x depth from to at sums r₀ rows r = (from ≤ r) × (r ≤ to) × (length rows ≡ length rows₀) × Stored from r rows₀ x depth at sums rows
 
 abbrev μ-loop : tie.MeasureT-loop
-μ-loop rows₀ x depth levels sums r₀ rows r = levels - r
+μ-loop rows₀ x depth from to at sums r₀ rows r = to - r
 
 loop-holds : tie.Need-loop-holds Inv-loop μ-loop
-loop-holds c = let S = c .before .before in (omega arith, refl, store-start (S .args .rows .now) (S .args .x) (S .args .depth) (S .args .sums .now))
+loop-holds c =
+    let S = c .before .before in
+    (omega arith, omega (arith, S .pre .0 .some), refl, store-start (S .args .from) (S .args .rows .now) (S .args .x) (S .args .depth) (S .args .at) (S .args .sums .now))
+
+sub-choice : tie.Need-sub-choice Inv-loop μ-loop
+sub-choice c = search needs
+
+add-choice : tie.Need-add-choice Inv-loop μ-loop
+add-choice c = search needs
 
 choice-requires : tie.Need-choice-requires Inv-loop μ-loop
-choice-requires c κs = search needs
+choice-requires c κs = let S = c .before .before .before .before in ((λ j h. omega (arith, S .pre, S .pre .0 .few)), omega arith, S .pre .2, S .pre .3)
 
 add-put : tie.Need-add-put Inv-loop μ-loop
 add-put c = search needs
@@ -51,8 +59,9 @@ loop-again c =
     let T = c .before .before .put2 in (
       omega arith,
       omega arith,
-      store-next (S .args .rows .now) (S .args .x) (S .args .depth) (S .args .sums .now) (l .rows) (Q .last .0) (T .last .0) (l .r) _ _ (omega arith) (omega arith)
-          (omega arith) (l .inv .2) (C .ensures .0) (C .ensures .1 .0) (Q .ensures) (T .ensures),
+      omega arith,
+      store-next (S .args .from) (S .args .rows .now) (S .args .x) (S .args .depth) (S .args .at) (S .args .sums .now) (l .rows) (Q .last .0) (T .last .0) (l .r) _ _ (l .inv .0)
+          (omega (arith, S .pre .0 .most)) (omega arith) (omega arith) (l .inv .3) (C .ensures .0) (C .ensures .1 .0) (Q .ensures) (T .ensures),
     )
 
 same-length : tie.Need-same-length Inv-loop μ-loop
@@ -62,8 +71,8 @@ returns : tie.Need-returns Inv-loop μ-loop
 returns c =
     let S = c .before .before .before .before in
     let l = c .before .loop in
-    let e : l .r ≡ S .args .levels = omega arith in
-    subst (λ (m : ℕ). Stored m (S .args .rows .now) (S .args .x) (S .args .depth) (S .args .sums .now) (l .rows)) e (l .inv .2)
+    let e : l .r ≡ S .args .to = omega arith in
+    subst (λ (m : ℕ). Stored (S .args .from) m (S .args .rows .now) (S .args .x) (S .args .depth) (S .args .at) (S .args .sums .now) (l .rows)) e (l .inv .3)
 
 pub store-spec : {M : Type 1} → statement M
 store-spec =
@@ -72,6 +81,8 @@ store-spec =
     Inv-loop
     μ-loop
     loop-holds
+    sub-choice
+    add-choice
     choice-requires
     add-put
     put-requires

@@ -1,62 +1,43 @@
 -- The loop's invariant: the numbers of levels passed are filled in, and the rows after are as they were.
 use Prim.Native.Nat.{ℕ, _+_, _*_, _-_, _≤_}
-use mathlib.Core.Path.{_≡_, refl, ap, subst, _∙_}
-use mathlib.Core.List.{List}
+use mathlib.Core.Path.{_≡_, subst, _∙_}
 use native.Mathlib.Omega.{arith}
-use lib.ListN.{length, drop, length-set, length-drop}
-use lib.Seq.{drop-set-lt}
+use lib.ListN.{length, length-set}
 use Rattle.walk.specs.Limits.{LEVELS}
-use Rattle.tries.specs.Costs.{bestCost, bestStride}
 use Rattle.tries.specs.FixedChoice.{LEVEL-CELLS, RowFilled}
-use Rattle.tries.proofs.FixedChoice.{rest-all, fill-start, fill-next}
+use Rattle.tries.proofs.FixedChoice.{fill-start, fill-next}
 use borrow.Author.Needs.{needs}
 use Rattle.tries.proofs.fixed.fill_row.Statement.{statement}
 use Rattle.tries.proofs.fixed.fill_row.Tie as tie
 
 abbrev Inv-loop : tie.InvT-loop
 Inv-loop n i d levels costs₀ strides₀ r₀ costs strides r =
-    (r ≤ levels) × (length costs ≡ LEVEL-CELLS) × (length strides ≡ LEVEL-CELLS)
-    × RowFilled r n d i costs₀ strides₀ costs strides (drop ((i + 1) * LEVELS) costs₀)
-    × (drop ((i + 1) * LEVELS) costs ≡ drop ((i + 1) * LEVELS) costs₀)
+    (r ≤ levels) × (length costs ≡ LEVEL-CELLS) × (length strides ≡ LEVEL-CELLS) × RowFilled r n d i costs₀ strides₀ costs strides
 
 abbrev μ-loop : tie.MeasureT-loop
 μ-loop n i d levels costs₀ strides₀ r₀ costs strides r = levels - r
 
 loop-holds : tie.Need-loop-holds Inv-loop μ-loop
 loop-holds c =
-    let S = c .before .before in (
-      omega arith,
-      S .pre .0 .0,
-      S .pre .0 .1,
-      fill-start (S .args .n) (S .args .d) (S .args .i) (S .args .costs .now) (S .args .strides .now)
-          (drop ((S .args .i + 1) * LEVELS) (S .args .costs .now)),
-      refl,
-    )
+    let S = c .before .before in
+    (omega arith, S .pre .0 .0, S .pre .0 .1, fill-start (S .args .n) (S .args .d) (S .args .i) (S .args .costs .now) (S .args .strides .now))
 
-add-from : tie.Need-add-from Inv-loop μ-loop
-add-from c = search needs
-
-mul-from : tie.Need-mul-from Inv-loop μ-loop
-mul-from c = search needs
+add-choice : tie.Need-add-choice Inv-loop μ-loop
+add-choice c = search needs
 
 mul-choice : tie.Need-mul-choice Inv-loop μ-loop
 mul-choice c = search needs
 
+add-choice-2 : tie.Need-add-choice-2 Inv-loop μ-loop
+add-choice-2 c = search needs
+
 sub-choice : tie.Need-sub-choice Inv-loop μ-loop
 sub-choice c = search needs
 
-part-choice-start : tie.Need-part-choice-start Inv-loop μ-loop
-part-choice-start c = search needs
-
-part-choice-end : tie.Need-part-choice-end Inv-loop μ-loop
-part-choice-end c = search needs
-
 choice-requires : tie.Need-choice-requires Inv-loop μ-loop
 choice-requires c κs =
-    let S = c .before .before .before .before .before .before in
-    let l = c .before .before .before .loop in
-    let e = ap length (rest-all (l .costs) ((S .args .i + 1) * LEVELS)) in
-    (omega (arith, e, length-drop ((S .args .i + 1) * LEVELS) (l .costs)), S .pre .1 .0, omega arith, S .pre .1 .1, omega arith)
+    let S = c .before .before .before .before .before in
+    ((λ j h. omega (arith, S .pre .1)), S .pre .1 .0, S .pre .1 .1, omega (arith, S .pre .1))
 
 mul-at : tie.Need-mul-at Inv-loop μ-loop
 mul-at c = search needs
@@ -87,17 +68,14 @@ loop-less c = search needs
 
 loop-again : tie.Need-loop-again Inv-loop μ-loop
 loop-again c =
-    let S = c .before .before .before .before .before .before .before in
-    let l = c .before .before .before .before .loop in
-    let C = c .choice in
-    let e = rest-all (l .costs) ((S .args .i + 1) * LEVELS) ∙ l .inv .4 in (
+    let S = c .before .before .before .before .before .before in
+    let l = c .before .before .before .loop in
+    let C = c .choice in (
       omega arith,
       length-set (l .costs) (S .args .i * LEVELS + l .r) _ ∙ l .inv .1,
       length-set (l .strides) (S .args .i * LEVELS + l .r) _ ∙ l .inv .2,
-      fill-next (S .args .n) (S .args .d) (S .args .i) (S .args .costs .now) (S .args .strides .now) (drop ((S .args .i + 1) * LEVELS) (S .args .costs .now)) (l .costs) (l .strides) (l .r) _
-          _ (omega arith) (omega (arith, S .pre .0 .0)) (omega (arith, S .pre .0 .1)) (l .inv .3)
-          (C .ensures .0 ∙ ap (λ (y : List ℕ). bestCost y (S .args .n) (S .args .d) (l .r)) e) (C .ensures .1 .0 ∙ ap (λ (y : List ℕ). bestStride y (S .args .n) (S .args .d) (l .r)) e),
-      drop-set-lt ((S .args .i + 1) * LEVELS) (l .costs) (S .args .i * LEVELS + l .r) _ (omega arith) ∙ l .inv .4,
+      fill-next (S .args .n) (S .args .d) (S .args .i) (S .args .costs .now) (S .args .strides .now) (l .costs) (l .strides) (l .r) _ _ (omega arith) (omega (arith, S .pre .0 .0))
+          (omega (arith, S .pre .0 .1)) (l .inv .3) (C .ensures .0) (C .ensures .1 .0),
     )
 
 same-length : tie.Need-same-length Inv-loop μ-loop
@@ -111,9 +89,7 @@ returns c =
     let S = c .before .before .before .before in
     let l = c .before .loop in
     let e : l .r ≡ S .args .levels = omega arith in
-    subst
-    (λ (m : ℕ). RowFilled m (S .args .n) (S .args .d) (S .args .i) (S .args .costs .now) (S .args .strides .now) (l .costs) (l .strides)
-    (drop ((S .args .i + 1) * LEVELS) (S .args .costs .now))) e (l .inv .3)
+    subst (λ (m : ℕ). RowFilled m (S .args .n) (S .args .d) (S .args .i) (S .args .costs .now) (S .args .strides .now) (l .costs) (l .strides)) e (l .inv .3)
 
 pub fill-row-spec : {M : Type 1} → statement M
 fill-row-spec =
@@ -122,12 +98,10 @@ fill-row-spec =
     Inv-loop
     μ-loop
     loop-holds
-    add-from
-    mul-from
+    add-choice
     mul-choice
+    add-choice-2
     sub-choice
-    part-choice-start
-    part-choice-end
     choice-requires
     mul-at
     add-at
