@@ -6,7 +6,7 @@ use mathlib.Core.List.{List, [], _∷_, _++_}
 use native.Mathlib.Omega.{arith}
 use native.Mathlib.Decide.{decLe}
 use lib.ListN.{length, length-append}
-use Rattle.strides.specs.Trie.{Trie, none, node, Some, left, right, kid, bit, subAlong}
+use Rattle.strides.specs.Trie.{Trie, none, node, Some, left, right, kid, bit, depth, subAlong}
 use Rattle.strides.proofs.Paths.{bit-shr, SameBits}
 use Rattle.walk.specs.Rows.{Row, Lists, rowAt}
 use Rattle.layout.specs.Blocks.{Strides, wide, leftOf, listOf, blockRows, levelRows, firstRow, levelsRows, rowsOf, rowCount, Hold}
@@ -65,6 +65,10 @@ length-of : (n : ℕ) (g : ℕ → Row) → length (listOf n g) ≡ n
 unfolding listOf
 length-of zero g = refl
 length-of (suc n) g = ap suc (length-of n (λ i. g (suc i)))
+
+no-rows : (xs : List Row) → length xs ≡ 0 → xs ≡ []
+no-rows [] e = refl
+no-rows (x ∷ xs) e = absurd (omega arith)
 
 module _ (σ : Strides) where
   -- ---- a level
@@ -126,6 +130,20 @@ module _ (σ : Strides) where
   wide-past (node p a q b) zero (suc n) (suc r) h =
       let s = pred (σ (suc r) (node p a q b)) in
       omega (arith, wide-past a s n r (omega arith), wide-past b s n r (omega arith))
+
+  -- the n-th block after the next begins at least c + n levels lower: a trie that has no such level has none
+  pub wide-deep : (t : Trie) (c n r : ℕ) → depth t ≤ c + n → wide σ t c n r ≡ 0
+  unfolding wide depth
+  wide-deep none c n r h = refl
+  wide-deep (node p a q b) (suc c) n r h = omega (arith, wide-deep a c n r (omega arith), wide-deep b c n r (omega arith))
+  wide-deep (node p a q b) zero n zero h = refl
+  wide-deep (node p a q b) zero zero (suc r) h = absurd (omega arith)
+  wide-deep (node p a q b) zero (suc n) (suc r) h =
+      let s = pred (σ (suc r) (node p a q b)) in
+      omega (arith, wide-deep a s n r (omega arith), wide-deep b s n r (omega arith))
+
+  pub level-deep : (t : Trie) (c n r f : ℕ) → depth t ≤ c + n → levelRows σ t c n r f ≡ []
+  level-deep t c n r f h = no-rows (levelRows σ t c n r f) (level-length t c n r f ∙ wide-deep t c n r h)
 
   -- ---- left of a path
   -- only the last w bits count

@@ -7,15 +7,15 @@ use mathlib.Core.List.{List}
 use native.Mathlib.Omega.{arith}
 use native.Mathlib.Numerals.{add-one}
 use lib.ListN.{length}
-use Rattle.strides.specs.Trie.{Trie, none, left, right}
+use Rattle.strides.specs.Trie.{Trie, none, left, right, depth}
 use Rattle.walk.specs.Limits.{WIDTH, LEVELS}
 use Rattle.tries.specs.Limits.{ELEMENTS}
 use Rattle.walk.specs.Rows.{Row, Lists, shortest, rowAt}
-use Rattle.tries.specs.Scratch.{ROW, ask, strideAt}
+use Rattle.tries.specs.Scratch.{ROW, DEPTH, ask, strideAt}
 use Rattle.layout.specs.Blocks.{Strides, wide, rowBelow, listOf, blockRows, levelRows, firstRow, levelsRows, rowsOf, rowCount, Hold}
 use Rattle.tries.specs.Filling.{FillAsks, FillGives, LevelAsks, LevelGives, LayAsks, LayGives}
-use Rattle.layout.proofs.Blocks.{hold-append, hold-all, hold-kept, level-length, wide-sides, level-sides, wide-own, level-own, wide-below, level-below, first-next, first-le, levels-length}
-use Rattle.tries.proofs.Standing.{zero?, trunk-fits, trunk-none, trunk-some, trunk-width, trunk-left, trunk-right, trunk-child, trunk-level, trunk-stride, trunk-below}
+use Rattle.layout.proofs.Blocks.{hold-append, hold-all, hold-kept, level-length, wide-sides, level-sides, wide-own, level-own, wide-below, level-below, wide-deep, level-deep, first-next, first-le, levels-length}
+use Rattle.tries.proofs.Standing.{zero?, trunk-fits, trunk-deep, trunk-none, trunk-some, trunk-width, trunk-left, trunk-right, trunk-child, trunk-level, trunk-stride, trunk-below}
 use Rattle.tries.proofs.Filling.{room-kept}
 
 -- ---- no trie
@@ -27,6 +27,20 @@ none-gives σ c n r base free ls =
 pub nothing-gives : {σ : Strides} {t : Trie} {rows plan : List ℕ} {k w c n r base free : ℕ} {ls : Lists} → k ≡ 0
     → LevelAsks σ t rows plan k w c n r base free ls → LevelGives σ t c n r base free ls base free ls
 nothing-gives {σ} {c = c} {n = n} {r = r} {base = base} {free = free} {ls = ls} z g = rw (trunk-none (g .trunk) z) (none-gives σ c n r base free ls)
+
+-- ---- a trie with no level so low
+deep-gives : (σ : Strides) (t : Trie) (c n r base free : ℕ) (ls : Lists) → depth t ≤ c + n → LevelGives σ t c n r base free ls base free ls
+deep-gives σ t c n r base free ls h = record {
+  end = omega (arith, wide-deep σ t c n r h);
+  next = omega (arith, wide-deep σ t c (suc n) r (omega arith));
+  wrote = rw (level-deep σ t c n r free h) tt;
+  before = λ i h. refl;
+  after = λ i h. refl;
+}
+
+pub shallow-gives : {σ : Strides} {t : Trie} {rows plan : List ℕ} {k w n r base free d : ℕ} {ls : Lists} → d ≡ ask rows k DEPTH → d ≤ n
+    → LevelAsks σ t rows plan k w 0 n r base free ls → LevelGives σ t 0 n r base free ls base free ls
+shallow-gives {σ} {t} {n = n} {r = r} {base = base} {free = free} {ls = ls} e h g = deep-gives σ t 0 n r base free ls (omega (arith, trunk-deep (g .trunk)))
 
 -- ---- a block begins here
 pub at-block : {σ : Strides} {t : Trie} {rows plan : List ℕ} {k w c n r base free : ℕ} {ls : Lists} → c ≡ 0

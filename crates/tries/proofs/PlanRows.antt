@@ -17,8 +17,8 @@ use Rattle.strides.specs.Strides.{variableStride}
 use Rattle.strides.proofs.Strides.{pick-variable}
 use Rattle.walk.specs.Limits.{WIDTH, LEVELS}
 use Rattle.tries.specs.Limits.{BYTE}
-use Rattle.tries.specs.Scratch.{ROW, ask, strideAt, Stands, BEFORE-STRIDES, COST, MARKS, STRIDE}
-use Rattle.tries.specs.Trees.{Tree, nil, fork, shape, linkOf, Stand, HasRow, lt, rt, lmark, rmark, rowFor, next, side, setSide, setMark, insertR, addEntry, treeOf}
+use Rattle.tries.specs.Scratch.{ROW, DEPTH, ask, strideAt, Stands, BEFORE-STRIDES, COST, MARKS, STRIDE}
+use Rattle.tries.specs.Trees.{Tree, nil, fork, shape, linkOf, Stand, Deep, HasRow, lt, rt, lmark, rmark, rowFor, next, side, setSide, setMark, insertR, addEntry, treeOf}
 use Rattle.tries.specs.Costs.{held, AllPriced}
 use Rattle.tries.specs.Chooser.{padded}
 use Rattle.tries.proofs.Settling.{ask-col}
@@ -68,11 +68,11 @@ StridesIn σ rows plan nil = Unit {0}
 StridesIn σ rows plan (fork x p l q r) =
     ((i : ℕ) → 1 ≤ i → i ≤ length plan → strideAt rows plan (x + 1) i ≡ σ i (node p (shape l) q (shape r))) × StridesIn σ rows plan l × StridesIn σ rows plan r
 
-pub tree-stands : (σ : ℕ → Trie → ℕ) (rows plan : List ℕ) (t : Tree) → Stand rows t → SmallMarks t → ((y : ℕ) → HasRow y t → (y + 1) * ROW ≤ length rows)
-    → StridesIn σ rows plan t → Stands σ rows plan (linkOf t) (shape t)
+pub tree-stands : (σ : ℕ → Trie → ℕ) (rows plan : List ℕ) (t : Tree) → Stand rows t → Deep rows t → SmallMarks t
+    → ((y : ℕ) → HasRow y t → (y + 1) * ROW ≤ length rows) → StridesIn σ rows plan t → Stands σ rows plan (linkOf t) (shape t)
 unfolding shape
-tree-stands σ rows plan nil s m f i = refl
-tree-stands σ rows plan (fork x p l q r) s m f i = (
+tree-stands σ rows plan nil s d m f i = refl
+tree-stands σ rows plan (fork x p l q r) s d m f i = (
   record {
     some = omega arith;
     fits = f x (inl refl);
@@ -80,10 +80,11 @@ tree-stands σ rows plan (fork x p l q r) s m f i = (
     mark1 = ask-col rows x 3 ∙ s .0 .mark1;
     small0 = m .0;
     small1 = m .1;
+    deep = ask-col rows x DEPTH ∙ d .0;
     stride = i .0;
   },
-  rw (ask-col rows x 0 ∙ s .0 .link0) (tree-stands σ rows plan l (s .1) (m .2) (λ y h. f y (inr (inl h))) (i .1)),
-  rw (ask-col rows x 1 ∙ s .0 .link1) (tree-stands σ rows plan r (s .2) (m .3) (λ y h. f y (inr (inr h))) (i .2)),
+  rw (ask-col rows x 0 ∙ s .0 .link0) (tree-stands σ rows plan l (s .1) (d .1) (m .2) (λ y h. f y (inr (inl h))) (i .1)),
+  rw (ask-col rows x 1 ∙ s .0 .link1) (tree-stands σ rows plan r (s .2) (d .2) (m .3) (λ y h. f y (inr (inr h))) (i .2)),
 )
 
 -- a plan that is 0 leaves each row its own

@@ -125,7 +125,7 @@ module _ (W k : ℕ) (vs ls hs scratch : List ℕ) (g : PlanIn W k vs ls hs scra
           named = o .1 ∙ ap (padded LEVELS) h;
           plan-long = ap length (o .1) ∙ padded-length LEVELS (stridesBy held fixed k trie);
           stands = for-trie (chosenBy held fixed k trie) rows plan
-              (tree-stands (chosenBy held fixed k trie) rows plan tree (m .laid .stand) (small-tree W (at vs) (at ls) (at hs) (length vs) (g .marks)) rows-fit
+              (tree-stands (chosenBy held fixed k trie) rows plan tree (m .laid .stand) (m .laid .deep) (small-tree W (at vs) (at ls) (at hs) (length vs) (g .marks)) rows-fit
               (fixed-strides k trie (chosenBy held fixed k trie) rows plan tree (g .levels .0) (ap depth tree-trie) (read 0 (g .levels .0))
               (λ i u p q. ap (λ (y : ℕ). getD plan (y - i) 0) long ∙ read (k - i) (omega (arith, long)))));
         }
@@ -152,6 +152,6 @@ module _ (W k : ℕ) (vs ls hs scratch : List ℕ) (g : PlanIn W k vs ls hs scra
           named = root-stride k trie stride (g .levels .0) own plan-depth ∙ ap (padded LEVELS) (strides-capped COST-CAP variable k trie (g .levels .0) b);
           plan-long = refl;
           stands = for-trie (chosenBy held variable k trie) rows′ plan
-              (tree-stands (variableStride held) rows′ plan tree (o .stand) (small-tree W (at vs) (at ls) (at hs) (length vs) (g .marks)) fits
+              (tree-stands (variableStride held) rows′ plan tree (o .stand) (o .depths) (small-tree W (at vs) (at ls) (at hs) (length vs) (g .marks)) fits
               (strides-own k rows′ plan tree (getD-take {A = ℕ} k (replicate LEVELS 0) 0 0 (g .levels .0)) long (o .priced)));
         }

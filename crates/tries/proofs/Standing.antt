@@ -5,10 +5,10 @@ use mathlib.Core.Logic.{_⊎_, inl, inr}
 use mathlib.Core.List.{List}
 use native.Mathlib.Omega.{arith}
 use lib.ListN.{length}
-use Rattle.strides.specs.Trie.{Trie, none, node, Some, left, right, leftMark, rightMark}
+use Rattle.strides.specs.Trie.{Trie, none, node, Some, left, right, leftMark, rightMark, depth}
 use Rattle.strides.specs.Strides.{Good}
 use Rattle.walk.specs.Limits.{WIDTH, LEVELS}
-use Rattle.tries.specs.Scratch.{ROW, ask, strideAt, Stands, MARKS}
+use Rattle.tries.specs.Scratch.{ROW, DEPTH, ask, strideAt, Stands, MARKS}
 use Rattle.layout.specs.Blocks.{Strides, wide, linkTo, strideOf}
 use Rattle.tries.specs.Filling.{Trunk}
 use Rattle.layout.proofs.GoodStrides.{good-left, good-right, good-width, good-level, good-stride, good-below}
@@ -54,6 +54,11 @@ module _ (σ : Strides) (rows plan : List ℕ) (k : ℕ) where
   mark-right none s = rw (s, ask-none rows 3) (refl, omega arith)
   mark-right (node p a q b) s = (s .0 .mark1, omega (arith, s .0 .mark1, s .0 .small1))
 
+  stands-deep : (t : Trie) → Stands σ rows plan k t → ask rows k DEPTH ≡ depth t
+  unfolding depth
+  stands-deep none s = rw s (ask-none rows DEPTH)
+  stands-deep (node p a q b) s = s .0 .deep
+
   stands-stride : (t : Trie) (r : ℕ) → Stands σ rows plan k t → 0 < k → 1 ≤ r → r ≤ length plan → strideAt rows plan k r ≡ σ r t
   stands-stride none r s h x y = absurd (omega arith)
   stands-stride (node p a q b) r s h x y = s .0 .stride r x y
@@ -87,6 +92,9 @@ module _ (σ : Strides) (rows plan : List ℕ) (k : ℕ) where
 module _ {σ : Strides} {t : Trie} {rows plan : List ℕ} {k w c r : ℕ} (g : Trunk σ t rows plan k w c r) where
   pub trunk-fits : k * ROW ≤ length rows
   trunk-fits = stands-fits σ rows plan k t (g .stands)
+
+  pub trunk-deep : ask rows k DEPTH ≡ depth t
+  trunk-deep = stands-deep σ rows plan k t (g .stands)
 
   pub trunk-none : k ≡ 0 → t ≡ none
   trunk-none z = stands-none σ rows plan k t (g .stands) z

@@ -8,7 +8,7 @@ use mathlib.Core.Bool.{cond}
 use Prim.Native.Nat.{ℕ, _+_, _-_, _*_, _≤_, _<_}
 use lib.ListN.{length, getD}
 use lib.Dec.{eqb}
-use Rattle.strides.specs.Trie.{Trie, none, node}
+use Rattle.strides.specs.Trie.{Trie, none, node, depth}
 use Rattle.walk.specs.Limits.{LEVELS}
 
 -- ---- the columns, under the names that the code gives them
@@ -48,7 +48,7 @@ ask rows k c = cond (eqb k 0) 0 (getD rows ((k - 1) * ROW + c) 0)
 unfoldable pub strideAt : List ℕ → List ℕ → ℕ → ℕ → ℕ
 strideAt rows plan k r = cond (eqb k 0) 0 (cond (eqb (getD plan 0 0) 0) (ask rows k (BEFORE-STRIDES + r)) (getD plan (length plan - r) 0))
 
--- the row of link k holds a node with the marks p and q, and with the strides σ
+-- the row of link k holds the node t with the marks p and q, its depth, and its strides σ
 pub record Here (σ : ℕ → Trie → ℕ) (rows plan : List ℕ) (k p q : ℕ) (t : Trie) : Type 0 where
   pub some : 0 < k
   pub fits : k * ROW ≤ length rows
@@ -56,6 +56,7 @@ pub record Here (σ : ℕ → Trie → ℕ) (rows plan : List ℕ) (k p q : ℕ)
   pub mark1 : ask rows k 3 ≡ q
   pub small0 : p < MARKS
   pub small1 : q < MARKS
+  pub deep : ask rows k DEPTH ≡ depth t
   pub stride : (r : ℕ) → 1 ≤ r → r ≤ length plan → strideAt rows plan k r ≡ σ r t
 
 -- the link k stands for the trie t, with the strides σ

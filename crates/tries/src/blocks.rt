@@ -10,6 +10,7 @@ ghost use Rattle.tries.specs.Limits.{LINKS, BYTE};
 ghost use Rattle.walk.specs.Rows.{lists, shortest};
 ghost use Rattle.tries.specs.Scratch.{ROW, MARKS, ask};
 ghost use Rattle.tries.specs.Filling.{Bare, CanFill, Fills, CanBlock, WritesBlock, CanLevel, WritesLevel, CanLay, Lays};
+use crate::scratch::DEPTH;
 use crate::scratch::asked;
 use crate::scratch::stride_at;
 
@@ -172,7 +173,8 @@ fn block(
 }
 
 // Writes the blocks of level n below the trie at link k, left to right, from row `to.base` on. The next block on a path begins c
-// levels lower, with r levels left; w address bits are left.
+// levels lower, with r levels left; w address bits are left. The n-th block after one begins at least n levels lower, so a subtrie
+// that is too shallow for it is left.
 fn level(
     rows: &[u64],
     plan: &[u8],
@@ -198,6 +200,9 @@ fn level(
     if c == 0 {
         if n == 0 {
             return block(rows, plan, k, r, to, hop, link, stride);
+        }
+        if asked(rows, k, DEPTH) <= n {
+            return to;
         }
         let s = stride_at(rows, plan, k, r);
         return level(rows, plan, k, w, s, n - 1, r - 1, to, hop, link, stride);

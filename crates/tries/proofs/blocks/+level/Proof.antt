@@ -3,7 +3,7 @@ use mathlib.Core.Path.{_≡_}
 use native.Mathlib.Omega.{arith}
 use borrow.Author.Needs.{needs}
 use Rattle.strides.specs.Trie.{left, right}
-use Rattle.tries.proofs.Leveling.{nothing-gives, at-block, from-block, at-own, from-own, block-bounds, stride-positive, below-asks, below-gives, side-bounds, first-asks, second-asks}
+use Rattle.tries.proofs.Leveling.{nothing-gives, shallow-gives, at-block, from-block, at-own, from-own, block-bounds, stride-positive, below-asks, below-gives, side-bounds, first-asks, second-asks}
 use Rattle.tries.proofs.Leveling.{sides-give}
 use Prim.Native.Nat.{ℕ, _<_}
 use borrow.Fn.Kinds.{In}
@@ -27,7 +27,7 @@ abbrev level-below : ℕ → In 5 level-kinds.ps
 level-below t = and 5 level-kinds.ps (falls 5 level-kinds.ps _<_ μ-level t) level.Pre
 
 abbrev cs : ℕ → level-lts.Claims
-cs t = (block-reads.Asked, block-reads.Learnt, stride-at-reads.Asked, stride-at-reads.Learnt, level-below t, level.Post, asked-reads.Asked, asked-reads.Learnt)
+cs t = (block-reads.Asked, block-reads.Learnt, asked-reads.Asked, asked-reads.Learnt, stride-at-reads.Asked, stride-at-reads.Learnt, level-below t, level.Post)
 
 level-returns : (t : ℕ) → level-lts.Need-returns (cs t) (level-at t) level.Post
 level-returns t c = λ σ u g. nothing-gives (c .if1 .taken) g
@@ -53,10 +53,21 @@ level-returns-2 t c =
     let zn = c .before .before .before .before .before .before .before .before .before .before .if3 .taken in
     λ σ u g. from-block zc (from-own zn (c .before .before .before .before .before .before .block .ensures (S .args .w) σ u (at-own zn (at-block zc g))))
 
-level-stride-at-requires : (t : ℕ) → level-lts.Need-stride-at-requires (cs t) (level-at t) level.Post
-level-stride-at-requires t c κs =
+level-asked-requires : (t : ℕ) → level-lts.Need-asked-requires (cs t) (level-at t) level.Post
+level-asked-requires t c κs =
     let S = c .before .before .before .before .before .before .before .before in
     let b = block-bounds (at-block (c .before .if2 .taken) (S .pre .1 .2)) (omega arith) in
+    (b .fits, omega arith)
+
+level-returns-3 : (t : ℕ) → level-lts.Need-returns-3 (cs t) (level-at t) level.Post
+level-returns-3 t c =
+    let zc = c .before .before .before .if2 .taken in
+    λ σ u g. from-block zc (shallow-gives (c .before .asked .ensures) (c .if4 .taken) (at-block zc g))
+
+level-stride-at-requires : (t : ℕ) → level-lts.Need-stride-at-requires (cs t) (level-at t) level.Post
+level-stride-at-requires t c κs =
+    let S = c .before .before .before .before .before .before .before .before .before .before in
+    let b = block-bounds (at-block (c .before .before .before .if2 .taken) (S .pre .1 .2)) (omega arith) in
     (b .fits, λ s. b .level, b .levels, b .planned)
 
 level-sub-level : (t : ℕ) → level-lts.Need-sub-level (cs t) (level-at t) level.Post
@@ -64,13 +75,13 @@ level-sub-level t c = omega arith
 
 level-sub-level-2 : (t : ℕ) → level-lts.Need-sub-level-2 (cs t) (level-at t) level.Post
 level-sub-level-2 t c =
-    let S = c .before .before .before .before .before .before .before .before .before in
-    block-bounds (at-block (c .before .before .if2 .taken) (S .pre .1 .2)) (omega arith) .level
+    let S = c .before .before .before .before .before .before .before .before .before .before .before in
+    block-bounds (at-block (c .before .before .before .before .if2 .taken) (S .pre .1 .2)) (omega arith) .level
 
 level-level-requires : (t : ℕ) → level-lts.Need-level-requires (cs t) (level-at t) level.Post
 level-level-requires t c κs =
-    let S = c .before .before .before .before .before .before .before .before .before .before .before .before in
-    let g = at-block (c .before .before .before .before .before .if2 .taken) (S .pre .1 .2) in
+    let S = c .before .before .before .before .before .before .before .before .before .before .before .before .before .before in
+    let g = at-block (c .before .before .before .before .before .before .before .if2 .taken) (S .pre .1 .2) in
     let b = block-bounds g (omega arith) in
     let q = c .before .before .before .stride-at .ensures in
     let e : S .args .r ≡ suc (S .args .r - 1) = omega arith in
@@ -86,22 +97,22 @@ level-same-length-5 t c = search needs
 level-same-length-6 : (t : ℕ) → level-lts.Need-same-length-6 (cs t) (level-at t) level.Post
 level-same-length-6 t c = search needs
 
-level-returns-3 : (t : ℕ) → level-lts.Need-returns-3 (cs t) (level-at t) level.Post
-level-returns-3 t c =
-    let S = c .before .before .before .before .before .before .before .before .before .before .before .before .before .before .before .before .before .before .before in
-    let k : 0 < S .args .k = omega (arith, c .before .before .before .before .before .before .before .before .before .before .before .before .before .if1 .left) in
-    let zc = c .before .before .before .before .before .before .before .before .before .before .before .before .if2 .taken in
+level-returns-4 : (t : ℕ) → level-lts.Need-returns-4 (cs t) (level-at t) level.Post
+level-returns-4 t c =
+    let S = c .before .before .before .before .before .before .before .before .before .before .before .before .before .before .before .before .before .before .before .before .before in
+    let k : 0 < S .args .k = omega (arith, c .before .before .before .before .before .before .before .before .before .before .before .before .before .before .before .if1 .left) in
+    let zc = c .before .before .before .before .before .before .before .before .before .before .before .before .before .before .if2 .taken in
     let q = c .before .before .before .before .before .before .before .before .before .before .stride-at .ensures in
     let b = block-bounds (at-block zc (S .pre .1 .2)) k in
     let er : S .args .r ≡ suc (S .args .r - 1) = omega (arith, b .level) in
-    let en : S .args .n ≡ suc (S .args .n - 1) = omega (arith, c .before .before .before .before .before .before .before .before .before .before .before .if3 .left) in
+    let en : S .args .n ≡ suc (S .args .n - 1) = omega (arith, c .before .before .before .before .before .before .before .before .before .before .before .before .before .if3 .left) in
     λ σ u g. let h = at-block zc g in from-block zc (below-gives h k q er en (c .before .before .before .before .before .before .level .ensures σ u (below-asks h k q er en)))
 
-level-asked-requires : (t : ℕ) → level-lts.Need-asked-requires (cs t) (level-at t) level.Post
-level-asked-requires t c κs = omega (arith, side-bounds (c .before .before .before .before .before .before .before .pre .1 .2) (omega arith))
-
 level-asked-requires-2 : (t : ℕ) → level-lts.Need-asked-requires-2 (cs t) (level-at t) level.Post
-level-asked-requires-2 t c κs = omega (arith, side-bounds (c .before .before .before .before .before .before .before .before .pre .1 .2) (omega arith))
+level-asked-requires-2 t c κs = omega (arith, side-bounds (c .before .before .before .before .before .before .before .pre .1 .2) (omega arith))
+
+level-asked-requires-3 : (t : ℕ) → level-lts.Need-asked-requires-3 (cs t) (level-at t) level.Post
+level-asked-requires-3 t c κs = omega (arith, side-bounds (c .before .before .before .before .before .before .before .before .pre .1 .2) (omega arith))
 
 level-sub-level-3 : (t : ℕ) → level-lts.Need-sub-level-3 (cs t) (level-at t) level.Post
 level-sub-level-3 t c = omega (arith, side-bounds (c .before .before .before .before .before .before .before .before .before .pre .1 .2) (omega arith))
@@ -113,7 +124,7 @@ level-level-requires-2 : (t : ℕ) → level-lts.Need-level-requires-2 (cs t) (l
 level-level-requires-2 t c κs =
     let S = c .before .before .before .before .before .before .before .before .before .before .before .before in
     let b = side-bounds (S .pre .1 .2) (omega arith) in
-    (omega arith, (S .pre .1 .0, left (S .pre .1 .1), first-asks (S .pre .1 .2) (omega arith) (c .before .before .before .before .asked .ensures)))
+    (omega arith, (S .pre .1 .0, left (S .pre .1 .1), first-asks (S .pre .1 .2) (omega arith) (c .before .before .before .before .asked2 .ensures)))
 
 level-sub-level-5 : (t : ℕ) → level-lts.Need-sub-level-5 (cs t) (level-at t) level.Post
 level-sub-level-5 t c =
@@ -139,9 +150,9 @@ level-level-requires-3 t c κs =
     let ne = c15 .if2 .left in
     let b = side-bounds (S .pre .1 .2) (omega (arith, c16 .if1 .left)) in
     let e : S .args .c ≡ suc (S .args .c - 1) = omega (arith, ne) in
-    let o = F .ensures (S .pre .1 .0) (left (S .pre .1 .1)) (first-asks (S .pre .1 .2) e (c14 .asked .ensures)) in (
+    let o = F .ensures (S .pre .1 .0) (left (S .pre .1 .1)) (first-asks (S .pre .1 .2) e (c14 .asked2 .ensures)) in (
       omega (arith, ne, b, S .pre .0),
-      (S .pre .1 .0, right (S .pre .1 .1), second-asks (S .pre .1 .2) e (omega (arith, F .kept)) o (c13 .asked2 .ensures)),
+      (S .pre .1 .0, right (S .pre .1 .1), second-asks (S .pre .1 .2) e (omega (arith, F .kept)) o (c13 .asked3 .ensures)),
     )
 
 level-same-length-7 : (t : ℕ) → level-lts.Need-same-length-7 (cs t) (level-at t) level.Post
@@ -153,8 +164,8 @@ level-same-length-8 t c = search needs
 level-same-length-9 : (t : ℕ) → level-lts.Need-same-length-9 (cs t) (level-at t) level.Post
 level-same-length-9 t c = search needs
 
-level-returns-4 : (t : ℕ) → level-lts.Need-returns-4 (cs t) (level-at t) level.Post
-level-returns-4 t c =
+level-returns-5 : (t : ℕ) → level-lts.Need-returns-5 (cs t) (level-at t) level.Post
+level-returns-5 t c =
     let c6 = c .before .before .before .before .before .before in
     let c16 = c6 .before .before .before .before .before .before .before .before .before .before in
     let c20 = c16 .before .before .before .before in
@@ -165,11 +176,11 @@ level-returns-4 t c =
     let F = c16 .level2 in
     let e : S .args .c ≡ suc (S .args .c - 1) = omega (arith, c22 .if2 .left) in
     λ σ u g.
-    let o = F .ensures σ (left u) (first-asks g e (c21 .asked .ensures)) in
+    let o = F .ensures σ (left u) (first-asks g e (c21 .asked2 .ensures)) in
     sides-give g e (omega (arith, F .kept)) o
     (c6 .level3 .ensures σ (right u)
     (second-asks g e (omega (arith, F .kept)) o
-    (c20 .asked2 .ensures)))
+    (c20 .asked3 .ensures)))
 
 pub +level-spec : {M : Type 1} → statement M
 +level-spec = close μ-level λ t. level-lts.spec (cs t)
@@ -181,6 +192,8 @@ pub +level-spec : {M : Type 1} → statement M
     (level-same-length-2 t)
     (level-same-length-3 t)
     (level-returns-2 t)
+    (level-asked-requires t)
+    (level-returns-3 t)
     (level-stride-at-requires t)
     (level-sub-level t)
     (level-sub-level-2 t)
@@ -188,9 +201,9 @@ pub +level-spec : {M : Type 1} → statement M
     (level-same-length-4 t)
     (level-same-length-5 t)
     (level-same-length-6 t)
-    (level-returns-3 t)
-    (level-asked-requires t)
+    (level-returns-4 t)
     (level-asked-requires-2 t)
+    (level-asked-requires-3 t)
     (level-sub-level-3 t)
     (level-sub-level-4 t)
     (level-level-requires-2 t)
@@ -200,4 +213,4 @@ pub +level-spec : {M : Type 1} → statement M
     (level-same-length-7 t)
     (level-same-length-8 t)
     (level-same-length-9 t)
-    (level-returns-4 t)
+    (level-returns-5 t)
