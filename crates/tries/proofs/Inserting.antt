@@ -10,7 +10,8 @@ use lib.ListN.{length, getD, set, length-set}
 use lib.Seq.{getD-set-same, getD-set-other}
 use Rattle.strides.specs.Trie.{bit, depth}
 use Rattle.tries.specs.Scratch.{ROW, DEPTH}
-use Rattle.tries.specs.Trees.{Tree, nil, fork, shape, col, linkOf, NodeRow, Stand, Deep, Deepens, HasRow, Apart, Under, lt, rt, lmark, rmark, rowFor, next, side, setSide, setMark, insertR, countR}
+use Rattle.tries.specs.Trees.{Tree, nil, fork, shape, col, linkOf, NodeRow, Stand, Deep, Deepens, HasRow, Apart, Under, lt, rt, lmark, rmark}
+use Rattle.tries.specs.Trees.{rowFor, next, side, setSide, setMark, insertR, countR}
 use Rattle.tries.specs.Inserting.{Downed, InsertIn, InsertOut, Inserted}
 use Rattle.tries.proofs.Frames.{keep-stand, keep-deep}
 use Rattle.tries.proofs.Shapes.{depth-insert}

@@ -14,7 +14,8 @@ use Rattle.walk.specs.Rows.{Row, Lists, shortest, rowAt}
 use Rattle.tries.specs.Scratch.{ROW, DEPTH, ask, strideAt}
 use Rattle.layout.specs.Blocks.{Strides, wide, rowBelow, listOf, blockRows, levelRows, firstRow, levelsRows, rowsOf, rowCount, Hold}
 use Rattle.tries.specs.Filling.{FillAsks, FillGives, LevelAsks, LevelGives, LayAsks, LayGives}
-use Rattle.layout.proofs.Blocks.{hold-append, hold-all, hold-kept, level-length, wide-sides, level-sides, wide-own, level-own, wide-below, level-below, wide-deep, level-deep, first-next, first-le, levels-length}
+use Rattle.layout.proofs.Blocks.{hold-append, hold-all, hold-kept, level-length, wide-sides, level-sides, wide-own, level-own, wide-below, level-below}
+use Rattle.layout.proofs.Blocks.{wide-deep, level-deep, first-next, first-le, levels-length}
 use Rattle.tries.proofs.Standing.{zero?, trunk-fits, trunk-deep, trunk-none, trunk-some, trunk-width, trunk-left, trunk-right, trunk-child, trunk-level, trunk-stride, trunk-below}
 use Rattle.tries.proofs.Filling.{room-kept}
 

@@ -17,7 +17,8 @@ use Rattle.strides.proofs.Counting.{node-count}
 use Rattle.walk.specs.Limits.{WIDTH}
 use Rattle.tries.specs.Limits.{WORD}
 use Rattle.tries.specs.Scratch.{ROW, DEPTH}
-use Rattle.tries.specs.Trees.{Tree, nil, fork, shape, linkOf, rowFor, next, side, setSide, setMark, lt, rt, lmark, rmark, Stand, Deep, Deepens, HasRow, Apart, Under, insertR, countR, addEntry, treeOf}
+use Rattle.tries.specs.Trees.{Tree, nil, fork, shape, linkOf, rowFor, next, side, setSide, setMark, lt, rt, lmark, rmark, Stand, Deep, Deepens, HasRow, Apart, Under}
+use Rattle.tries.specs.Trees.{insertR, countR, addEntry, treeOf}
 use Rattle.tries.specs.Inserting.{InsertIn, Inserted}
 use Rattle.tries.specs.Making.{Prefixes, InRows, AddIn, AddOut, Added, CountIn, AddCounted, MakeOut}
 use Rattle.tries.specs.LevelCounts.{LevelsAdded, CountsOf}

@@ -175,7 +175,7 @@ module _ (from to : ℕ) (pass : Pass from to) (rows : List ℕ) (k d x p : ℕ)
 
 -- ---- for whichever tree stands there
 
-module _ (from to : ℕ) (pass : Pass from to) (rows : List ℕ) (k d : ℕ) where
+module _ {from to : ℕ} (pass : Pass from to) {rows : List ℕ} {k d : ℕ} where
   pub some-fits : TreeAsk from rows k d → (k ≡ 0 → ⊥) → (k * ROW ≤ length rows) × (0 < k) × (d < WIDTH)
   unfolding shape depth
   some-fits (nil, g) ne = absurd (ne (g .link))
@@ -189,20 +189,20 @@ module _ (from to : ℕ) (pass : Pass from to) (rows : List ℕ) (k d : ℕ) whe
   none-settled z nil g = record { stand = tt; depths = tt; priced = tt; above = λ y i h lo hi. absurd h; others = λ y h c hc. refl }
   none-settled z (fork x p l q r) g = absurd (omega (arith, g .link))
 
-  module _ (j : ℕ) (sums : List ℕ) (pages : PagesIn j (WIDTH - d) sums) where
+  module _ {j : ℕ} {sums : List ℕ} (pages : PagesIn j (WIDTH - d) sums) where
     pub none-summed : k ≡ 0 → SumsDone from to rows k d j sums sums
     unfolding shape
     none-summed z nil g = sums-none pages
     none-summed z (fork x p l q r) g = absurd (omega (arith, g .link))
 
     module _ (ne : k ≡ 0 → ⊥) where
-      less : WIDTH - (d + 1) ≡ WIDTH - d - 1
-      less = omega arith
-
       pub left-pages : TreeAsk from rows k d → PagesIn (j + (WIDTH - d)) (WIDTH - (d + 1)) sums
-      left-pages a = let f = some-fits a ne in rw less (pages-below pages (omega arith))
+      left-pages a =
+          let f = some-fits a ne in
+          let e : WIDTH - (d + 1) ≡ WIDTH - d - 1 = omega arith in
+          rw e (pages-below pages (omega arith))
 
-      module _ (rows1 sums1 : List ℕ) (len1 : length rows1 ≡ length rows) (long1 : length sums1 ≡ length sums)
+      module _ {rows1 sums1 : List ℕ} (len1 : length rows1 ≡ length rows) (long1 : length sums1 ≡ length sums)
           (d1 : TreeDone from to rows (ask rows k 0) (d + 1) rows1) (s1 : SumsDone from to rows (ask rows k 0) (d + 1) (j + (WIDTH - d)) sums sums1) where
         pub some-right : TreeAsk from rows k d → TreeAsk from rows1 (ask rows1 k 1) (d + 1)
         some-right (nil, g) = absurd (ne (g .link))
@@ -214,7 +214,7 @@ module _ (from to : ℕ) (pass : Pass from to) (rows : List ℕ) (k d : ℕ) whe
             let t = left-tree from to pass rows k d x p l q r g in
             pages-after (left-pages (fork x p l q r, g)) (omega (arith, t .deep)) long1 (s1 l t)
 
-        module _ (rows2 sums2 : List ℕ) (len2 : length rows2 ≡ length rows1) (long2 : length sums2 ≡ length sums1)
+        module _ {rows2 sums2 : List ℕ} (len2 : length rows2 ≡ length rows1) (long2 : length sums2 ≡ length sums1)
             (d2 : TreeDone from to rows1 (ask rows1 k 1) (d + 1) rows2) (s2 : SumsDone from to rows1 (ask rows1 k 1) (d + 1) (j + (WIDTH - d)) sums1 sums2) where
           module _ (x p : ℕ) (l : Tree) (q : ℕ) (r : Tree) (g : TreeIn from rows k d (fork x p l q r)) where
             first : TreeIn from rows (ask rows k 0) (d + 1) l
@@ -263,7 +263,7 @@ module _ (from to : ℕ) (pass : Pass from to) (rows : List ℕ) (k d : ℕ) whe
           finish-in (nil, g) = absurd (ne (g .link))
           finish-in (fork x p l q r, g) = finish-at x p l q r g
 
-          module _ (rows3 sums3 : List ℕ) (st : Stored from to rows2 (k - 1) (ask rows2 k DEPTH) ((j + (WIDTH - d)) * COLUMNS) sums2 rows3)
+          module _ {rows3 sums3 : List ℕ} (st : Stored from to rows2 (k - 1) (ask rows2 k DEPTH) ((j + (WIDTH - d)) * COLUMNS) sums2 rows3)
               (h : HandedUp from to rows3 k j (j + (WIDTH - d)) (ask rows2 k DEPTH - 1) sums2 sums3) where
             pub tree-done : TreeDone from to rows k d rows3
             tree-done nil g = absurd (ne (g .link))

@@ -133,7 +133,8 @@ pub record TreeOut (to : ℕ) (rows rows′ : List ℕ) (t : Tree) : Type 0 wher
   pub stand : Stand rows′ t
   pub depths : Deep rows′ t
   pub priced : AllPriced to rows′ t
-  pub above : (y r : ℕ) → HasRow y t → to ≤ r → r < LEVELS → (col rows′ y (COST + r) ≡ col rows y (COST + r)) × (col rows′ y (STRIDE + r) ≡ col rows y (STRIDE + r))
+  pub above : (y r : ℕ) → HasRow y t → to ≤ r → r < LEVELS
+      → (col rows′ y (COST + r) ≡ col rows y (COST + r)) × (col rows′ y (STRIDE + r) ≡ col rows y (STRIDE + r))
   pub others : (y : ℕ) → (HasRow y t → ⊥) → (c : ℕ) → c < ROW → col rows′ y c ≡ col rows y c
 
 abbrev pub TreeAsk : (from : ℕ) → List ℕ → ℕ → ℕ → Type 0

@@ -3,8 +3,8 @@ use mathlib.Core.Path.{_≡_}
 use native.Mathlib.Omega.{arith}
 use borrow.Author.Needs.{needs}
 use Rattle.strides.specs.Trie.{left, right}
-use Rattle.tries.proofs.Leveling.{nothing-gives, shallow-gives, at-block, from-block, at-own, from-own, block-bounds, stride-positive, below-asks, below-gives, side-bounds, first-asks, second-asks}
-use Rattle.tries.proofs.Leveling.{sides-give}
+use Rattle.tries.proofs.Leveling.{nothing-gives, shallow-gives, at-block, from-block, at-own, from-own, block-bounds, stride-positive, below-asks, below-gives, side-bounds, first-asks}
+use Rattle.tries.proofs.Leveling.{second-asks, sides-give}
 use Prim.Native.Nat.{ℕ, _<_}
 use borrow.Fn.Kinds.{In}
 use borrow.Fn.PlainCycle.{Measures, is, falls, and}

@@ -18,8 +18,11 @@ make-rows-requires c κs =
 settle-all-requires : tie.Need-settle-all-requires
 settle-all-requires c κs =
     let S = c .before .before .before .before .before .before .before .before .before .before .before .before .before .before .before in
-    let M = c .before .before .before .before .make-rows in
-    (settle-in (S .args .width) (S .args .levels) (S .args .vals .now) (S .args .lens .now) (S .args .hops .now) (S .args .scratch .now) (S .pre) _ _ _ (M .ensures) (omega (arith, M .kept)), S .pre .levels .1)
+    let M = c .before .before .before .before .make-rows in (
+      settle-in (S .args .width) (S .args .levels) (S .args .vals .now) (S .args .lens .now) (S .args .hops .now) (S .args .scratch .now) (S .pre) _ _ _ (M .ensures)
+          (omega (arith, M .kept)),
+      S .pre .levels .1,
+    )
 
 add-asked : tie.Need-add-asked
 add-asked c = search needs

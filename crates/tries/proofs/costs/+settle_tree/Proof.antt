@@ -37,7 +37,7 @@ settle-tree-cast-below t c = search needs
 settle-tree-sub-below : (t : ℕ) → settle-tree-lts.Need-sub-below (cs t) (settle-tree-at t) settle-tree.Post
 settle-tree-sub-below t c =
     let S = c .before .before .before in
-    let f = some-fits (S .args .from) (S .args .to) (S .pre .1 .0 .1) (S .args .rows .now) (S .args .k) (S .args .d) (S .pre .1 .0 .0) (c .if1 .taken) in
+    let f = some-fits (S .pre .1 .0 .1) (S .pre .1 .0 .0) (c .if1 .taken) in
     omega arith
 
 settle-tree-add-below : (t : ℕ) → settle-tree-lts.Need-add-below (cs t) (settle-tree-at t) settle-tree.Post
@@ -46,54 +46,62 @@ settle-tree-add-below t c = let S = c .before .before .before in omega (arith, S
 settle-tree-asked-requires : (t : ℕ) → settle-tree-lts.Need-asked-requires (cs t) (settle-tree-at t) settle-tree.Post
 settle-tree-asked-requires t c κs =
     let S = c .before .before .before .before .before in
-    let f = some-fits (S .args .from) (S .args .to) (S .pre .1 .0 .1) (S .args .rows .now) (S .args .k) (S .args .d) (S .pre .1 .0 .0) (c .before .before .if1 .taken) in
+    let f = some-fits (S .pre .1 .0 .1) (S .pre .1 .0 .0) (c .before .before .if1 .taken) in
     omega arith
 
 settle-tree-add-settle-tree : (t : ℕ) → settle-tree-lts.Need-add-settle-tree (cs t) (settle-tree-at t) settle-tree.Post
 settle-tree-add-settle-tree t c =
     let S = c .before .before .before .before .before .before in
-    let f = some-fits (S .args .from) (S .args .to) (S .pre .1 .0 .1) (S .args .rows .now) (S .args .k) (S .args .d) (S .pre .1 .0 .0) (c .before .before .before .if1 .taken) in
+    let f = some-fits (S .pre .1 .0 .1) (S .pre .1 .0 .0) (c .before .before .before .if1 .taken) in
     omega arith
 
 settle-tree-settle-tree-requires : (t : ℕ) → settle-tree-lts.Need-settle-tree-requires (cs t) (settle-tree-at t) settle-tree.Post
 settle-tree-settle-tree-requires t c κs =
     let S = c .before .before .before .before .before .before .before in
     let ne = c .before .before .before .before .if1 .taken in
-    let f = some-fits (S .args .from) (S .args .to) (S .pre .1 .0 .1) (S .args .rows .now) (S .args .k) (S .args .d) (S .pre .1 .0 .0) ne in
-    (omega arith, ((rw (c .before .asked .ensures) (some-left (S .args .from) (S .args .to) (S .pre .1 .0 .1) (S .args .rows .now) (S .args .k) (S .args .d) (S .pre .1 .0 .0) ne), S .pre .1 .0 .1), left-pages (S .args .from) (S .args .to) (S .pre .1 .0 .1) (S .args .rows .now) (S .args .k) (S .args .d) (S .args .at) (S .args .sums .now) (S .pre .1 .1) ne (S .pre .1 .0 .0)))
+    let f = some-fits (S .pre .1 .0 .1) (S .pre .1 .0 .0) ne in (
+      omega arith,
+      (
+        (rw (c .before .asked .ensures) (some-left (S .pre .1 .0 .1) (S .pre .1 .0 .0) ne), S .pre .1 .0 .1),
+        left-pages (S .pre .1 .0 .1) (S .pre .1 .1) ne (S .pre .1 .0 .0),
+      ),
+    )
 
 settle-tree-asked-requires-2 : (t : ℕ) → settle-tree-lts.Need-asked-requires-2 (cs t) (settle-tree-at t) settle-tree.Post
 settle-tree-asked-requires-2 t c κs =
     let S = c .before .before .before .before .before .before .before .before .before .before .before .before .before .before in
-    let f = some-fits (S .args .from) (S .args .to) (S .pre .1 .0 .1) (S .args .rows .now) (S .args .k) (S .args .d) (S .pre .1 .0 .0) (c .before .before .before .before .before .before .before .before .before .before .before .if1 .taken) in
+    let f = some-fits (S .pre .1 .0 .1) (S .pre .1 .0 .0) (c .before .before .before .before .before .before .before .before .before .before .before .if1 .taken) in
     omega arith
 
 settle-tree-add-settle-tree-2 : (t : ℕ) → settle-tree-lts.Need-add-settle-tree-2 (cs t) (settle-tree-at t) settle-tree.Post
 settle-tree-add-settle-tree-2 t c =
     let S = c .before .before .before .before .before .before .before .before .before .before .before .before .before .before .before in
-    let f = some-fits (S .args .from) (S .args .to) (S .pre .1 .0 .1) (S .args .rows .now) (S .args .k) (S .args .d) (S .pre .1 .0 .0) (c .before .before .before .before .before .before .before .before .before .before .before .before .if1 .taken) in
+    let f = some-fits (S .pre .1 .0 .1) (S .pre .1 .0 .0) (c .before .before .before .before .before .before .before .before .before .before .before .before .if1 .taken) in
     omega arith
 
 settle-tree-settle-tree-requires-2 : (t : ℕ) → settle-tree-lts.Need-settle-tree-requires-2 (cs t) (settle-tree-at t) settle-tree.Post
 settle-tree-settle-tree-requires-2 t c κs =
     let S = c .before .before .before .before .before .before .before .before .before .before .before .before .before .before .before .before in
     let ne = c .before .before .before .before .before .before .before .before .before .before .before .before .before .if1 .taken in
-    let f = some-fits (S .args .from) (S .args .to) (S .pre .1 .0 .1) (S .args .rows .now) (S .args .k) (S .args .d) (S .pre .1 .0 .0) ne in
+    let f = some-fits (S .pre .1 .0 .1) (S .pre .1 .0 .0) ne in
     let L = c .before .before .before .before .before .before .before .before .settle-tree in
     let l = rw (c .before .before .before .before .before .before .before .before .before .before .asked .ensures) at (L .ensures) in (
       omega arith,
-      ((rw (c .before .asked2 .ensures) (some-right (S .args .from) (S .args .to) (S .pre .1 .0 .1) (S .args .rows .now) (S .args .k) (S .args .d) (S .args .at) (S .args .sums .now) (S .pre .1 .1) ne (L .last .0) (L .last .1 .1 .1 .1 .1 .1 .0) (omega arith) (omega arith) (l .0) (l .1) (S .pre .1 .0 .0)), S .pre .1 .0 .1), right-pages (S .args .from) (S .args .to) (S .pre .1 .0 .1) (S .args .rows .now) (S .args .k) (S .args .d) (S .args .at) (S .args .sums .now) (S .pre .1 .1) ne (L .last .0) (L .last .1 .1 .1 .1 .1 .1 .0) (omega arith) (omega arith) (l .0) (l .1) (S .pre .1 .0 .0)),
+      (
+        (rw (c .before .asked2 .ensures) (some-right (S .pre .1 .0 .1) (S .pre .1 .1) ne (omega arith) (omega arith) (l .0) (l .1) (S .pre .1 .0 .0)), S .pre .1 .0 .1),
+        right-pages (S .pre .1 .0 .1) (S .pre .1 .1) ne (omega arith) (omega arith) (l .0) (l .1) (S .pre .1 .0 .0),
+      ),
     )
 
 settle-tree-finish-requires : (t : ℕ) → settle-tree-lts.Need-finish-requires (cs t) (settle-tree-at t) settle-tree.Post
 settle-tree-finish-requires t c κs =
-    let S = c .before .before .before .before .before .before .before .before .before .before .before .before .before .before .before .before .before .before .before .before .before .before .before in
-    let L = c .before .before .before .before .before .before .before .before .before .before .before .before .before .before .before .settle-tree in
-    let l = rw (c .before .before .before .before .before .before .before .before .before .before .before .before .before .before .before .before .before .asked .ensures) at (L .ensures) in
-    let R = c .before .before .before .before .before .before .settle-tree2 in
-    let r = rw (c .before .before .before .before .before .before .before .before .asked2 .ensures) at (R .ensures) in
-    finish-in (S .args .from) (S .args .to) (S .pre .1 .0 .1) (S .args .rows .now) (S .args .k) (S .args .d) (S .args .at) (S .args .sums .now) (S .pre .1 .1) (c .before .before .before .before .before .before .before .before .before .before .before .before .before .before .before .before .before .before .before .before .if1 .taken) (L .last .0) (L .last .1 .1 .1 .1 .1 .1 .0) (omega arith) (omega arith) (l .0) (l .1)
-    (R .last .0) (R .last .1 .1 .1 .1 .1 .1 .0) (omega arith) (omega arith) (r .0) (r .1) (S .pre .1 .0 .0)
+    let right = c .before .before .before .before .before .before in
+    let left = right .before .before .before .before .before .before .before .before .before in
+    let S = left .before .before .before .before .before .before .before .before in
+    let l = rw (left .before .before .asked .ensures) at (left .settle-tree .ensures) in
+    let r = rw (right .before .before .asked2 .ensures) at (right .settle-tree2 .ensures) in
+    let ne = left .before .before .before .before .before .if1 .taken in
+    finish-in (S .pre .1 .0 .1) (S .pre .1 .1) ne (omega arith) (omega arith) (l .0) (l .1) (omega arith) (omega arith) (r .0) (r .1) (S .pre .1 .0 .0)
 
 settle-tree-same-length : (t : ℕ) → settle-tree-lts.Need-same-length (cs t) (settle-tree-at t) settle-tree.Post
 settle-tree-same-length t c = search needs
@@ -103,23 +111,24 @@ settle-tree-same-length-2 t c = search needs
 
 settle-tree-returns : (t : ℕ) → settle-tree-lts.Need-returns (cs t) (settle-tree-at t) settle-tree.Post
 settle-tree-returns t c =
-    let S = c .before .before .before .before .before .before .before .before .before .before .before .before .before .before .before .before .before .before .before .before .before .before .before .before .before .before .before .before in
-    let ne = c .before .before .before .before .before .before .before .before .before .before .before .before .before .before .before .before .before .before .before .before .before .before .before .before .before .if1 .taken in
-    let L = c .before .before .before .before .before .before .before .before .before .before .before .before .before .before .before .before .before .before .before .before .settle-tree in
-    let l = rw (c .before .before .before .before .before .before .before .before .before .before .before .before .before .before .before .before .before .before .before .before .before .before .asked .ensures) at (L .ensures) in
-    let R = c .before .before .before .before .before .before .before .before .before .before .before .settle-tree2 in
-    let r = rw (c .before .before .before .before .before .before .before .before .before .before .before .before .before .asked2 .ensures) at (R .ensures) in
-    let X = c .before .before .before .before .finish in (
-      tree-done (S .args .from) (S .args .to) (S .pre .1 .0 .1) (S .args .rows .now) (S .args .k) (S .args .d) (S .args .at) (S .args .sums .now) (S .pre .1 .1) ne (L .last .0) (L .last .1 .1 .1 .1 .1 .1 .0) (omega arith) (omega arith) (l .0) (l .1)
-          (R .last .0) (R .last .1 .1 .1 .1 .1 .1 .0) (omega arith) (omega arith) (r .0) (r .1) (X .last .0) (X .last .1 .1 .1 .1 .1 .1 .0) (X .ensures .0) (X .ensures .1),
-      sums-done (S .args .from) (S .args .to) (S .pre .1 .0 .1) (S .args .rows .now) (S .args .k) (S .args .d) (S .args .at) (S .args .sums .now) (S .pre .1 .1) ne (L .last .0) (L .last .1 .1 .1 .1 .1 .1 .0) (omega arith) (omega arith) (l .0) (l .1)
-          (R .last .0) (R .last .1 .1 .1 .1 .1 .1 .0) (omega arith) (omega arith) (r .0) (r .1) (X .last .0) (X .last .1 .1 .1 .1 .1 .1 .0) (X .ensures .0) (X .ensures .1),
+    let last = c .before .before .before .before in
+    let right = last .before .before .before .before .before .before .before in
+    let left = right .before .before .before .before .before .before .before .before .before in
+    let S = left .before .before .before .before .before .before .before .before in
+    let ne = left .before .before .before .before .before .if1 .taken in
+    let l = rw (left .before .before .asked .ensures) at (left .settle-tree .ensures) in
+    let r = rw (right .before .before .asked2 .ensures) at (right .settle-tree2 .ensures) in
+    let p = left .settle-tree .kept in
+    let q = right .settle-tree2 .kept in
+    let X = last .finish in (
+      tree-done (S .pre .1 .0 .1) (S .pre .1 .1) ne (omega (arith, p)) (omega (arith, p)) (l .0) (l .1) (omega (arith, q)) (omega (arith, q)) (r .0) (r .1) (X .ensures .0) (X .ensures .1),
+      sums-done (S .pre .1 .0 .1) (S .pre .1 .1) ne (omega (arith, p)) (omega (arith, p)) (l .0) (l .1) (omega (arith, q)) (omega (arith, q)) (r .0) (r .1) (X .ensures .0) (X .ensures .1),
     )
 
 settle-tree-returns-2 : (t : ℕ) → settle-tree-lts.Need-returns-2 (cs t) (settle-tree-at t) settle-tree.Post
 settle-tree-returns-2 t c =
     let S = c .before .before .before in
-    (none-settled (S .args .from) (S .args .to) (S .pre .1 .0 .1) (S .args .rows .now) (S .args .k) (S .args .d) (c .if1 .left), none-summed (S .args .from) (S .args .to) (S .pre .1 .0 .1) (S .args .rows .now) (S .args .k) (S .args .d) (S .args .at) (S .args .sums .now) (S .pre .1 .1) (c .if1 .left))
+    (none-settled (S .pre .1 .0 .1) (c .if1 .left), none-summed (S .pre .1 .0 .1) (S .pre .1 .1) (c .if1 .left))
 
 pub +settle-tree-spec : {M : Type 1} → statement M
 +settle-tree-spec = close μ-settle-tree λ t. settle-tree-lts.spec (cs t)

@@ -42,7 +42,8 @@ loop-again : tie.Need-loop-again Inv-loop μ-loop
 loop-again c =
     let S = c .before .before .before .before .before .before in
     let l = c .before .before .before .loop in
-    let n = scan-next (price (column (S .args .at) (S .args .pitch) (S .args .sums .now)) (S .args .n)) (l .j) (l .inv .1) (l .inv .2) (c .before .price-at2 .ensures) (c .cheaper .ensures .0) (c .cheaper .ensures .1) in
+    let g = price (column (S .args .at) (S .args .pitch) (S .args .sums .now)) (S .args .n) in
+    let n = scan-next g (l .j) (l .inv .1) (l .inv .2) (c .before .price-at2 .ensures) (c .cheaper .ensures .0) (c .cheaper .ensures .1) in
     (omega arith, n .0, n .1)
 
 returns : tie.Need-returns Inv-loop μ-loop

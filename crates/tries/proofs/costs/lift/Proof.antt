@@ -55,7 +55,10 @@ mul-sums-2 : tie.Need-mul-sums-2 Inv-loop μ-loop
 mul-sums-2 c = search needs
 
 slice-write-sums-2 : tie.Need-slice-write-sums-2 Inv-loop μ-loop
-slice-write-sums-2 c = let l = c .before .before .before .before .loop in omega (arith, length-set (l .sums) (c .before .before .before .before .before .before .args .up + l .i) (c .capped-sum .result))
+slice-write-sums-2 c =
+    let S = c .before .before .before .before .before .before in
+    let l = c .before .before .before .before .loop in
+    omega (arith, length-set (l .sums) (S .args .up + l .i) (c .capped-sum .result))
 
 add-i : tie.Need-add-i Inv-loop μ-loop
 add-i c = search needs

@@ -87,9 +87,10 @@ insert-returns t c =
     let S = c .before .before .before .before .before .before .before .before .before .before in
     let R = c .before .before .before .before .before .before .before .raise in
     let P = c .before .before .put in
+    let g = raised-in (S .args .rows .now) (S .args .x) (S .args .used) (S .args .v) (S .args .n) (S .pre .1) (R .last .0) (R .ensures) in
+    let up = raised-up (S .args .rows .now) (S .args .x) (S .args .used) (S .args .v) (S .args .n) (S .pre .1) (R .last .0) (R .ensures) in
     raised-out (S .args .rows .now) (S .args .x) (S .args .used) (S .args .v) (S .args .n) (S .pre .1) (R .last .0) (R .ensures) (S .args .h) (S .args .used) (P .last .0)
-    (last-out (R .last .0) (S .args .x) (S .args .used) (S .args .v) (S .args .n) (raised-in (S .args .rows .now) (S .args .x) (S .args .used) (S .args .v) (S .args .n) (S .pre .1) (R .last .0) (R .ensures)) (S .args .h)
-    (P .last .0) (raised-up (S .args .rows .now) (S .args .x) (S .args .used) (S .args .v) (S .args .n) (S .pre .1) (R .last .0) (R .ensures)) (c .before .before .before .before .if1 .taken) (P .ensures))
+    (last-out (R .last .0) (S .args .x) (S .args .used) (S .args .v) (S .args .n) g (S .args .h) (P .last .0) up (c .before .before .before .before .if1 .taken) (P .ensures))
 
 insert-same-length-2 : (t : ℕ) → insert-lts.Need-same-length-2 (cs t) (insert-at t) insert.Post
 insert-same-length-2 t c = search needs
@@ -105,7 +106,8 @@ insert-returns-2 t c =
     let g = raised-in (S .args .rows .now) (S .args .x) (S .args .used) (S .args .v) (S .args .n) (S .pre .1) (R .last .0) (R .ensures) in
     let up = raised-up (S .args .rows .now) (S .args .x) (S .args .used) (S .args .v) (S .args .n) (S .pre .1) (R .last .0) (R .ensures) in
     raised-out (S .args .rows .now) (S .args .x) (S .args .used) (S .args .v) (S .args .n) (S .pre .1) (R .last .0) (R .ensures) (S .args .h) (I .result) (I .last .0)
-    (down-out (R .last .0) (S .args .x) (S .args .used) (S .args .v) (S .args .n) g up (c .before .before .before .before .before .before .before .before .before .if1 .left) (D .last .0) (D .result) (G .result) (D .ensures) (G .ensures) (S .args .h)
+    (down-out (R .last .0) (S .args .x) (S .args .used) (S .args .v) (S .args .n) g up (c .before .before .before .before .before .before .before .before .before .if1 .left) (D .last .0) (D .result)
+    (G .result) (D .ensures) (G .ensures) (S .args .h)
     (I .last .0) (I .result) (I .ensures))
 
 pub +insert-spec : {M : Type 1} → statement M
