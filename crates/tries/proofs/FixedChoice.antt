@@ -1,8 +1,8 @@
 -- The fixed strides, from the last level up; and the whole fixed choice from the counts of nodes by level.
 use mathlib.Core.Path.{_≡_, refl, ap, ap₂, sym, subst, _∙_, fun-ext}
 use mathlib.Core.List.{List, [], _∷_}
-use mathlib.Core.Logic.{_⊎_, inl, inr, ⊎-elim}
-use Prim.Native.Nat.{ℕ, zero, suc, pred, max, _+_, _-_, _*_, _^_, _≤_, _<_}
+use mathlib.Core.Logic.{_⊎_, ⊎-elim}
+use Prim.Native.Nat.{ℕ, zero, suc, max, _+_, _-_, _*_, _^_, _≤_, _<_}
 use native.Mathlib.Nat.{le-refl, add-zero, zero-add, sub-zero}
 use native.Mathlib.Decide.{decLe}
 use native.Mathlib.Numerals.{add-one}
@@ -13,7 +13,7 @@ use Rattle.table.specs.Table.{at}
 use Rattle.strides.specs.Trie.{Trie, depth, nodesAt}
 use Rattle.strides.specs.Entries.{longestLength}
 use Rattle.strides.specs.Cheapest.{fixed}
-use Rattle.strides.specs.Recurrence.{scan, withFirstFixed, fixBy, pickFixedBy, listBy, leastBy, stridesBy, fixedStrides}
+use Rattle.strides.specs.Recurrence.{withFirstFixed, fixBy, pickFixedBy, listBy, leastBy, stridesBy, fixedStrides}
 use Rattle.strides.proofs.Scan.{scanned}
 use Rattle.strides.proofs.Sums.{nodes-deep}
 use Rattle.walk.specs.Limits.{WIDTH, LEVELS, Within}

@@ -5,7 +5,7 @@ use mathlib.Core.Logic.{inl, inr}
 use Prim.Native.Nat.{ℕ, _<_}
 use native.Mathlib.Omega.{arith}
 use Rattle.tries.specs.Scratch.{DEPTH}
-use Rattle.tries.specs.Trees.{Tree, nil, fork, col, NodeRow, Stand, Deep, HasRow}
+use Rattle.tries.specs.Trees.{Tree, nil, fork, col, Stand, Deep, HasRow}
 
 module _ (rows rows′ : List ℕ) where
   -- links and marks stand before the depth

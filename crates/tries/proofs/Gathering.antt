@@ -11,12 +11,12 @@ use lib.ListN.{length, getD, set, replicate, length-set, length-replicate}
 use lib.Seq.{getD-set-same, getD-set-other}
 use Rattle.table.proofs.Zeroes.{zeros-read}
 use Rattle.strides.specs.Trie.{Trie, none, node, depth, sumBelow, sumBy}
-use Rattle.strides.specs.Recurrence.{atCap, optBy}
+use Rattle.strides.specs.Recurrence.{optBy}
 use Rattle.strides.proofs.Sums.{sum-deep}
 use Rattle.walk.specs.Limits.{WIDTH}
 use Rattle.tries.specs.Limits.{COST-CAP}
 use Rattle.tries.specs.Scratch.{ask, BEFORE-COSTS}
-use Rattle.tries.specs.Costs.{held, COLUMNS, Pass, SUM-ROWS, SUM-CELLS, slot, SmallSums, RowAdded, Lifted, HandedUp, downTo0, PagesIn, SumsOut, Sums}
+use Rattle.tries.specs.Costs.{held, COLUMNS, Pass, SUM-CELLS, slot, SmallSums, RowAdded, Lifted, HandedUp, downTo0, PagesIn, SumsOut, Sums}
 
 pub same? : (a b : ℕ) → (a ≡ b) ⊎ (a ≡ b → ⊥)
 same? a b = elim (decLe a b) [ yes p ↦ elim (decLe b a) [ yes q ↦ inl (omega arith) | no q ↦ inr (λ e. omega arith) ] | no p ↦ inr (λ e. omega arith) ]

@@ -2,7 +2,7 @@
 use mathlib.Core.Path.{_≡_, refl, ap, sym, subst, _∙_}
 use mathlib.Core.List.{List}
 use mathlib.Core.Logic.{_⊎_, inl, inr, ⊎-elim}
-use Prim.Native.Nat.{ℕ, zero, suc, max, _+_, _-_, _*_, _%_, _^_, _≤_, _<_}
+use Prim.Native.Nat.{ℕ, zero, suc, max, _+_, _-_, _*_, _≤_, _<_}
 use native.Mathlib.Nat.{mod-lt}
 use native.Mathlib.Omega.{arith}
 use native.Mathlib.Numerals.{sub-one}
@@ -10,7 +10,7 @@ use lib.ListN.{length, getD, set, length-set}
 use lib.Seq.{getD-set-same, getD-set-other}
 use Rattle.strides.specs.Trie.{bit, depth}
 use Rattle.tries.specs.Scratch.{ROW, DEPTH}
-use Rattle.tries.specs.Trees.{Tree, nil, fork, shape, col, linkOf, NodeRow, Stand, Deep, Deepens, HasRow, Apart, Under, lt, rt, lmark, rmark}
+use Rattle.tries.specs.Trees.{Tree, nil, fork, shape, col, linkOf, Stand, Deep, Deepens, HasRow, Apart, Under, lt, rt, lmark, rmark}
 use Rattle.tries.specs.Trees.{rowFor, next, side, setSide, setMark, insertR, countR}
 use Rattle.tries.specs.Inserting.{Downed, InsertIn, InsertOut, Inserted}
 use Rattle.tries.proofs.Frames.{keep-stand, keep-deep}

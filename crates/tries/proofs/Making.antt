@@ -1,5 +1,5 @@
 -- The tree of a table's entries is its 1-bit trie, with one row for each node: what each step of the making asks and gives.
-use mathlib.Core.Path.{_≡_, refl, ap, ap₂, sym, subst, _∙_}
+use mathlib.Core.Path.{_≡_, refl, ap, sym, subst, _∙_}
 use mathlib.Core.List.{List}
 use mathlib.Core.Logic.{_⊎_, inl, inr, ⊎-elim}
 use Prim.Native.Nat.{ℕ, zero, suc, max, _+_, _-_, _*_, _≤_, _<_}
@@ -9,7 +9,7 @@ use native.Mathlib.Numerals.{sub-one, add-one}
 use lib.ListN.{length, getD}
 use Rattle.table.specs.Prefix.{start, IsPrefix}
 use Rattle.table.specs.Table.{at}
-use Rattle.strides.specs.Trie.{Trie, none, node, bit, depth, size, sumBy, nodesAt}
+use Rattle.strides.specs.Trie.{bit, depth, size, sumBy, nodesAt}
 use Rattle.strides.specs.Entries.{trieOf}
 use Rattle.strides.specs.Insertion.{insertT, met, nodeCount}
 use Rattle.strides.proofs.Insertion.{trie-insert, trie-empty, insert-size, met-within}
@@ -17,7 +17,7 @@ use Rattle.strides.proofs.Counting.{node-count}
 use Rattle.walk.specs.Limits.{WIDTH}
 use Rattle.tries.specs.Limits.{WORD}
 use Rattle.tries.specs.Scratch.{ROW, DEPTH}
-use Rattle.tries.specs.Trees.{Tree, nil, fork, shape, linkOf, rowFor, next, side, setSide, setMark, lt, rt, lmark, rmark, Stand, Deep, Deepens, HasRow, Apart, Under}
+use Rattle.tries.specs.Trees.{Tree, nil, fork, shape, linkOf, rowFor, next, side, setSide, setMark, lt, rt, lmark, rmark, Stand, Deepens}
 use Rattle.tries.specs.Trees.{insertR, countR, addEntry, treeOf}
 use Rattle.tries.specs.Inserting.{InsertIn, Inserted}
 use Rattle.tries.specs.Making.{Prefixes, InRows, AddIn, AddOut, Added, CountIn, AddCounted, MakeOut}

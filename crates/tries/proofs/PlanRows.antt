@@ -9,9 +9,8 @@ use native.Mathlib.Omega.{arith}
 use lib.ListN.{length, getD, replicate, set}
 use borrow.Author.Tests.{eq-eqb, ne-eqb}
 use Rattle.table.specs.Prefix.{start}
-use Rattle.table.specs.Table.{at}
 use Rattle.strides.specs.Trie.{Trie, none, node, bit, depth, size, nodesAt}
-use Rattle.strides.specs.Cheapest.{fixed, variable}
+use Rattle.strides.specs.Cheapest.{variable}
 use Rattle.strides.specs.Recurrence.{optBy, pickBy, pickFixedBy, leastBy, stridesBy, fixedStrides}
 use Rattle.strides.specs.Strides.{variableStride}
 use Rattle.strides.proofs.Strides.{pick-variable}

@@ -2,7 +2,7 @@
 use mathlib.Core.Path.{_≡_, refl, ap, ap₂, sym, subst, _∙_}
 use mathlib.Core.Bool.{Bool, true, false, cond}
 use mathlib.Core.List.{List}
-use mathlib.Core.Logic.{_⊎_, inl, inr, ⊎-elim}
+use mathlib.Core.Logic.{_⊎_, ⊎-elim}
 use Prim.Native.Nat.{ℕ, zero, suc, pred, max, _+_, _-_, _*_, _^_, _≤_, _<_}
 use native.Mathlib.Nat.{le-refl, one-mul, mul-le-mul}
 use native.Mathlib.Numerals.{add-one}
@@ -11,12 +11,12 @@ use lib.Dec.{leb}
 use lib.ListN.{length, getD, set}
 use lib.Seq.{getD-set-same, getD-set-other}
 use borrow.Author.Tests.{leb-true, leb-false}
-use Rattle.strides.specs.Trie.{Trie, none, node, depth, sumBelow, sumBy}
-use Rattle.strides.specs.Recurrence.{atCap, keeps, scan, withFirst, optBy, pickBy}
+use Rattle.strides.specs.Trie.{Trie, node, depth, sumBelow}
+use Rattle.strides.specs.Recurrence.{keeps, scan, withFirst, optBy, pickBy}
 use Rattle.strides.proofs.Capped.{sum-capped, opt-capped}
-use Rattle.walk.specs.Limits.{WIDTH, LEVELS}
+use Rattle.walk.specs.Limits.{LEVELS}
 use Rattle.tries.specs.Limits.{ENTRIES, COST-CAP}
-use Rattle.tries.specs.Scratch.{ROW, ask, COST, STRIDE}
+use Rattle.tries.specs.Scratch.{ROW, COST, STRIDE}
 use Rattle.tries.specs.Trees.{col}
 use Rattle.tries.specs.Costs.{held, price, bestCost, bestStride, column, COLUMNS, Stored}
 use Rattle.tries.proofs.Gathering.{same?}

@@ -3,17 +3,17 @@
 use mathlib.Core.Path.{_≡_, refl, ap, sym, subst, _∙_}
 use mathlib.Core.List.{List}
 use mathlib.Core.Logic.{inl, inr}
-use Prim.Native.Nat.{ℕ, zero, suc, max, _+_, _-_, _*_, _≤_, _<_}
+use Prim.Native.Nat.{ℕ, suc, max, _+_, _-_, _*_, _≤_, _<_}
 use native.Mathlib.Decide.{decLe}
 use native.Mathlib.Omega.{arith}
 use lib.ListN.{length, getD}
 use borrow.Author.Tests.{ne-eqb}
-use Rattle.strides.specs.Trie.{Trie, node, depth, sumBelow}
+use Rattle.strides.specs.Trie.{node, depth, sumBelow}
 use Rattle.strides.specs.Recurrence.{optBy, pickBy}
 use Rattle.walk.specs.Limits.{WIDTH, LEVELS}
 use Rattle.tries.specs.Scratch.{ROW, ask, COST, DEPTH, STRIDE, BEFORE-COSTS}
-use Rattle.tries.specs.Trees.{Tree, nil, fork, shape, linkOf, col, Stand, Deep, HasRow}
-use Rattle.tries.specs.Costs.{Priced, AllPriced, bestCost, bestStride, column, COLUMNS, Pass, Stored, HandedUp, FinishIn}
+use Rattle.tries.specs.Trees.{Tree, nil, fork, shape, col, HasRow}
+use Rattle.tries.specs.Costs.{Priced, AllPriced, column, COLUMNS, Pass, Stored, HandedUp, FinishIn}
 use Rattle.tries.specs.Costs.{held, TreeIn, TreeOut, TreeAsk, TreeDone, PagesIn, SumsOut, SumsDone, Sums}
 use Rattle.tries.proofs.Frames.{keep-stand, keep-deep}
 use Rattle.tries.proofs.Pricing.{best-cost, best-stride}

@@ -7,7 +7,7 @@ use native.Mathlib.Omega.{arith}
 use lib.ListN.{length}
 use Rattle.strides.specs.Trie.{Trie, none, node, Some, left, right, leftMark, rightMark, depth}
 use Rattle.strides.specs.Strides.{Good}
-use Rattle.walk.specs.Limits.{WIDTH, LEVELS}
+use Rattle.walk.specs.Limits.{WIDTH}
 use Rattle.tries.specs.Scratch.{ROW, DEPTH, ask, strideAt, Stands, MARKS}
 use Rattle.layout.specs.Blocks.{Strides, wide, linkTo, strideOf}
 use Rattle.tries.specs.Filling.{Trunk}

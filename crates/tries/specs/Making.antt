@@ -2,7 +2,7 @@
 -- the table's 1-bit trie, the root at row 0, and 0 after it.
 use mathlib.Core.Path.{_≡_}
 use mathlib.Core.List.{List}
-use Prim.Native.Nat.{ℕ, suc, _+_, _*_, _≤_, _<_}
+use Prim.Native.Nat.{ℕ, suc, _*_, _≤_, _<_}
 use lib.ListN.{length, getD}
 use Rattle.table.specs.Prefix.{start, IsPrefix}
 use Rattle.table.specs.Entry.{Rises}

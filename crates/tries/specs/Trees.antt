@@ -3,7 +3,7 @@
 use mathlib.Core.Path.{_≡_}
 use mathlib.Core.List.{List}
 use mathlib.Core.Logic.{_⊎_}
-use Prim.Native.Nat.{ℕ, zero, suc, max, _+_, _*_, _≤_, _<_}
+use Prim.Native.Nat.{ℕ, zero, suc, max, _+_, _*_, _<_}
 use lib.ListN.{getD}
 use Rattle.table.specs.Prefix.{start}
 use Rattle.strides.specs.Trie.{Trie, none, node, bit, depth, size}

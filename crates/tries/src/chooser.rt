@@ -1,6 +1,5 @@
 // The stride choosers (01, "Stride choices"): the least cost of a kind, and the strides of the record.
 ghost use mathlib.Core.Path.{_≡_};
-ghost use Prim.Native.Nat.{_≤_};
 ghost use lib.ListN.{length};
 ghost use Rattle.table.specs.Refusals.{outcome};
 ghost use Rattle.strides.specs.Cheapest.{fixed, variable};

@@ -2,13 +2,13 @@
 // each node takes over from the two below it what the nodes j levels below cost together, for all j at once. It is done in passes of
 // COLUMNS numbers of levels, so that these sums take little room.
 ghost use mathlib.Core.Path.{_≡_};
-ghost use Prim.Native.Nat.{ℕ, _+_, _-_, _*_, _^_, _<_, _≤_};
+ghost use Prim.Native.Nat.{ℕ, _+_, _-_, _*_, _<_, _≤_};
 ghost use lib.ListN.{length, getD, set};
 ghost use Rattle.strides.specs.Recurrence.{scan};
 ghost use Rattle.walk.specs.Limits.{WIDTH, LEVELS};
 ghost use Rattle.tries.specs.Limits.{ENTRIES};
 ghost use Rattle.tries.specs.Scratch.{ROW, DEPTH, ask};
-ghost use Rattle.tries.specs.Costs.{held, column, price, bestCost, bestStride, Pass, COLUMNS, SUM-ROWS, SUM-CELLS};
+ghost use Rattle.tries.specs.Costs.{held, column, price, bestCost, bestStride, Pass, COLUMNS};
 ghost use Rattle.tries.specs.Costs.{Stored, RowAdded, Lifted, HandedUp, FinishIn, TreeAsk, TreeDone, PagesIn, SumsDone};
 use crate::caps::capped_power;
 use crate::caps::capped_sum;

@@ -1,7 +1,7 @@
 // The fixed choice: one stride for all blocks of a level (source document 000). From the nodes of each level, counted as the rows are
 // made, and from the last level up, the cheapest strides for the levels from there on.
 ghost use mathlib.Core.Path.{_≡_};
-ghost use Prim.Native.Nat.{ℕ, _+_, _-_, _*_, _^_, _<_, _≤_};
+ghost use Prim.Native.Nat.{ℕ, _+_, _-_, _*_, _<_, _≤_};
 ghost use lib.ListN.{length, getD};
 ghost use Rattle.table.specs.Table.{at};
 ghost use Rattle.strides.specs.Entries.{longestLength};

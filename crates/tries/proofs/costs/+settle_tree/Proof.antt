@@ -2,7 +2,6 @@
 -- below.
 use Prim.Native.Nat.{_-_}
 use Rattle.walk.specs.Limits.{WIDTH}
-use mathlib.Core.Path.{_≡_}
 use native.Mathlib.Omega.{arith}
 use Rattle.tries.proofs.Settling.{some-fits, some-left, some-right, none-settled, none-summed, left-pages, right-pages, finish-in, tree-done, sums-done}
 use borrow.Author.Needs.{needs}

@@ -1,5 +1,5 @@
 -- The loop's invariant: the numbers of levels passed are added.
-use Prim.Native.Nat.{ℕ, _+_, _*_, _≤_, _-_, max}
+use Prim.Native.Nat.{ℕ, _+_, _*_, _≤_, _-_}
 use mathlib.Core.Path.{_≡_, refl, ap, sym, subst, _∙_}
 use native.Mathlib.Omega.{arith}
 use lib.ListN.{length, length-set}

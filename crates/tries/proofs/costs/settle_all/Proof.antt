@@ -1,6 +1,6 @@
 -- The loop's invariant: the passes so far have settled the tree for `from` levels.
 use Prim.Native.Nat.{ℕ, _≤_, _-_}
-use mathlib.Core.Path.{_≡_, refl, subst, _∙_}
+use mathlib.Core.Path.{_≡_, refl, subst}
 use native.Mathlib.Omega.{arith}
 use lib.ListN.{length}
 use Rattle.tries.specs.Costs.{TreeDone}
