@@ -3,4 +3,5 @@ pub mod Fitting
 pub mod Holding
 pub mod Marking
 pub mod Reading
+pub mod Sizing
 pub mod Spelling

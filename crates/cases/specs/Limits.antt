@@ -6,25 +6,25 @@ use Prim.Native.Nat.{ℕ}
 abbrev pub TEXT : ℕ
 TEXT = 1048576
 
--- the places of a table's lists: a table has at most 4,096 entries, and the cases go past that
+-- the places of a table's lists: a table has at most 65,536 entries, and the cases go past that
 abbrev pub PLACES : ℕ
-PLACES = 5000
+PLACES = 65600
 
--- the words of scratch: more than the largest trie of the cases takes
+-- the words of scratch: fewer than a table of 65,536 entries needs for a trie, enough for its tree bitmap
 abbrev pub SCRATCH : ℕ
-SCRATCH = 200000
+SCRATCH = 600000
 
 -- the places of an element list: more than the rows of the largest build
 abbrev pub ROWS : ℕ
 ROWS = 20000
 
--- the places of a list of supernode rows: fewer than a table of 4,096 entries can need
+-- the places of a list of supernode rows: fewer than a table of 65,536 entries can need
 abbrev pub SUPERNODES : ℕ
-SUPERNODES = 4096
+SUPERNODES = 8740
 
 -- the places of a hop list: one more than a table has entries
 abbrev pub HOP-ROWS : ℕ
-HOP-ROWS = 4097
+HOP-ROWS = 65537
 
 abbrev pub FIRST-DIGIT : ℕ
 FIRST-DIGIT = 48
