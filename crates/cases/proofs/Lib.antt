@@ -1,6 +1,7 @@
 pub mod Filling
 pub mod Fitting
 pub mod Holding
+pub mod Making
 pub mod Marking
 pub mod Reading
 pub mod Sizing

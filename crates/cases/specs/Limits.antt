@@ -1,5 +1,6 @@
 -- The sizes of the rooms of a run, named once; `src/limits.rt` has the same ones for the code. Then the bytes of the digits 0 and 9
--- and of the letters a and z, and the largest numbers of 32, 16 and 8 bits.
+-- and of the letters a and z, the largest numbers of 32, 16 and 8 bits, the largest hop of an entry, and the
+-- largest step of rising values.
 use Prim.Native.Nat.{ℕ}
 
 -- the bytes of a run's text: a mebibyte, more than the cases of any run have
@@ -50,3 +51,10 @@ MOST-16 = 65535
 
 abbrev pub MOST-8 : ℕ
 MOST-8 = 255
+
+abbrev pub LAST-HOP : ℕ
+LAST-HOP = 65534
+
+-- the largest step of rising values: the second is then past 32 bits
+abbrev pub STEP-CAP : ℕ
+STEP-CAP = 4294967296
