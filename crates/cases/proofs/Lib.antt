@@ -1,7 +1,7 @@
+pub mod Climbing
 pub mod Filling
 pub mod Fitting
 pub mod Holding
-pub mod Making
 pub mod Marking
 pub mod Reading
 pub mod Sizing

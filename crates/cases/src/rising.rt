@@ -2,9 +2,8 @@
 // entries, and the length of each.
 ghost use mathlib.Core.Path.{_≡_};
 ghost use Prim.Native.Nat.{_-_, _^_, _≤_, min};
-ghost use lib.ListN.{length};
 ghost use Rattle.cases.specs.Limits.{STEP-CAP};
-ghost use Rattle.cases.specs.Rising.{Climbs, Made, badRising};
+ghost use Rattle.cases.specs.Rising.{Climbs, Risen, badRising};
 use crate::numerals::held8;
 use crate::numerals::held32;
 use crate::numerals::least;
@@ -36,8 +35,8 @@ fn climb(
 )
     requires { ⌜ step ≤ STEP-CAP ⌝ }
     ensures { λ _. ⌜
-        Climbs (min count (min (length (now (values .entry))) (min (length (now (lengths .entry))) (length (now (hops .entry)))))) step bits
-        (now (values .entry)) (now (lengths .entry)) (now (hops .entry)) (now (values .exit)) (now (lengths .exit)) (now (hops .exit)) ⌝ }
+        Climbs count step bits (now (values .entry)) (now (lengths .entry)) (now (hops .entry)) (now (values .exit)) (now (lengths .exit))
+        (now (hops .exit)) ⌝ }
 {
     let room = least(values.len(), least(lengths.len(), hops.len()));
     let n = least(count, room);
@@ -60,7 +59,7 @@ pub fn rising_line(
     hops: &mut [u16],
 ) -> Held
     ensures { λ r. ⌜
-        Made (now (text .entry)) at (now (values .entry)) (now (lengths .entry)) (now (hops .entry)) (now (values .exit)) (now (lengths .exit))
+        Risen (now (text .entry)) at (now (values .entry)) (now (lengths .entry)) (now (hops .entry)) (now (values .exit)) (now (lengths .exit))
         (now (hops .exit)) r ⌝ }
 {
     let width = number(text, at);

@@ -2,7 +2,7 @@
 use Prim.Native.Nat.{_-_}
 use native.Mathlib.Omega.{arith}
 use borrow.Author.Needs.{needs}
-use Rattle.cases.proofs.Making.{Climbed, climbed-start, climbed-on, climbed-all}
+use Rattle.cases.proofs.Climbing.{Climbed, climbed-start, climbed-on, climbed-all}
 use Rattle.cases.proofs.rising.climb.Statement.{statement}
 use Rattle.cases.proofs.rising.climb.Tie as tie
 
@@ -67,9 +67,6 @@ loop-again c =
     climbed-on
     (loop .loop .inv)
     (c .before .loop-test .taken)
-    (omega (arith, loop .loop .inv .lists .values .size))
-    (omega (arith, loop .loop .inv .lists .lengths .size))
-    (omega (arith, loop .loop .inv .lists .hops .size))
     (c .held32 .ensures)
 
 same-length : tie.Need-same-length Inv-loop μ-loop

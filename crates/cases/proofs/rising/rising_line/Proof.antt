@@ -1,5 +1,5 @@
 use borrow.Author.Needs.{needs}
-use Rattle.cases.proofs.Making.{made-read}
+use Rattle.cases.proofs.Climbing.{risen-read}
 use Rattle.cases.proofs.rising.rising_line.Statement.{statement}
 use Rattle.cases.proofs.rising.rising_line.Tie as tie
 
@@ -38,7 +38,7 @@ returns c =
     let made = c .before .before .before .before .before .before in
     let stepped = made .before .before .before .before in
     let third = stepped .before .before .before in
-    made-read
+    risen-read
     (third .before .before .number .result)
     (third .before .number2 .result)
     (third .number3 .result)

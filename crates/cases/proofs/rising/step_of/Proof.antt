@@ -1,6 +1,6 @@
 use native.Mathlib.Omega.{arith}
 use borrow.Author.Needs.{needs}
-use Rattle.cases.proofs.Making.{step-one, step-shift, step-cap}
+use Rattle.cases.proofs.Climbing.{step-one, step-shift, step-cap}
 use Rattle.cases.proofs.rising.step_of.Statement.{statement}
 use Rattle.cases.proofs.rising.step_of.Tie as tie
 

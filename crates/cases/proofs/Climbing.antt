@@ -4,21 +4,21 @@ use mathlib.Core.List.{List}
 use Prim.Native.Nat.{ℕ, zero, suc, _+_, _-_, _*_, _^_, _%_, _≤_, _<_, min}
 use native.Mathlib.Decide.{decLe}
 use native.Mathlib.Nat.{one-mul, zero-mul, add-mul, mul-le-mul-right}
+use native.Mathlib.Numerals.{add-one}
 use native.Mathlib.Omega.{arith}
-use borrow.Author.Count.{below-more, below-none}
 use lib.Dec.{lit<}
-use lib.ListN.{length, getD, set, length-set}
+use lib.ListN.{length, set, length-set}
 use lib.Pow.{shl-exact, pow-mono}
-use lib.Seq.{getD-set-same, getD-set-other}
 use Rattle.cases.specs.Limits.{MOST-32, MOST-8, STEP-CAP}
 use Rattle.cases.specs.Numerals.{numberAt}
-use Rattle.cases.specs.Rising.{climbValue, climbHop, Begins, Climbs, Made}
+use Rattle.cases.specs.Rising.{climbValue, climbHop, setFirst, Climbs, Risen}
 use Rattle.cases.specs.declared.numerals.Numeral.{Numeral}
 
 -- 2^(width - bits) as the code has it: 1, a shift, or the cap
 module _ (w b : ℕ) where
   pub step-one : w ≤ b → 1 ≡ min (2 ^ (w - b)) STEP-CAP
-  step-one h = let e : w - b ≡ 0 = omega arith in rw e refl
+  step-one h =
+      let e : w - b ≡ 0 = omega arith in rw e refl
 
   pub step-shift : w - b < 32 → (1 * 2 ^ (w - b)) % 18446744073709551616 ≡ min (2 ^ (w - b)) STEP-CAP
   step-shift h =
@@ -32,8 +32,12 @@ module _ (w b : ℕ) where
 climb-zero : (step : ℕ) → climbValue step 0 ≡ 0
 climb-zero step = omega (arith, zero-mul step)
 
+-- one value above the last, and held
+climb-on : (step i : ℕ) → min (climbValue step i + step) MOST-32 ≡ climbValue step (i + 1)
+climb-on step i = omega (arith, add-mul i 1 step, one-mul step)
+
 -- values with the step held are those with the step itself
-pub climb-held : (p i : ℕ) → climbValue (min p STEP-CAP) i ≡ climbValue p i
+climb-held : (p i : ℕ) → climbValue (min p STEP-CAP) i ≡ climbValue p i
 climb-held p i = elim (decLe p STEP-CAP) [ yes h ↦ ap (λ (x : ℕ). climbValue x i) (omega arith) | no h ↦ past i (omega arith) ]
   where
     past : (j : ℕ) → STEP-CAP < p → climbValue (min p STEP-CAP) j ≡ climbValue p j
@@ -43,74 +47,83 @@ climb-held p i = elim (decLe p STEP-CAP) [ yes h ↦ ap (λ (x : ℕ). climbValu
         let b : 1 * p ≤ suc j * p = mul-le-mul-right p (omega arith) in
         omega (arith, a, b, one-mul p, one-mul (min p STEP-CAP))
 
--- one value above the last, and held
-pub climb-on : (step i : ℕ) → min (climbValue step i + step) MOST-32 ≡ climbValue step (i + 1)
-climb-on step i = omega (arith, add-mul i 1 step, one-mul step)
+set-first-same : (f g : ℕ → ℕ) → ((i : ℕ) → f i ≡ g i) → (n : ℕ) (l : List ℕ) → setFirst f n l ≡ setFirst g n l
+unfolding setFirst
+set-first-same f g e zero l = refl
+set-first-same f g e (suc n) l = rw (set-first-same f g e n l, e n)
 
-pub begins-none : (f : ℕ → ℕ) (l : List ℕ) → Begins f 0 l l
-begins-none f l = record { size = refl; made = below-none (λ (k : ℕ). getD l k 0 ≡ f k); kept = λ k h. refl }
-
-pub begins-more :
-    {f : ℕ → ℕ} {i : ℕ} {l₀ l : List ℕ} {v : ℕ}
-    → Begins f i l₀ l → i < length l → v ≡ f i → Begins f (i + 1) l₀ (set l i v)
-begins-more {f} {i} {l₀} {l} {v} b h e =
-    record {
-      size = length-set l i v ∙ b .size;
-      made = below-more (λ (k : ℕ). getD (set l i v) k 0 ≡ f k) i
-          (λ k m. getD-set-other l i k v 0 (λ d. omega arith) ∙ b .made k m)
-          (getD-set-same l i v 0 h ∙ e);
-      kept = λ k m. getD-set-other l i k v 0 (λ d. omega arith) ∙ b .kept k (omega arith);
-    }
+set-first-on : (f : ℕ → ℕ) (i : ℕ) (l₀ : List ℕ) {v : ℕ} {l : List ℕ} → l ≡ setFirst f i l₀ → v ≡ f i → set l i v ≡ setFirst f (i + 1) l₀
+unfolding setFirst
+set-first-on f i l₀ el ev = rw (el, ev, add-one i)
 
 -- after i of n entries, the next value v
 pub record Climbed (n step bits : ℕ) (a₀ b₀ c₀ : List ℕ) (v i : ℕ) (a b c : List ℕ) : Type 0 where
-  pub lists : Climbs i step bits a₀ b₀ c₀ a b c
+  pub first : a ≡ setFirst (climbValue step) i a₀
+  pub second : b ≡ setFirst (λ j. bits) i b₀
+  pub third : c ≡ setFirst climbHop i c₀
+  pub length-first : length a ≡ length a₀
+  pub length-second : length b ≡ length b₀
+  pub length-third : length c ≡ length c₀
   pub value : v ≡ climbValue step i
   pub bound : i ≤ n
 
 pub climbed-start : (n step bits : ℕ) (a b c : List ℕ) → Climbed n step bits a b c 0 0 a b c
+unfolding setFirst
 climbed-start n step bits a b c =
     record {
-      lists = record { values = begins-none (climbValue step) a; lengths = begins-none (λ i. bits) b; hops = begins-none climbHop c };
+      first = refl;
+      second = refl;
+      third = refl;
+      length-first = refl;
+      length-second = refl;
+      length-third = refl;
       value = sym (climb-zero step);
       bound = omega arith;
     }
 
 module _ {n step bits : ℕ} {a₀ b₀ c₀ : List ℕ} {v i : ℕ} {a b c : List ℕ} (f : Climbed n step bits a₀ b₀ c₀ v i a b c) where
   pub climbed-on :
-      {u : ℕ} → i < n → i < length a → i < length b → i < length c → u ≡ min (v + step) MOST-32
+      {u : ℕ} → i < n → u ≡ min (v + step) MOST-32
       → Climbed n step bits a₀ b₀ c₀ u (i + 1) (set a i v) (set b i bits) (set c i (climbHop i))
-  climbed-on {u} h ha hb hc e =
+  climbed-on {u} h e =
       record {
-        lists = record {
-          values = begins-more (f .lists .values) ha (f .value);
-          lengths = begins-more (f .lists .lengths) hb refl;
-          hops = begins-more (f .lists .hops) hc refl;
-        };
+        first = set-first-on (climbValue step) i a₀ (f .first) (f .value);
+        second = set-first-on (λ j. bits) i b₀ (f .second) refl;
+        third = set-first-on climbHop i c₀ (f .third) refl;
+        length-first = length-set a i v ∙ f .length-first;
+        length-second = length-set b i bits ∙ f .length-second;
+        length-third = length-set c i (climbHop i) ∙ f .length-third;
         value = e ∙ ap (λ (x : ℕ). min (x + step) MOST-32) (f .value) ∙ climb-on step i;
         bound = omega arith;
       }
 
-  pub climbed-all : {m : ℕ} → n ≤ i → n ≡ m → Climbs m step bits a₀ b₀ c₀ a b c
+  pub climbed-all :
+      {m : ℕ} → n ≤ i → n ≡ min m (min (length a₀) (min (length b₀) (length c₀))) → Climbs m step bits a₀ b₀ c₀ a b c
   climbed-all {m} h d =
-      let e : i ≡ m = omega (arith, f .bound) in rw e at (f .lists)
+      let e : i ≡ n = omega (arith, f .bound) in record {
+        count = n;
+        fits = d;
+        first = rw e at (f .first);
+        second = rw e at (f .second);
+        third = rw e at (f .third);
+      }
 
-pub climbs-held :
+climbs-held :
     {n p bits t : ℕ} {a b c a′ b′ c′ : List ℕ}
     → t ≡ min p STEP-CAP → Climbs n t bits a b c a′ b′ c′ → Climbs n p bits a b c a′ b′ c′
-climbs-held {n} {p} e m =
+climbs-held {n} {p} {bits} {t} {a} e m =
     record {
-      values = record {
-        size = m .values .size;
-        made = λ i h. m .values .made i h ∙ ap (λ (x : ℕ). climbValue x i) e ∙ climb-held p i;
-        kept = m .values .kept;
-      };
-      lengths = m .lengths;
-      hops = m .hops;
+      count = m .count;
+      fits = m .fits;
+      first =
+          m .first
+          ∙ set-first-same (climbValue t) (climbValue p) (λ i. ap (λ (x : ℕ). climbValue x i) e ∙ climb-held p i) (m .count) a;
+      second = m .second;
+      third = m .third;
     }
 
 -- the line read number by number, each from where the one before ends
-pub made-read :
+pub risen-read :
     {s : List ℕ} {p : ℕ} {a b c a′ b′ c′ : List ℕ} {w l t : ℕ} (x y z : Numeral)
     → x ≡ numberAt s p
     → y ≡ numberAt s (x .next)
@@ -118,9 +131,9 @@ pub made-read :
     → w ≡ min (x .value) MOST-32
     → l ≡ min (z .value) MOST-8
     → t ≡ min (2 ^ (w - l)) STEP-CAP
-    → Climbs (min (y .value) (min (length a) (min (length b) (length c)))) t l a b c a′ b′ c′
-    → Made s p a b c a′ b′ c′ (record { width = w; values = y .value; lengths = y .value; hops = y .value; at = z .next })
-made-read x y z ex ey ez ew el et m =
+    → Climbs (y .value) t l a b c a′ b′ c′
+    → Risen s p a b c a′ b′ c′ (record { width = w; values = y .value; lengths = y .value; hops = y .value; at = z .next })
+risen-read x y z ex ey ez ew el et m =
     record {
       width = rw ex at ew;
       values = rw (ey, ex);
