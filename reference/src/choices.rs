@@ -24,8 +24,8 @@ pub struct Choice {
 }
 
 impl Choice {
-    /// The record's strides: an array of eight, unused places 0; a variable choice fills only the
-    /// first, the root's.
+    /// The record's strides: an array of 32 (02; 01: of eight), unused places 0; a variable choice fills
+    /// only the first, the root's.
     pub fn strides(&self) -> [u8; LEVELS] {
         let mut strides = [0; LEVELS];
         for (i, s) in self.list.iter().enumerate() {

@@ -42,6 +42,11 @@ fn built(
     (outcome, record, lent)
 }
 
+/// The record's strides: these, and 0 in the places after them.
+fn strides(used: &[u8]) -> [u8; LEVELS] {
+    std::array::from_fn(|i| used.get(i).copied().unwrap_or(0))
+}
+
 fn number(bits: &str) -> u32 {
     u32::from_str_radix(bits, 2).unwrap()
 }
@@ -87,7 +92,7 @@ fn eight_prefix_answers() {
 fn eight_prefix_build() {
     let (outcome, record, rows) = built(Kind::Variable, 2, &eight(), 10, 26);
     assert_eq!(outcome, Ok(()));
-    assert_eq!((record.elements, record.strides), (26, [4, 0, 0, 0, 0, 0, 0, 0]));
+    assert_eq!((record.elements, record.strides), (26, strides(&[4])));
     let links: Vec<(u32, u8)> =
         (0..26).filter(|&i| rows.link[i] != 0).map(|i| (rows.link[i], rows.stride[i])).collect();
     assert_eq!(links, [(16, 1), (18, 3)]);
@@ -97,11 +102,47 @@ fn eight_prefix_build() {
     assert_eq!(lookup(&record, &rows, 127).unwrap().hop, 3);
     assert_eq!(built(Kind::Variable, 2, &eight(), 10, 25).0, Err(Refusal { number: 7, detail: 26 }));
     assert_eq!(built(Kind::Variable, 2, &eight(), 9, 26).0, Err(Refusal { number: 6, detail: 10 }));
-    assert_eq!(built(Kind::Variable, 8, &eight(), 10, 26).0, Ok(()));
-    assert_eq!(built(Kind::Variable, 9, &eight(), 10, 26).0, Err(Refusal { number: 2, detail: 0 }));
+    for levels in [8, 9, 31, 32] {
+        assert_eq!(built(Kind::Variable, levels, &eight(), 10, 26).0, Ok(()));
+    }
+    // 02: 01's case "k = 9 gives 2" becomes 33.
+    assert_eq!(built(Kind::Variable, 33, &eight(), 10, 26).0, Err(Refusal { number: 2, detail: 0 }));
     let (outcome, record, rows) = built(Kind::Fixed, 3, &table(7, &[]), 0, 0);
     assert_eq!(outcome, Ok(()));
     assert_eq!(lookup(&record, &rows, 127), Ok(Found { hop: 0, reads: 0 }));
+}
+
+/// One node a level: a stride of 2 costs as much as two of 1, and the smallest first stride wins.
+#[test]
+fn chain_of_32_nodes() {
+    let lengths: Vec<String> = (1..=32).map(|length| "10".repeat(16)[..length].to_string()).collect();
+    let chain = table(32, &lengths.iter().map(|bits| (bits.as_str(), bits.len() as u16)).collect::<Vec<_>>());
+    let trie = Trie::of(&chain);
+    assert_eq!(trie.size(), 32);
+    assert_eq!(fixed(&trie, 31).strides(), strides(&[[1; 30].as_slice(), &[2]].concat()));
+    for kind in [Kind::Fixed, Kind::Variable] {
+        let (outcome, record, rows) = built(kind, 32, &chain, 32, 64);
+        assert_eq!((outcome, record.elements), (Ok(()), 64));
+        assert_eq!(record.strides, if kind == Kind::Fixed { [1; 32] } else { strides(&[1]) });
+        assert_eq!(lookup(&record, &rows, number(&lengths[31])), Ok(Found { hop: 32, reads: 32 }));
+        assert_eq!(lookup(&record, &rows, number(&lengths[31]) ^ 1), Ok(Found { hop: 31, reads: 32 }));
+        assert_eq!(lookup(&record, &rows, 0), Ok(Found { hop: 0, reads: 1 }));
+    }
+}
+
+/// 02: n to 65,536. All prefixes of 16 bits have 65,535 nodes in the 1-bit trie.
+#[test]
+fn most_entries() {
+    let mut most = Table { width: 17, value: vec![], length: vec![16; 65536], hop: vec![1; 65536] };
+    most.value = (0..65536).map(|i| 2 * i).collect();
+    assert_eq!(most.check(), Ok(()));
+    assert_eq!(chosen(Kind::Variable, 3, &most, &mut []).0, Err(Refusal { number: 6, detail: 65535 }));
+    assert_eq!(most.zone(131070, 16), Ok((65535, 1)));
+    assert_eq!(most.zone(0, 0), Ok((0, 65536)));
+    most.value.push(131071);
+    most.length.push(17);
+    most.hop.push(1);
+    assert_eq!(most.check(), Err(Refusal { number: 3, detail: 0 }));
 }
 
 #[test]
@@ -112,7 +153,7 @@ fn brute_force_is_the_recurrence() {
         let width = random.within(1, 6) as u32;
         let n = random.within(0, 10) as usize;
         let trie = Trie::of(&random.table(width, n));
-        for k in 1..=LEVELS as u32 {
+        for k in (1..=9).chain([31, 32]) {
             assert_eq!(fixed_brute(&trie, k), fixed(&trie, k));
             if !trie.has("") || variable_count(&trie, "", k) <= 2000 {
                 assert_eq!(variable_brute(&trie, k), variable(&trie, k));
@@ -149,7 +190,7 @@ fn builds_answer_longest_match() {
 #[test]
 fn scratch_is_zeroed_or_kept() {
     let mut scratch = vec![7; 10 * SCRATCH_ROW + 5];
-    assert_eq!(chosen(Kind::Fixed, 2, &eight(), &mut scratch), (Ok(()), 32, [4, 3, 0, 0, 0, 0, 0, 0]));
+    assert_eq!(chosen(Kind::Fixed, 2, &eight(), &mut scratch), (Ok(()), 32, strides(&[4, 3])));
     assert!(scratch.iter().all(|x| *x == 0));
     let mut scratch = vec![7; 10 * SCRATCH_ROW - 1];
     assert_eq!(chosen(Kind::Fixed, 2, &eight(), &mut scratch).0, Err(Refusal { number: 6, detail: 10 }));

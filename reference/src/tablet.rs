@@ -7,7 +7,7 @@ use crate::lookup::lookup;
 use crate::table::{refuse, Refusal, Table};
 
 /// The program lends 112 scratch rows (02; 01: 320) and 8,192 elements.
-const SCRATCH_ROWS: usize = 112;
+pub const SCRATCH_ROWS: usize = 112;
 const ELEMENTS: usize = 8192;
 /// Entries and queries are 0 to 64.
 const COUNT: u32 = 64;

@@ -8,7 +8,8 @@ mod choosers;
 mod sheets;
 mod tables;
 
-use crate::random::Random;
+use crate::choices::LEVELS;
+use crate::random::{cut, Random};
 use crate::table::{Refusal, Table};
 use std::collections::BTreeMap;
 
@@ -84,6 +85,88 @@ fn table_line(table: &Table) -> String {
         line += &format!(" {value}/{length}>{hop}");
     }
     line
+}
+
+/// The programs' table lists have no more places.
+const PLACES: usize = 65_600;
+
+/// A `rising` line has its program make the table: a width, a number of entries and the length of each.
+#[derive(Clone, Copy)]
+struct Rising {
+    width: u32,
+    entries: usize,
+    length: u8,
+}
+
+impl Rising {
+    fn line(self) -> String {
+        format!("rising width {} entries {} length {}", self.width, self.entries, self.length)
+    }
+
+    /// Entry i has value i × 2^(W - length), held at the largest of 32 bits, that length, and hop 1 + i mod 65,534.
+    fn table(self) -> Table {
+        let step = 1u64 << self.width.saturating_sub(self.length as u32).min(40);
+        let indices = 0..self.entries as u64;
+        Table {
+            width: self.width,
+            value: indices.clone().map(|i| (i * step).min(u32::MAX as u64) as u32).collect(),
+            length: vec![self.length; self.entries],
+            hop: indices.map(|i| (1 + i % 65534) as u16).collect(),
+        }
+    }
+}
+
+/// A `table` line that gives no entry: those of the lines before stay, and the lists have these lengths.
+fn lengths_line(width: u32, [values, lengths, hops]: [usize; 3]) -> String {
+    format!("table width {width} lists {values} {lengths} {hops} entries 0:")
+}
+
+/// The table of such a line. The entries before were more than the longest list has.
+fn with_lengths(table: &Table, [values, lengths, hops]: [usize; 3]) -> Table {
+    Table {
+        width: table.width,
+        value: table.value[..values].to_vec(),
+        length: table.length[..lengths].to_vec(),
+        hop: table.hop[..hops].to_vec(),
+    }
+}
+
+/// What two `rising` lines leave: the entries of the second, and behind them those of the first.
+fn over(first: Rising, second: Rising) -> Table {
+    let (mut table, front) = (first.table(), second.table());
+    table.width = front.width;
+    table.value[..front.value.len()].copy_from_slice(&front.value);
+    table.length[..front.length.len()].copy_from_slice(&front.length);
+    table.hop[..front.hop.len()].copy_from_slice(&front.hop);
+    table
+}
+
+/// Prefixes of one address of 32 bits, one of each length from 1 on: a chain of 32 nodes.
+fn chain() -> Table {
+    let address = 0xaaaa_aaaa_u64;
+    of(32, &(1..=32).map(|length| (cut(32, address, length), length as u8, length as u16)).collect::<Vec<_>>())
+}
+
+/// A table of 32 levels: an address of 32 bits and some prefixes of it, which make a chain of nodes, and so many others near it.
+fn deep(random: &mut Random, others: usize) -> Table {
+    let address = random.next();
+    let whole = (cut(32, address, 32), 32);
+    let mut prefixes = vec![whole];
+    for length in 0..32 {
+        if random.one_in(2) {
+            prefixes.push((cut(32, address, length), length as u8));
+        }
+    }
+    prefixes.extend((0..others).map(|_| random.relative(32, whole)));
+    prefixes.sort();
+    prefixes.dedup();
+    of(32, &prefixes.into_iter().map(|(value, length)| (value, length, random.hop())).collect::<Vec<_>>())
+}
+
+/// A level limit: one of 1 to 8, or of 1 to 32.
+fn any_levels(random: &mut Random) -> u32 {
+    let most = if random.one_in(2) { 8 } else { LEVELS as u64 };
+    random.within(1, most) as u32
 }
 
 fn refused(refusal: Refusal) -> String {

@@ -1,11 +1,11 @@
 // Runs the build of tree bitmaps and the lookup in them on the cases of standard input, and prints every answer.
-// A line of the input is a case. `table` gives the table of the builds below it. `bitmap` gives the lengths of
-// scratch, which is filled with sevens, and of the four lists of supernode rows and the hop list, filled with nines;
-// the answer is the outcome, the record, scratch's zeros and sevens, and how many nines each list has past the
-// record's counts. `record` gives a record, rows and hops of its own. `print` prints the rows and hops within the last
-// record's counts, `look` asks it one address, `sweep` all addresses below a number. A line with another word, or
-// with a list longer than the program's room or than the rows or hops that it gives, is answered `bad line` and
-// changes nothing. A text that fills the page is answered `text too long`.
+// A line of the input is a case. `table` gives the table of the builds below it; `rising` has it made of a width, a
+// number of entries and their length. `bitmap` gives the lengths of scratch, which is filled with sevens, and of the four
+// lists of supernode rows and the hop list, filled with nines; the answer is the outcome, the record, scratch's zeros and
+// sevens, and how many nines each list has past the record's counts. `record` gives a record, rows and hops of its own.
+// `print` prints the rows and hops within the last record's counts, `look` asks it one address, `sweep` all addresses
+// below a number. A line with another word, or with a list longer than the program's room or than the rows or hops that
+// it gives, is answered `bad line` and changes nothing. A text that fills the page is answered `text too long`.
 mod lists;
 mod saying;
 
@@ -36,6 +36,7 @@ struct State {
 // The word that begins a line.
 enum Word {
     Table,
+    Rising,
     Build,
     Record,
     Print,
@@ -120,6 +121,9 @@ fn build_held(
 fn word_at(text: &[u8], at: usize) -> Word {
     if cases::is_word(text, at, b"table") {
         return Word::Table;
+    }
+    if cases::is_word(text, at, b"rising") {
+        return Word::Rising;
     }
     if cases::is_word(text, at, b"bitmap") {
         return Word::Build;
@@ -246,6 +250,26 @@ fn table_line(
     next
 }
 
+// The same of a table that the line has made.
+fn rising_line(
+    text: &[u8],
+    at: usize,
+    state: State,
+    values: &mut [u32],
+    lengths: &mut [u8],
+    hops: &mut [u16],
+) -> State {
+    if cases::is_bad_rising(text, at, values.len()) {
+        return bad_line(text, at, state);
+    }
+    say(b"rising");
+    let held = cases::rising_line(text, at, values, lengths, hops);
+    let mut next = state;
+    next.held = held;
+    next.at = held.at;
+    next
+}
+
 // A question about the last record and its lists: `print`, `look` or `sweep`.
 fn ask(
     text: &[u8],
@@ -298,6 +322,7 @@ fn line(
     let word = word_at(text, at);
     match word {
         Word::Table => table_line(text, at, state, values, lengths, hops),
+        Word::Rising => rising_line(text, at, state, values, lengths, hops),
         Word::Build => build_line(
             text,
             at,

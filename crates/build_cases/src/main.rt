@@ -1,11 +1,11 @@
 // Runs build and lookup on the cases of standard input, and prints every answer.
-// A line of the input is a case. `table` gives the table of the builds below it. `fixed` and `variable` give the
-// level limit and the lengths of scratch, which is filled with sevens, and of the element lists, filled with
-// nines; the answer is the outcome, the record, scratch's zeros and sevens, and how many nines each element
-// list has past row E. `record` gives a record and rows of its own. `print` prints rows 0 to E-1 of the last
-// record, `look` asks it one address, `sweep` all addresses below a number. A line with another word, or with a
-// list longer than the program's room or than the rows that it gives, is answered `bad line` and changes nothing.
-// A text that fills the page is answered `text too long`.
+// A line of the input is a case. `table` gives the table of the builds below it; `rising` has it made of a width, a
+// number of entries and their length. `fixed` and `variable` give the level limit and the lengths of scratch, which is
+// filled with sevens, and of the element lists, filled with nines; the answer is the outcome, the record, scratch's zeros
+// and sevens, and how many nines each element list has past row E. `record` gives a record and rows of its own. `print`
+// prints rows 0 to E-1 of the last record, `look` asks it one address, `sweep` all addresses below a number. A line with
+// another word, or with a list longer than the program's room or than the rows that it gives, is answered `bad line` and
+// changes nothing. A text that fills the page is answered `text too long`.
 use cases::Held;
 use cases::ThreeLengths;
 use libc::STDIN_FILENO;
@@ -33,6 +33,7 @@ struct State {
 // The word that begins a line.
 enum Word {
     Table,
+    Rising,
     Build(Kind),
     Record,
     Print,
@@ -150,6 +151,9 @@ fn build_held(
 fn word_at(text: &[u8], at: usize) -> Word {
     if cases::is_word(text, at, b"table") {
         return Word::Table;
+    }
+    if cases::is_word(text, at, b"rising") {
+        return Word::Rising;
     }
     if cases::is_word(text, at, b"fixed") {
         return Word::Build(Kind::Fixed);
@@ -352,6 +356,26 @@ fn table_line(
     next
 }
 
+// The same of a table that the line has made.
+fn rising_line(
+    text: &[u8],
+    at: usize,
+    state: State,
+    values: &mut [u32],
+    lengths: &mut [u8],
+    hops: &mut [u16],
+) -> State {
+    if cases::is_bad_rising(text, at, values.len()) {
+        return bad_line(text, at, state);
+    }
+    say(b"rising");
+    let held = cases::rising_line(text, at, values, lengths, hops);
+    let mut next = state;
+    next.held = held;
+    next.at = held.at;
+    next
+}
+
 // One case: the first word of the next line says which.
 fn line(
     text: &[u8],
@@ -369,6 +393,7 @@ fn line(
     let word = word_at(text, at);
     match word {
         Word::Table => table_line(text, at, state, values, lengths, hops),
+        Word::Rising => rising_line(text, at, state, values, lengths, hops),
         Word::Build(kind) => build_line(
             text,
             at,

@@ -1,30 +1,31 @@
 -- The sizes of the rooms of a run, named once; `src/limits.rt` has the same ones for the code. Then the bytes of the digits 0 and 9
--- and of the letters a and z, and the largest numbers of 32, 16 and 8 bits.
+-- and of the letters a and z, the largest numbers of 32, 16 and 8 bits, the largest hop of an entry, and the
+-- largest step of rising values.
 use Prim.Native.Nat.{ℕ}
 
 -- the bytes of a run's text: a mebibyte, more than the cases of any run have
 abbrev pub TEXT : ℕ
 TEXT = 1048576
 
--- the places of a table's lists: a table has at most 4,096 entries, and the cases go past that
+-- the places of a table's lists: a table has at most 65,536 entries, and the cases go past that
 abbrev pub PLACES : ℕ
-PLACES = 5000
+PLACES = 65600
 
--- the words of scratch: more than the largest trie of the cases takes
+-- the words of scratch: fewer than a table of 65,536 entries needs for a trie, enough for its tree bitmap
 abbrev pub SCRATCH : ℕ
-SCRATCH = 200000
+SCRATCH = 600000
 
 -- the places of an element list: more than the rows of the largest build
 abbrev pub ROWS : ℕ
 ROWS = 20000
 
--- the places of a list of supernode rows: fewer than a table of 4,096 entries can need
+-- the places of a list of supernode rows: fewer than a table of 65,536 entries can need
 abbrev pub SUPERNODES : ℕ
-SUPERNODES = 4096
+SUPERNODES = 8740
 
 -- the places of a hop list: one more than a table has entries
 abbrev pub HOP-ROWS : ℕ
-HOP-ROWS = 4097
+HOP-ROWS = 65537
 
 abbrev pub FIRST-DIGIT : ℕ
 FIRST-DIGIT = 48
@@ -50,3 +51,10 @@ MOST-16 = 65535
 
 abbrev pub MOST-8 : ℕ
 MOST-8 = 255
+
+abbrev pub LAST-HOP : ℕ
+LAST-HOP = 65534
+
+-- the largest step of rising values: the second is then past 32 bits
+abbrev pub STEP-CAP : ℕ
+STEP-CAP = 4294967296

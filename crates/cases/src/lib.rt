@@ -1,5 +1,6 @@
 // What the vector programs share: room for a run's text and lists, the reading of decimal numbers, of the
-// word that begins a line and of a table's line, and marks laid in a lent list before a call and counted after it.
+// word that begins a line and of a table's line, the making of a table of rising entries, and marks laid in a lent list before a
+// call and counted after it.
 // Between two numbers any other bytes may stand, so that a case's line can say what its numbers mean.
 mod counts;
 mod fills;
@@ -7,6 +8,7 @@ mod fronts;
 mod limits;
 mod lists;
 mod numerals;
+mod rising;
 mod room;
 mod tables;
 mod triples;
@@ -36,6 +38,8 @@ pub use numerals::least;
 pub use numerals::least_of_four;
 pub use numerals::number;
 pub use numerals::seek;
+pub use rising::is_bad_rising;
+pub use rising::rising_line;
 pub use room::firsts;
 pub use room::hop_rows;
 pub use room::hops;

@@ -3,17 +3,19 @@
 // The bytes of a run's text: a mebibyte, more than the cases of any run have.
 pub const TEXT: usize = 1048576;
 
-// The places of a table's lists: a table has at most 4,096 entries, and the cases go past that.
-pub const PLACES: usize = 5000;
+// The places of a table's lists: a table has at most 65,536 entries, and the cases go past that.
+pub const PLACES: usize = 65600;
 
-// The words of scratch: more than the largest trie of the cases takes.
-pub const SCRATCH: usize = 200000;
+// The words of scratch: 8,333 rows of a trie's 72, of the 8 MiB of stack that a program has. A table of 65,536 entries is refused
+// for them by the choosers and the build, and its tree bitmap, whose rows have 4 words, is built.
+pub const SCRATCH: usize = 600000;
 
 // The places of an element list: more than the rows of the largest build.
 pub const ROWS: usize = 20000;
 
-// The places of a list of supernode rows: fewer than a table of 4,096 entries can need, so that builds are refused for them.
-pub const SUPERNODES: usize = 4096;
+// The places of a list of supernode rows: enough for 65,536 entries of 19 bits that share their first 3, and fewer than a table can
+// need, so that builds are refused for them.
+pub const SUPERNODES: usize = 8740;
 
 // The places of a hop list: one more than a table has entries.
-pub const HOP_ROWS: usize = 4097;
+pub const HOP_ROWS: usize = 65537;

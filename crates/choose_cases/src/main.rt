@@ -1,7 +1,8 @@
 // Runs the two stride choosers on the cases of standard input, and prints every answer.
-// A line of the input is a case. `table` gives the table of the lines below it; `fixed` and `variable` give
-// the level limit and the length of the scratch list, which is filled with sevens. The answer is the outcome,
-// the cost, the strides, and how many zeros and how many sevens scratch then holds.
+// A line of the input is a case. `table` gives the table of the lines below it; `rising` has it made of a width, a number
+// of entries and their length. `fixed` and `variable` give the level limit and the length of the scratch list, which is
+// filled with sevens. The answer is the outcome, the cost, the strides, and how many zeros and how many sevens scratch
+// then holds.
 use cases::Held;
 use libc::STDIN_FILENO;
 use printing::put;
@@ -89,9 +90,14 @@ fn line(
     scratch: &mut [u64],
 ) -> Held {
     let at = cases::seek(text, held.at, b'a', b'z');
-    if cases::byte(text, at) == b't' {
+    let letter = cases::byte(text, at);
+    if letter == b't' {
         say(b"table");
         return cases::table_line(text, at, values, lengths, hops);
+    }
+    if letter == b'r' {
+        say(b"rising");
+        return cases::rising_line(text, at, values, lengths, hops);
     }
     let mut next = held;
     next.at = choose_line(text, at, held, values, lengths, hops, scratch);

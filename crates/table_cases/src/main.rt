@@ -1,7 +1,8 @@
 // Runs the table's four calls about tables and prefixes on the cases of standard input, and prints every answer.
 // A line of the input is a case. `table` gives a width, the lengths of the three lists and their entries
-// (value/length>hop), for this line and those below it, and asks the check; `zone` asks for a prefix's zone
-// in that table; `shared` for the shared length of two prefixes.
+// (value/length>hop), for this line and those below it, and asks the check; entries that it does not give stay those of
+// the line before. `rising` gives a width, how many entries and their length, makes these entries, and asks the same.
+// `zone` asks for a prefix's zone in that table; `shared` for the shared length of two prefixes.
 use cases::Held;
 use libc::STDIN_FILENO;
 use printing::put;
@@ -97,6 +98,11 @@ fn line(text: &[u8], held: Held, values: &mut [u32], lengths: &mut [u8], hops: &
     let letter = cases::byte(text, at);
     if letter == b't' {
         let new = cases::table_line(text, at, values, lengths, hops);
+        check_held(new, values, lengths, hops);
+        return new;
+    }
+    if letter == b'r' {
+        let new = cases::rising_line(text, at, values, lengths, hops);
         check_held(new, values, lengths, hops);
         return new;
     }

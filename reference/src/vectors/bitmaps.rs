@@ -1,5 +1,5 @@
-//! The cases of the tree bitmap (02, [1]). A `table` line sets the table of the builds below it. A `bitmap`
-//! line gives the length of scratch (filled with sevens), of the four lists of supernode rows and of the hop
+//! The cases of the tree bitmap (02, [1]). A `table` line sets the table of the builds below it, a `rising` line
+//! has one made. A `bitmap` line gives the length of scratch (filled with sevens), of the four lists of supernode rows and of the hop
 //! list (filled with nines); its answer is the outcome, the record, scratch's zeros and sevens, and how many
 //! nines stand in each list past the record's counts. `print` prints the rows within the counts as
 //! internal/external/first child/first hop, and the hops. `look` asks one address of the last record and
@@ -11,15 +11,14 @@ mod harmed;
 
 use super::choosers::SCRATCH;
 use super::tables::{damaged, width};
-use super::{eight, of, outcome, table_line, Vectors};
+use super::{eight, of, outcome, table_line, Rising, Vectors, PLACES};
 use crate::bitmap::{build, lookup, nodes, walk, Bitmap, Damage, Supernodes, NODE_ROW, STRIDE};
 use crate::random::Random;
 use crate::table::Table;
 
 /// The program's lists have no more places.
-const ROWS: usize = 4096;
-const HOPS: usize = 4097;
-const ENTRIES: usize = 5000;
+const ROWS: usize = 8740;
+const HOPS: usize = 65_537;
 
 const WANTED: &[&str] = &[
     "bitmap accepted",
@@ -71,6 +70,11 @@ struct Lent {
 
 fn table(vectors: &mut Vectors, table: &Table) {
     vectors.case(table_line(table), "table".to_string());
+}
+
+fn risen(vectors: &mut Vectors, rising: Rising) -> Table {
+    vectors.case(rising.line(), "rising".to_string());
+    rising.table()
 }
 
 fn nines<T: Copy + Into<u32>>(list: &[T], from: u32) -> usize {
@@ -395,8 +399,7 @@ fn wide(vectors: &mut Vectors, random: &mut Random) {
     }
 }
 
-/// 4,096 entries and one more: of up to 11 bits with few supernodes, of any lengths, and of 12 bits with too many for the
-/// program's lists.
+/// Some 4,096 entries, 01's limit before 02, and one more: of up to 11 bits with few supernodes, of any lengths, and of 12 bits.
 fn large(vectors: &mut Vectors, random: &mut Random) {
     let mut short: Vec<(u32, u8)> = prefixes(12).into_iter().filter(|p| p.1 < 12).collect();
     short.push((4095, 12));
@@ -419,15 +422,50 @@ fn large(vectors: &mut Vectors, random: &mut Random) {
         built(vectors, &made, Lent { hops: 4095, ..need });
         built(vectors, &made, need);
     }
-    let mut many = of(13, &(0..4096).map(|i| (2 * i, 12, 1 + (i % 9) as u16)).collect::<Vec<_>>());
-    table(vectors, &many);
-    let words = needed(&many).words;
-    built(vectors, &many, Lent { words, rows: [ROWS; 4], hops: HOPS });
-    many.value.push(8191);
-    many.length.push(13);
-    many.hop.push(1);
-    table(vectors, &many);
-    built(vectors, &many, Lent { words, rows: [ROWS; 4], hops: HOPS });
+    let many = risen(vectors, Rising { width: 13, entries: 4097, length: 13 });
+    let left = built(vectors, &many, needed(&many));
+    for address in [0, 4095, 4096, 4097, 8191, 8192] {
+        look(vectors, &left, address);
+    }
+}
+
+/// The most entries that a table has, and one more. Those of 19 bits that share their first 3 have few enough supernodes for the
+/// program's lists, those of 16 bits too many.
+fn most(vectors: &mut Vectors) {
+    let rising = |width, entries, length| Rising { width, entries, length };
+    let made = risen(vectors, rising(32, 65536, 19));
+    let need = needed(&made);
+    let [a, b, c, d] = need.rows;
+    assert!((need.words, a) == (4 * 131_074, 8739));
+    let left = built(vectors, &made, Lent { words: SCRATCH, rows: [ROWS; 4], hops: HOPS });
+    let last = made.value[65535];
+    for address in [0, 1, 8191, 8192, last - 1, last, last + 1, last + 8191, last + 8192, 1 << 31, u32::MAX] {
+        look(vectors, &left, address);
+        hold(&made, &left, address);
+    }
+    for lent in [
+        Lent { words: need.words - 1, ..need },
+        Lent { words: 0, ..need },
+        Lent { rows: [a - 1, b, c, d], ..need },
+        Lent { rows: [a, b - 1, c, d], ..need },
+        Lent { rows: [a, b, c - 1, d], ..need },
+        Lent { rows: [a, b, c, d - 1], ..need },
+        Lent { hops: 65535, ..need },
+    ] {
+        built(vectors, &made, lent);
+    }
+    let left = built(vectors, &made, need);
+    look(vectors, &left, last);
+    let room = Lent { words: 4 * 131_071, rows: [ROWS; 4], hops: HOPS };
+    let many = risen(vectors, rising(16, 65536, 16));
+    built(vectors, &many, room);
+    built(vectors, &many, Lent { words: room.words - 1, ..room });
+    built(vectors, &many, Lent { words: 0, rows: [0; 4], hops: 0 });
+    for rising in [rising(32, 65537, 19), rising(16, PLACES, 16), rising(32, 65536, 15), rising(33, 65537, 19)] {
+        let made = risen(vectors, rising);
+        let left = built(vectors, &made, room);
+        look(vectors, &left, 0);
+    }
 }
 
 /// Refusals of the build, and room that is just enough or just too little.
@@ -480,7 +518,10 @@ fn bad(vectors: &mut Vectors) {
         format!("bitmap scratch 56 rows 3 3 {} 3 hops 8", ROWS + 1),
         format!("bitmap scratch 56 rows 3 3 3 {} hops 8", ROWS + 1),
         format!("bitmap scratch 56 rows 3 3 3 3 hops {}", HOPS + 1),
-        format!("table width 7 lists 0 0 0 entries {}: 0/1>1", ENTRIES + 1),
+        format!("table width 7 lists 0 0 0 entries {}: 0/1>1", PLACES + 1),
+        format!("rising width 7 entries {} length 7", PLACES + 1),
+        "rising width 7 entries 99999999999999999999 length 7".to_string(),
+        "risings width 7 entries 8 length 7".to_string(),
         "table width 7 lists 2 1 1 entries 1: 0/1>1".to_string(),
         "table width 7 lists 1 1 2 entries 1: 0/1>1".to_string(),
         format!("{record} 2 1 1 1 1 rows 1: 1/0/0/0 hops 1: 5"),
@@ -513,6 +554,7 @@ pub fn write(top: &str) {
     small(&mut vectors, &mut random);
     wide(&mut vectors, &mut random);
     large(&mut vectors, &mut random);
+    most(&mut vectors);
     refusals(&mut vectors, &mut random);
     harmed::examples(&mut vectors);
     harmed::harmed(&mut vectors, &mut random);

@@ -1,4 +1,5 @@
-//! The cases of build and lookup. A `table` line sets the table of the builds below it. A `fixed` or
+//! The cases of build and lookup. A `table` line sets the table of the builds below it, a `rising` line has
+//! one made. A `fixed` or
 //! `variable` line gives the level limit, the length of scratch (filled with sevens) and of the three
 //! element lists hop, link and stride (filled with nines); its answer is the outcome, the record, scratch's
 //! zeros and sevens, and how many nines stand in each element list past row E. `print` prints rows 0 to E-1
@@ -10,7 +11,7 @@
 
 use super::choosers::{name, KINDS, SCRATCH};
 use super::tables::{damaged, width};
-use super::{eight, of, outcome, table_line, Vectors};
+use super::{any_levels, chain, deep, eight, of, outcome, table_line, Rising, Vectors, PLACES};
 use crate::build::{build, Elements, Record, SCRATCH_ROW};
 use crate::choices::{Kind, LEVELS};
 use crate::lookup::{lookup, walk, Damage};
@@ -18,9 +19,8 @@ use crate::random::Random;
 use crate::table::Table;
 use crate::trie::Trie;
 
-/// The program's element lists have no more places, and its table's lists.
+/// The program's element lists have no more places.
 const ROOM: usize = 20_000;
-const ENTRIES: usize = 5_000;
 
 const WANTED: &[&str] = &[
     "fixed accepted",
@@ -53,6 +53,7 @@ const WANTED: &[&str] = &[
     "damage BlockAfterLast",
     "damaged row off the path",
     "link backwards followed",
+    "32 reads",
     "bad line",
 ];
 
@@ -65,6 +66,11 @@ struct Left {
 
 fn table(vectors: &mut Vectors, table: &Table) {
     vectors.case(table_line(table), "table".to_string());
+}
+
+fn risen(vectors: &mut Vectors, rising: Rising) -> Table {
+    vectors.case(rising.line(), "rising".to_string());
+    rising.table()
 }
 
 fn nines<T: Copy + Into<u32>>(list: &[T], from: u32) -> usize {
@@ -110,7 +116,11 @@ fn rows(vectors: &mut Vectors, left: &Left) {
 
 /// Counts what a lookup met.
 fn count(vectors: &mut Vectors, left: &Left, address: u32) {
-    match lookup(&left.record, &left.rows, address) {
+    let answer = lookup(&left.record, &left.rows, address);
+    if answer.is_ok_and(|found| found.reads == 32) {
+        vectors.hit("32 reads");
+    }
+    match answer {
         Ok(found) if found.hop > 0 => vectors.hit("lookup match"),
         Ok(_) => vectors.hit("lookup no route"),
         Err(refusal) => {
@@ -188,31 +198,31 @@ fn nodes(table: &Table) -> usize {
 fn examples(vectors: &mut Vectors) {
     let small = of(3, &[(4, 1, 1), (5, 3, 2)]);
     table(vectors, &small);
-    let left = built(vectors, &small, Kind::Variable, 2, (72, 6, 6, 6));
+    let left = built(vectors, &small, Kind::Variable, 2, (216, 6, 6, 6));
     rows(vectors, &left);
     sweep_all(vectors, &small, &left);
     let eight = eight();
     table(vectors, &eight);
-    let left = built(vectors, &eight, Kind::Variable, 2, (240, 26, 26, 26));
+    let left = built(vectors, &eight, Kind::Variable, 2, (720, 26, 26, 26));
     rows(vectors, &left);
     for address in [97, 96, 103, 104, 71, 79, 0, 127, 128, 4294967295] {
         look(vectors, &left, address);
     }
     for kind in KINDS {
-        for levels in 0..=9 {
-            let left = built(vectors, &eight, kind, levels, (240, 128, 130, 129));
+        for levels in (0..=9).chain([31, 32, 33, 4294967295]) {
+            let left = built(vectors, &eight, kind, levels, (720, 128, 130, 129));
             rows(vectors, &left);
             if left.record.width > 0 {
                 sweep_all(vectors, &eight, &left);
             }
         }
         for lent in [
-            (240, 25, 26, 26),
-            (240, 26, 25, 26),
-            (240, 26, 26, 25),
-            (240, 26, 26, 27),
-            (216, 26, 26, 26),
-            (239, 26, 26, 26),
+            (720, 25, 26, 26),
+            (720, 26, 25, 26),
+            (720, 26, 26, 25),
+            (720, 26, 26, 27),
+            (648, 26, 26, 26),
+            (719, 26, 26, 26),
             (0, 0, 0, 0),
         ] {
             built(vectors, &eight, kind, 2, lent);
@@ -233,7 +243,7 @@ fn edges(vectors: &mut Vectors) {
     for made in tables {
         table(vectors, &made);
         for kind in KINDS {
-            for levels in 1..=LEVELS as u32 {
+            for levels in (1..=9).chain([16, 31, 32]) {
                 let left = built(vectors, &made, kind, levels, (nodes(&made), 4096, 4096, 4096));
                 if left.record.width == 0 {
                     continue;
@@ -247,7 +257,42 @@ fn edges(vectors: &mut Vectors) {
     }
 }
 
-/// Small tables with all k and all addresses; the rows of one k of each kind.
+/// Chains of 32 nodes, and other tables of 32 levels, about the largest level limit: at each level an address leaves the chain.
+fn levels(vectors: &mut Vectors, random: &mut Random) {
+    let tables = [chain(), deep(random, 0), deep(random, 0), deep(random, 6), deep(random, 6)];
+    for made in tables {
+        table(vectors, &made);
+        let last = made.value[(0..made.value.len()).find(|&i| made.length[i] == 32).expect("one of 32 bits")];
+        for kind in KINDS {
+            for levels in [31, 32, 33] {
+                let left = built(vectors, &made, kind, levels, (nodes(&made), ROOM, ROOM, ROOM));
+                if left.record.width == 0 {
+                    continue;
+                }
+                for address in (0..32).map(|bit| last ^ 1 << bit).chain([last]) {
+                    look(vectors, &left, address);
+                    assert!(lookup(&left.record, &left.rows, address).unwrap().hop == made.answer(address));
+                }
+            }
+        }
+    }
+}
+
+/// Rows of one bit that call for themselves after a 0 and end after a 1: as many reads as the address has leading zeros, and one.
+fn loops(vectors: &mut Vectors) {
+    let rows = Elements { hop: vec![0, 7, 0, 8], link: vec![2, 0, 2, 0], stride: vec![1, 0, 1, 0] };
+    for levels in [1, 8, 9, 31, 32, 33] {
+        let record_of = Record { width: 32, levels, elements: 4, floor: 3, strides: [1; LEVELS] };
+        let mut left = Left { record: record_of, rows: rows.clone() };
+        record(vectors, &mut left, 1);
+        for address in (0..32).map(|bit| 1u32 << bit).chain([0, 3, u32::MAX]) {
+            look(vectors, &left, address);
+        }
+        count_paths(vectors, &left, &left, 4);
+    }
+}
+
+/// Small tables with every k to 8 and one above, and all addresses; the rows of one k of each kind.
 fn small(vectors: &mut Vectors, random: &mut Random) {
     for _ in 0..320 {
         let width = if random.one_in(6) { random.within(5, 6) } else { random.within(1, 4) } as u32;
@@ -256,7 +301,7 @@ fn small(vectors: &mut Vectors, random: &mut Random) {
         table(vectors, &made);
         for kind in KINDS {
             let shown = random.within(1, width as u64) as u32;
-            for levels in 1..=LEVELS as u32 {
+            for levels in (1..=8).chain([random.within(9, 32) as u32]) {
                 // More levels than bits add no choice: no room is drawn for them.
                 let more = if levels > width + 1 { 0 } else { random.within(0, 9) as usize };
                 let room = 64 + more;
@@ -278,7 +323,7 @@ fn wide(vectors: &mut Vectors, random: &mut Random) {
         let made = random.table(width, n);
         table(vectors, &made);
         for kind in KINDS {
-            let levels = random.within(3, 8) as u32;
+            let levels = if random.one_in(2) { random.within(3, 8) } else { random.within(3, 32) } as u32;
             let left = built(vectors, &made, kind, levels, (nodes(&made), ROOM, ROOM, ROOM));
             if left.record.width == 0 {
                 continue;
@@ -307,6 +352,32 @@ fn wide(vectors: &mut Vectors, random: &mut Random) {
     }
 }
 
+/// Tables that their lines make: as many entries as scratch has rows for, and the most that a table has.
+fn most(vectors: &mut Vectors) {
+    let rising = |width, entries, length| Rising { width, entries, length };
+    let made = risen(vectors, rising(14, 8192, 13));
+    for kind in KINDS {
+        for levels in [1, 4, 32] {
+            let left = built(vectors, &made, kind, levels, (nodes(&made), ROOM, ROOM, ROOM));
+            for address in [0, 1, 2, 8191, 8192, 16382, 16383, 16384] {
+                look(vectors, &left, address);
+            }
+            let e = left.record.elements as usize;
+            built(vectors, &made, kind, levels, (nodes(&made) + SCRATCH_ROW - 1, e, e - 1, e));
+        }
+        built(vectors, &made, kind, 32, (nodes(&made) - 1, ROOM, ROOM, ROOM));
+    }
+    for rising in [rising(16, 65536, 16), rising(32, 65536, 20), rising(16, 65537, 16), rising(32, 65536, 15)] {
+        let made = risen(vectors, rising);
+        for kind in KINDS {
+            for (levels, places) in [(32, 0), (3, SCRATCH), (33, 0)] {
+                let left = built(vectors, &made, kind, levels, (places, 10, 11, 12));
+                look(vectors, &left, 0);
+            }
+        }
+    }
+}
+
 /// Refusals of the build, and room that is just enough or just too little.
 fn refusals(vectors: &mut Vectors, random: &mut Random) {
     for turn in 0..180 {
@@ -320,12 +391,9 @@ fn refusals(vectors: &mut Vectors, random: &mut Random) {
         damaged(random, &mut made, kind);
         table(vectors, &made);
         for kind in KINDS {
-            let levels = if random.one_in(4) {
-                [0, 9, 4294967295][random.within(0, 2) as usize]
-            } else {
-                random.within(1, 8) as u32
-            };
-            let places = random.within(0, 60) as usize;
+            let levels =
+                if random.one_in(4) { [0, 33, 4294967295][random.within(0, 2) as usize] } else { any_levels(random) };
+            let places = random.within(0, 180) as usize;
             built(vectors, &made, kind, levels, (places, 10, 11, 12));
         }
     }
@@ -342,7 +410,7 @@ fn refusals(vectors: &mut Vectors, random: &mut Random) {
             let lent = match random.within(0, 3) {
                 0 => (nodes(&made), e - 1, e, e + 2),
                 1 => (nodes(&made), e + 2, e - 1, e),
-                2 => (nodes(&made) + 23, e, e + 2, e - 1),
+                2 => (nodes(&made) + SCRATCH_ROW - 1, e, e + 2, e - 1),
                 _ => (nodes(&made) - 1, e, e, e),
             };
             built(vectors, &made, kind, levels, lent);
@@ -380,14 +448,14 @@ fn harm(random: &mut Random, left: &mut Left, kind: u64) {
         12 => left.rows.hop[i] = [0, 1, 65535][random.within(0, 2) as usize],
         13 => left.record.floor = [0, 65535, 77][random.within(0, 2) as usize],
         14 => left.record.width = [0, 33, 256, 4294967295, left.record.width + 1][random.within(0, 4) as usize],
-        15 => left.record.levels = [0, 9, 4294967295][random.within(0, 2) as usize],
+        15 => left.record.levels = [0, 33, 4294967295][random.within(0, 2) as usize],
         16 => left.rows.stride[i] = random.within(0, 255) as u8,
         _ => left.record.elements = left.record.elements.wrapping_sub(1),
     }
 }
 
 fn harmed(vectors: &mut Vectors, random: &mut Random) {
-    for turn in 0..420 {
+    for turn in 0..504 {
         let width = random.within(2, 5) as u32;
         let n = random.within(2, 8) as usize;
         let made = random.table(width, n);
@@ -458,7 +526,7 @@ fn noise(vectors: &mut Vectors, random: &mut Random) {
         }
         left.record = Record {
             width,
-            levels: random.within(1, 8) as u32,
+            levels: any_levels(random),
             elements: random.within(n as u64 / 2, n as u64) as u32,
             floor: random.within(0, 3) as u16,
             strides: [random.within(0, 4) as u8; LEVELS],
@@ -478,12 +546,15 @@ fn bad(vectors: &mut Vectors) {
         "loo 97".to_string(),
         "LOOK 97".to_string(),
         "97".to_string(),
-        "fixes levels 2 scratch 240 lists 26 26 26".to_string(),
+        "fixes levels 2 scratch 720 lists 26 26 26".to_string(),
         format!("fixed levels 2 scratch {} lists 26 26 26", SCRATCH + 1),
-        format!("variable levels 2 scratch 240 lists {} 26 26", ROOM + 1),
-        format!("variable levels 2 scratch 240 lists 26 {} 26", ROOM + 1),
-        format!("variable levels 2 scratch 240 lists 26 26 {}", ROOM + 1),
-        format!("table width 7 lists 0 0 0 entries {}: 0/1>1", ENTRIES + 1),
+        format!("variable levels 2 scratch 720 lists {} 26 26", ROOM + 1),
+        format!("variable levels 2 scratch 720 lists 26 {} 26", ROOM + 1),
+        format!("variable levels 2 scratch 720 lists 26 26 {}", ROOM + 1),
+        format!("table width 7 lists 0 0 0 entries {}: 0/1>1", PLACES + 1),
+        format!("rising width 7 entries {} length 7", PLACES + 1),
+        "rising width 7 entries 99999999999999999999 length 7".to_string(),
+        "risings width 7 entries 8 length 7".to_string(),
         "table width 7 lists 2 1 1 entries 1: 0/1>1".to_string(),
         "table width 7 lists 1 1 2 entries 1: 0/1>1".to_string(),
         format!("record width 7 levels 2 elements 0 floor 9 stride 0 others 0 lists 0 0 0 rows {}:", ROOM + 1),
@@ -491,13 +562,13 @@ fn bad(vectors: &mut Vectors) {
     ];
     let eight = eight();
     table(vectors, &eight);
-    let left = built(vectors, &eight, Kind::Variable, 2, (240, 26, 26, 26));
+    let left = built(vectors, &eight, Kind::Variable, 2, (720, 26, 26, 26));
     for line in lines {
         vectors.case(line, "bad line".to_string());
         vectors.hit("bad line");
         look(vectors, &left, 97);
     }
-    built(vectors, &eight, Kind::Variable, 2, (240, 26, 26, 26));
+    built(vectors, &eight, Kind::Variable, 2, (720, 26, 26, 26));
 }
 
 pub fn write(top: &str) {
@@ -505,8 +576,11 @@ pub fn write(top: &str) {
     let mut random = Random::new(5);
     examples(&mut vectors);
     edges(&mut vectors);
+    levels(&mut vectors, &mut random);
+    loops(&mut vectors);
     small(&mut vectors, &mut random);
     wide(&mut vectors, &mut random);
+    most(&mut vectors);
     refusals(&mut vectors, &mut random);
     harmed(&mut vectors, &mut random);
     noise(&mut vectors, &mut random);

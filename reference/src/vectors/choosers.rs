@@ -1,10 +1,13 @@
 //! The cases of the stride choosers. A `table` line sets the table of the lines below it and is answered
-//! by `table`; a `fixed` or `variable` line gives the level limit and the length of the scratch list, which
+//! by `table`, a `rising` line likewise has one made; a `fixed` or `variable` line gives the level limit and the length of the scratch list, which
 //! the program fills with sevens. The answer is the outcome, cost and strides, and how many zeros and how
 //! many sevens scratch then holds. Where the trie is small, the answer is that of brute force.
 
 use super::tables::{damaged, width};
-use super::{eight, full, of, outcome, table_line, Vectors};
+use super::{
+    any_levels, chain, deep, eight, full, lengths_line, of, outcome, over, table_line, with_lengths, Rising, Vectors,
+    PLACES,
+};
 use crate::build::{chosen, SCRATCH_ROW};
 use crate::choices::{
     fixed_brute, fixed_cost, fixed_lists, variable_brute, variable_choices, variable_cost, variable_count, Kind, LEVELS,
@@ -14,7 +17,7 @@ use crate::table::Table;
 use crate::trie::Trie;
 
 /// The program's scratch list has no more places.
-pub const SCRATCH: usize = 200_000;
+pub const SCRATCH: usize = 600_000;
 /// Brute force lists no more choices than this.
 const CHOICES: u64 = 3000;
 
@@ -38,6 +41,9 @@ const WANTED: &[&str] = &[
     "fixed tie at the first stride",
     "variable tie at the root",
     "fixed strides fewer than k",
+    "fixed more than 8 levels",
+    "variable more than 8 levels",
+    "32 strides",
 ];
 
 pub fn name(kind: Kind) -> &'static str {
@@ -96,6 +102,12 @@ fn choose(vectors: &mut Vectors, table: &Table, kind: Kind, levels: u32, places:
         if kind == Kind::Fixed && (strides.iter().filter(|s| **s > 0).count() as u32) < levels {
             vectors.hit("fixed strides fewer than k");
         }
+        if levels > 8 {
+            vectors.hit(&format!("{} more than 8 levels", name(kind)));
+        }
+        if strides.iter().all(|s| *s > 0) {
+            vectors.hit("32 strides");
+        }
     }
     let zeros = scratch.iter().filter(|x| **x == 0).count();
     let strides: String = strides.iter().map(|s| format!(" {s}")).collect();
@@ -109,7 +121,12 @@ fn table(vectors: &mut Vectors, table: &Table) {
     vectors.case(table_line(table), "table".to_string());
 }
 
-/// Scratch for the table's trie and a few places more.
+fn risen(vectors: &mut Vectors, rising: Rising) -> Table {
+    vectors.case(rising.line(), "rising".to_string());
+    rising.table()
+}
+
+/// Scratch for the table's trie.
 fn enough(table: &Table) -> usize {
     Trie::of(table).size() * SCRATCH_ROW
 }
@@ -118,13 +135,15 @@ fn eight_prefixes(vectors: &mut Vectors) {
     let eight = eight();
     table(vectors, &eight);
     for kind in KINDS {
-        for levels in [0, 1, 2, 3, 4, 5, 6, 7, 8, 9, 255, 256, 257, 4294967295] {
-            choose(vectors, &eight, kind, levels, 240);
+        for levels in (0..=34).chain([63, 64, 255, 256, 257, 288, 65536, 65568, 4294967295]) {
+            choose(vectors, &eight, kind, levels, 720);
         }
-        for places in [0, 1, 216, 239, 240, 241, 263, 264, 300] {
+        for places in [0, 1, 240, 648, 719, 720, 721, 791, 792, 900] {
             choose(vectors, &eight, kind, 3, places);
         }
-        choose(vectors, &eight, kind, 9, 0);
+        for levels in [9, 32, 33] {
+            choose(vectors, &eight, kind, levels, 0);
+        }
     }
 }
 
@@ -138,19 +157,33 @@ fn edges(vectors: &mut Vectors) {
         of(32, &[(4294967295, 32, 1)]),
         of(32, &[(0, 0, 1), (0, 32, 2), (4294967295, 32, 1)]),
         of(32, &[(0, 25, 3)]),
+        chain(),
         of(2, &[(0, 2, 1), (1, 2, 2), (2, 2, 3), (3, 2, 4)]),
         of(0, &[]),
         of(33, &[]),
     ];
     for made in tables {
         table(vectors, &made);
-        let places = if made.check().is_ok() { enough(&made) } else { 48 };
+        let places = if made.check().is_ok() { enough(&made) } else { 2 * SCRATCH_ROW };
         for kind in KINDS {
             for levels in 0..=LEVELS as u32 + 1 {
                 choose(vectors, &made, kind, levels, places);
             }
             choose(vectors, &made, kind, 2, 0);
             choose(vectors, &made, kind, 2, places + 7);
+        }
+    }
+}
+
+/// Chains of 32 nodes, and other tables of 32 levels, about the largest level limit.
+fn levels(vectors: &mut Vectors, random: &mut Random) {
+    for turn in 0..24 {
+        let made = deep(random, if turn % 2 == 0 { 0 } else { 7 });
+        table(vectors, &made);
+        for kind in KINDS {
+            for levels in [random.within(2, 30) as u32, 31, 32, 33] {
+                choose(vectors, &made, kind, levels, enough(&made));
+            }
         }
     }
 }
@@ -179,7 +212,8 @@ fn small(vectors: &mut Vectors, random: &mut Random) {
         table(vectors, &made);
         for kind in KINDS {
             choose(vectors, &made, kind, levels, enough(&made));
-            choose(vectors, &made, kind, random.within(1, 8) as u32, enough(&made) + random.within(0, 30) as usize);
+            let more = random.within(0, SCRATCH_ROW as u64 + 6) as usize;
+            choose(vectors, &made, kind, any_levels(random), enough(&made) + more);
         }
     }
 }
@@ -193,6 +227,7 @@ fn large(vectors: &mut Vectors, random: &mut Random) {
         table(vectors, &made);
         for kind in KINDS {
             choose(vectors, &made, kind, random.within(1, 8) as u32, enough(&made));
+            choose(vectors, &made, kind, random.within(9, 32) as u32, enough(&made));
         }
     }
     let tables = [
@@ -203,17 +238,66 @@ fn large(vectors: &mut Vectors, random: &mut Random) {
     ];
     for made in tables {
         table(vectors, &made);
-        for (kind, levels) in [
-            (Kind::Fixed, 1),
-            (Kind::Variable, 1),
-            (Kind::Fixed, 3),
-            (Kind::Variable, 3),
-            (Kind::Fixed, 8),
-            (Kind::Variable, 8),
-        ] {
-            choose(vectors, &made, kind, levels, enough(&made));
+        for levels in [1, 3, 8, 32] {
+            for kind in KINDS {
+                choose(vectors, &made, kind, levels, enough(&made));
+            }
         }
         choose(vectors, &made, Kind::Variable, 2, enough(&made) - 1);
+    }
+}
+
+/// Tables that their lines make: as many entries as scratch has rows for, all of 13 bits and below a chain of 19 nodes; one more than
+/// 01's limit before 02; and the most that a table has, whose nodes are counted before any scratch is asked for.
+fn most(vectors: &mut Vectors) {
+    let rising = |width, entries, length| Rising { width, entries, length };
+    for (rising, levels) in [(rising(13, 8192, 13), 12), (rising(32, 8192, 32), 20), (rising(17, 4097, 15), 9)] {
+        let made = risen(vectors, rising);
+        for kind in KINDS {
+            for levels in [1, levels, 32, 33] {
+                choose(vectors, &made, kind, levels, enough(&made));
+            }
+        }
+        choose(vectors, &made, Kind::Fixed, 32, enough(&made) - 1);
+        choose(vectors, &made, Kind::Variable, 32, enough(&made) - 1);
+    }
+    for rising in [rising(16, 65536, 16), rising(32, 65536, 16), rising(32, 65536, 32), rising(32, 65535, 20)] {
+        let made = risen(vectors, rising);
+        for kind in KINDS {
+            for (levels, places) in [(1, 0), (32, 0), (3, SCRATCH), (33, 0)] {
+                choose(vectors, &made, kind, levels, places);
+            }
+        }
+    }
+}
+
+/// The most entries and more, with faults: lists of too many entries or of unequal lengths come before any entry's fault.
+fn faults(vectors: &mut Vectors) {
+    let rising = |width, entries, length| Rising { width, entries, length };
+    for rising in [rising(16, 65537, 16), rising(32, 65536, 15), rising(33, 65537, 16), rising(16, PLACES, 16)] {
+        let made = risen(vectors, rising);
+        for kind in KINDS {
+            for levels in [1, 32, 33] {
+                choose(vectors, &made, kind, levels, 0);
+            }
+        }
+    }
+    for lists in [[65536; 3], [65537, 65536, 65536], [65536, 65537, 65536], [65536, 65536, 65537], [65537; 3]] {
+        let made = with_lengths(&rising(16, PLACES, 16).table(), lists);
+        vectors.case(lengths_line(16, lists), "table".to_string());
+        for kind in KINDS {
+            choose(vectors, &made, kind, 32, 0);
+        }
+    }
+    // A fault of the last entry: too large a value, and one that lies below the entry before.
+    for length in [15, 17] {
+        let (first, second) = (rising(32, 65536, length), rising(32, 65535, 16));
+        risen(vectors, first);
+        risen(vectors, second);
+        vectors.case(lengths_line(32, [65536; 3]), "table".to_string());
+        for kind in KINDS {
+            choose(vectors, &over(first, second), kind, 32, SCRATCH);
+        }
     }
 }
 
@@ -231,11 +315,11 @@ fn broken(vectors: &mut Vectors, random: &mut Random) {
         table(vectors, &made);
         for kind in KINDS {
             let levels = if random.one_in(4) {
-                [0, 9, 10, 4294967295][random.within(0, 3) as usize]
+                [0, 33, 34, 4294967295][random.within(0, 3) as usize]
             } else {
-                random.within(1, 8) as u32
+                any_levels(random)
             };
-            choose(vectors, &made, kind, levels, random.within(0, 60) as usize);
+            choose(vectors, &made, kind, levels, random.within(0, 180) as usize);
         }
     }
     for _ in 0..30 {
@@ -243,8 +327,8 @@ fn broken(vectors: &mut Vectors, random: &mut Random) {
         table(vectors, &made);
         for kind in KINDS {
             let need = enough(&made) as u64;
-            let places = random.within(need.saturating_sub(48), need.max(1) - 1) as usize;
-            choose(vectors, &made, kind, random.within(1, 8) as u32, places);
+            let places = random.within(need.saturating_sub(2 * SCRATCH_ROW as u64), need.max(1) - 1) as usize;
+            choose(vectors, &made, kind, any_levels(random), places);
         }
     }
 }
@@ -254,8 +338,11 @@ pub fn write(top: &str) {
     let mut random = Random::new(4);
     eight_prefixes(&mut vectors);
     edges(&mut vectors);
+    levels(&mut vectors, &mut random);
     small(&mut vectors, &mut random);
     large(&mut vectors, &mut random);
+    most(&mut vectors);
+    faults(&mut vectors);
     broken(&mut vectors, &mut random);
     vectors.write(top, "choose_cases", WANTED);
 }

@@ -1,10 +1,10 @@
 //! The cases of the tablet's text. A case is the word `text` with the number of bytes, a line end, the bytes
 //! themselves and a line end; its answer is the whole report and a line `end`.
 
-use super::Vectors;
+use super::{any_levels, Vectors};
 use crate::random::Random;
 use crate::table::bits;
-use crate::tablet;
+use crate::tablet::{self, SCRATCH_ROWS};
 use std::collections::BTreeSet;
 
 const WANTED: &[&str] = &[
@@ -54,12 +54,19 @@ impl Draft {
         self.lines[at].split('=').next().unwrap()
     }
 
+    /// The number of nodes: the proper starts of the entries.
+    fn nodes(&self) -> usize {
+        let bits = self.with("bits").into_iter().map(|at| &self.lines[at]["bits=".len()..]);
+        bits.flat_map(|bits| (0..bits.len()).map(move |end| &bits[..end])).collect::<BTreeSet<_>>().len()
+    }
+
     /// The lines with a key.
     fn with(&self, key: &str) -> Vec<usize> {
         (0..self.lines.len()).filter(|&i| self.key(i) == key).collect()
     }
 }
 
+#[derive(Clone, Copy)]
 struct Sizes {
     width: u32,
     levels: u32,
@@ -95,10 +102,20 @@ fn draft(random: &mut Random, sizes: Sizes) -> Draft {
     Draft { lines }
 }
 
+/// The same, of a table for which the program's scratch rows are enough.
+fn fitting(random: &mut Random, sizes: Sizes) -> Draft {
+    loop {
+        let made = draft(random, sizes);
+        if made.nodes() <= SCRATCH_ROWS {
+            return made;
+        }
+    }
+}
+
 fn any_draft(random: &mut Random) -> Draft {
     let sizes = Sizes {
         width: random.within(1, 32) as u32,
-        levels: random.within(1, 8) as u32,
+        levels: any_levels(random),
         entries: random.within(1, 8) as usize,
         queries: random.within(1, 6) as usize,
     };
@@ -107,16 +124,17 @@ fn any_draft(random: &mut Random) -> Draft {
 
 fn sound(vectors: &mut Vectors, random: &mut Random) {
     for width in 1..=32 {
-        for turn in 0..3 {
+        for turn in 0..4 {
             let entries = random.within(0, 10) as usize;
-            let levels = if width > 10 { 3 + turn } else { 1 + turn };
+            let few = if width > 10 { 3 + turn } else { 1 + turn };
+            let levels = if turn < 3 { few } else { random.within(9, 32) as u32 };
             let queries = random.within(0, 8) as usize;
-            let made = draft(random, Sizes { width, levels, entries, queries });
+            let made = fitting(random, Sizes { width, levels, entries, queries });
             text(vectors, &made.text());
         }
     }
     for width in [6, 7, 8] {
-        let mut made = draft(random, Sizes { width, levels: 3, entries: 64, queries: 64 });
+        let mut made = fitting(random, Sizes { width, levels: 3, entries: 64, queries: 64 });
         text(vectors, &made.text());
         made.lines[1] = if made.lines[1] == "kind=fst" { "kind=vst" } else { "kind=fst" }.to_string();
         text(vectors, &made.text());
@@ -249,8 +267,9 @@ fn faults(vectors: &mut Vectors, random: &mut Random) {
                 let ones = "1".repeat(width);
                 format!("width={width}\nkind={kind}\nlevels={levels}\nentries=1\nbits={ones}\nhop=9\nqueries=2\naddress={ones}\naddress=0\n")
             };
-            text(vectors, text_of(1).as_bytes());
-            text(vectors, text_of(8).as_bytes());
+            for levels in [1, 8, 32, 33] {
+                text(vectors, text_of(levels).as_bytes());
+            }
         }
     }
     for _ in 0..14 {
@@ -269,7 +288,7 @@ fn fault(random: &mut Random, made: &mut Draft, kind: u64) {
         }
         1 => {
             made.lines[2] =
-                format!("levels={}", [0, 9, 10, 257, 258, 65537, 65538, 99999][random.within(0, 7) as usize])
+                format!("levels={}", [0, 33, 34, 257, 288, 65537, 65568, 99999][random.within(0, 7) as usize])
         }
         2 => {
             let at = one_of(random, &all_bits);
@@ -324,22 +343,22 @@ fn with_nodes(nodes: usize) -> Vec<String> {
     entries
 }
 
-/// 01: "the program lends 320 scratch rows and 8,192 elements". E is even, so that after 8,192 comes 8,194.
+/// 02: "the tablet lends 112 scratch rows, not 320"; 01: "and 8,192 elements". E is even, so that after 8,192 comes 8,194.
 fn lent(vectors: &mut Vectors) {
     let zeros = |n: usize| "0".repeat(n);
     for kind in ["fst", "vst"] {
-        for nodes in [319, 320, 321] {
+        for nodes in [111, 112, 113] {
             let entries = with_nodes(nodes);
-            let address = ["1".repeat(32), entries[3].clone()];
+            let address = ["1".repeat(32), entries[2].clone()];
             let report = lent_case(vectors, &text_of(["32", kind, "8"], &entries, &address));
-            let refused = "refusal=6\ndetail=321\n";
+            let refused = "refusal=6\ndetail=113\n";
             assert!(
-                if nodes <= 320 { report.starts_with("refusal=0\n") } else { report == refused },
+                if nodes <= 112 { report.starts_with("refusal=0\n") } else { report == refused },
                 "{nodes}: {report}"
             );
             // An address of another width does not count before the build is accepted.
             let wrong = lent_case(vectors, &text_of(["32", kind, "8"], &entries, &["1".to_string()]));
-            assert!(if nodes <= 320 { wrong == "refusal=8\ndetail=0\n" } else { wrong == refused }, "{wrong}");
+            assert!(if nodes <= 112 { wrong == "refusal=8\ndetail=0\n" } else { wrong == refused }, "{wrong}");
         }
         for (width, levels) in [(13, "1"), (24, "2")] {
             let text = text_of([&width.to_string(), kind, levels], &[zeros(width)], &[zeros(width)]);
@@ -351,12 +370,32 @@ fn lent(vectors: &mut Vectors) {
     assert!(report == "refusal=7\ndetail=8194\n", "{report}");
 }
 
+/// Prefixes of one address, one of each length: with 32 levels that address reads 32 blocks; 33 levels are refused.
+fn levels(vectors: &mut Vectors) {
+    let address = "10".repeat(16);
+    let bits: Vec<String> = (1..=32).map(|length| address[..length].to_string()).collect();
+    let addresses = [address.clone(), format!("{}1", &address[..31]), format!("{}0", &address[..31]), "0".repeat(32)];
+    for kind in ["fst", "vst"] {
+        for (levels, wanted) in [
+            ("8", "reads=8\n"),
+            ("9", "reads=9\n"),
+            ("31", "reads=31\n"),
+            ("32", "reads=32\n"),
+            ("33", "refusal=2\ndetail=0\n"),
+        ] {
+            let report = lent_case(vectors, &text_of(["32", kind, levels], &bits, &addresses));
+            assert!(report.contains(wanted), "{levels}: {report}");
+        }
+    }
+}
+
 fn lent_case(vectors: &mut Vectors, given: &str) -> String {
     text(vectors, given.as_bytes());
     tablet::run(given.as_bytes())
 }
 
-/// 64 entries and 64 queries of 32 bits: the longest text with these first three lines.
+/// 64 entries and 64 queries of 32 bits: the longest text with these first three lines. The entries share their first 26 bits:
+/// 89 nodes.
 fn longest(head: [&str; 3]) -> String {
     let bits: Vec<String> = (0..64).map(|i| format!("{}{i:06b}", "10".repeat(13))).collect();
     let lead = |i| "10".repeat(if i % 4 == 3 { 12 } else { 13 });
@@ -364,8 +403,13 @@ fn longest(head: [&str; 3]) -> String {
     text_of(head, &bits, &addresses)
 }
 
-/// Every text under examples/: its report there is what the reference prints.
+/// Every text under examples/: its report there is what the reference prints. One is the longest that is accepted: its width and its
+/// level limit have two digits.
 fn shown(vectors: &mut Vectors, top: &str) {
+    let accepted = longest(["32", "vst", "32"]);
+    assert!(accepted.len() == 5746 && tablet::run(accepted.as_bytes()).starts_with("refusal=0\n"));
+    let there = std::fs::read(format!("{top}/examples/longest-accepted.txt")).expect("an example can be read");
+    assert!(there == accepted.as_bytes(), "longest-accepted.txt is another text");
     let folder = std::fs::read_dir(format!("{top}/examples")).expect("examples/ can be read");
     let mut paths: Vec<_> = folder.map(|f| f.expect("examples/ can be read").path()).collect();
     paths.sort();
@@ -398,9 +442,10 @@ pub fn write(top: &str) {
     order(&mut vectors, &mut random);
     faults(&mut vectors, &mut random);
     lent(&mut vectors);
+    levels(&mut vectors);
     shown(&mut vectors, top);
     text(&mut vectors, longest(["99999", "fst", "99999"]).as_bytes());
-    text(&mut vectors, longest(["32", "fst", "8"]).as_bytes());
+    text(&mut vectors, longest(["32", "fst", "32"]).as_bytes());
     write_tablet(top);
     vectors.write(top, "sheet_cases", WANTED);
 }

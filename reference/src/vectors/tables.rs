@@ -1,7 +1,7 @@
 //! The cases of the crate `table`: its check, zones and shared lengths. A `table` line sets the table of
 //! the `zone` lines below it.
 
-use super::{eight, full, of, outcome, refused, table_line, Vectors};
+use super::{eight, full, lengths_line, of, outcome, over, refused, table_line, with_lengths, Rising, Vectors, PLACES};
 use crate::random::{cut, Random};
 use crate::table::{shared_length, Table};
 
@@ -132,10 +132,10 @@ fn edges(vectors: &mut Vectors) {
     }
 }
 
-/// n at its limit: 4,096 is accepted, 4,097 is refused, and the last entry is tested too.
+/// Some 4,096 entries, 01's limit before 02: one more is accepted too, and the last entry is tested.
 fn large(vectors: &mut Vectors, random: &mut Random) {
-    let rising = |n: u32| of(13, &(0..n).map(|i| (2 * i, 12, 1)).collect::<Vec<_>>());
-    let most = rising(4096);
+    let some = |n: u32| of(13, &(0..n).map(|i| (2 * i, 12, 1)).collect::<Vec<_>>());
+    let most = some(4096);
     table(vectors, &most);
     for (prefix, length) in [(4096, 3), (8190, 12), (8191, 13), (0, 13), (8190, 11), (64, 7)] {
         zone(vectors, &most, prefix, length);
@@ -143,7 +143,7 @@ fn large(vectors: &mut Vectors, random: &mut Random) {
     let mut hop = most.clone();
     hop.hop[4095] = 65535;
     table(vectors, &hop);
-    let mut order = rising(4095);
+    let mut order = some(4095);
     order.value.push(8188);
     order.length.push(12);
     order.hop.push(2);
@@ -162,6 +162,95 @@ fn large(vectors: &mut Vectors, random: &mut Random) {
         zone(vectors, &wide, of.0, of.1);
         let near = random.relative(32, of);
         zone(vectors, &wide, near.0, near.1);
+    }
+}
+
+/// The check of a table that its line makes.
+fn risen(vectors: &mut Vectors, rising: Rising) -> Table {
+    let made = rising.table();
+    let answer = made.check();
+    vectors.outcome("check", &answer);
+    vectors.case(rising.line(), outcome(answer));
+    made
+}
+
+/// The check of the entries of the lines before, with lists of these lengths.
+fn relisted(vectors: &mut Vectors, made: &Table, lists: [usize; 3]) -> Table {
+    let made = with_lengths(made, lists);
+    let answer = made.check();
+    vectors.outcome("check", &answer);
+    vectors.case(lengths_line(made.width, lists), outcome(answer));
+    made
+}
+
+/// n at its limit: 65,536 entries are accepted, 65,537 are refused by 3, before any entry is looked at.
+fn most(vectors: &mut Vectors) {
+    let of_16 = |width, entries| Rising { width, entries, length: 16 };
+    for entries in [4096, 4097, 65535, 65536, 65537, PLACES + 1, PLACES] {
+        risen(vectors, of_16(16, entries));
+    }
+    for lists in
+        [[65536; 3], [65537, 65536, 65536], [65536, 65537, 65536], [65536, 65536, 65537], [65537, 65537, 65536]]
+    {
+        let made = relisted(vectors, &of_16(16, PLACES).table(), lists);
+        zone(vectors, &made, 65535, 16);
+    }
+    for lists in [[65537; 3], [65536, 65535, 65536], [65535; 3]] {
+        relisted(vectors, &of_16(16, PLACES).table(), lists);
+    }
+    let all = risen(vectors, of_16(16, 65536));
+    let prefixes =
+        [(0, 16), (65535, 16), (65534, 15), (65280, 8), (0, 0), (65535, 15), (65536, 16), (0, 17), (131071, 17)];
+    for (prefix, length) in prefixes {
+        zone(vectors, &all, prefix, length);
+    }
+    // The first half of the addresses of 17 bits: zones behind the last entry.
+    let half = risen(vectors, Rising { width: 17, entries: 65536, length: 17 });
+    for (prefix, length) in [(65535, 17), (65536, 17), (131071, 17), (65536, 1), (65534, 16)] {
+        zone(vectors, &half, prefix, length);
+    }
+    // Entries with bits left below them: zones between two of them.
+    let apart = risen(vectors, of_16(32, 65536));
+    for (prefix, length) in [(4294836224, 17), (4294901760, 17), (4294901760, 16), (4294967295, 32), (4294836224, 15)] {
+        zone(vectors, &apart, prefix, length);
+    }
+}
+
+/// Faults of one entry among the most: at the last index, at a middle one, at the first ones, and with an entry too many.
+fn faults(vectors: &mut Vectors) {
+    let rising = |entries, length| Rising { width: 32, entries, length };
+    // Values of 15 bits are too large from index 32,768 on; those of 17 or 20 bits lie below those of 16 that come before them.
+    for (first, second) in [
+        (rising(65537, 15), rising(65535, 16)),
+        (rising(65537, 17), rising(65535, 16)),
+        (rising(65537, 20), rising(40000, 16)),
+        (rising(65537, 15), rising(40000, 16)),
+    ] {
+        risen(vectors, first);
+        risen(vectors, second);
+        let made = over(first, second);
+        for n in [65535, 65536, 65537] {
+            let made = relisted(vectors, &made, [n; 3]);
+            zone(vectors, &made, 0, 32);
+        }
+    }
+    for entries in [&[(1, 16, 1)][..], &[(0, 33, 1)], &[(0, 16, 0)], &[(0, 16, 65535)], &[(0, 16, 1), (0, 16, 2)]] {
+        for n in [65536, 65537] {
+            let mut made = risen(vectors, rising(n, 16));
+            let given: String = entries.iter().map(|(value, length, hop)| format!(" {value}/{length}>{hop}")).collect();
+            for (i, (value, length, hop)) in entries.iter().enumerate() {
+                (made.value[i], made.length[i], made.hop[i]) = (*value, *length, *hop);
+            }
+            let answer = made.check();
+            vectors.outcome("check", &answer);
+            let line = format!("table width 32 lists {n} {n} {n} entries {}:{given}", entries.len());
+            vectors.case(line, outcome(answer));
+        }
+    }
+    for (width, length) in
+        [(0, 0), (33, 16), (4294967295, 0), (4294967295, 255), (16, 17), (15, 15), (32, 0), (1, 1), (20, 255)]
+    {
+        risen(vectors, Rising { width, entries: 65536, length });
     }
 }
 
@@ -317,6 +406,8 @@ pub fn write(top: &str) {
     eight_prefixes(&mut vectors);
     edges(&mut vectors);
     large(&mut vectors, &mut random);
+    most(&mut vectors);
+    faults(&mut vectors);
     sound(&mut vectors, &mut random);
     broken(&mut vectors, &mut random);
     pairs(&mut vectors, &mut random);
