@@ -1,6 +1,8 @@
 -- The numbers of the tablet's text, named once; `src/limits.rt` has the same ones for the code.
 use Prim.Native.Nat.{ℕ, _+_, _*_}
+use mathlib.Core.Path.{_≡_, refl}
 use lib.ListN.{length}
+use Rattle.tries.specs.Scratch.{ROW}
 use Rattle.sheet.specs.Keys.{widthKey, fixedKey, levelsKey, entriesKey, bitsKey, hopKey, addressKey}
 use Rattle.sheet.specs.Keys.{refusalKey, detailKey, elementsKey, rootKey, readsKey}
 
@@ -109,3 +111,7 @@ LENT-ROWS = 112
 
 abbrev pub LENT-ELEMENTS : ℕ
 LENT-ELEMENTS = 8192
+
+-- 02, [2]: "to stay within 64 KiB" (65,536 bytes) the program lends 112 rows, of numbers of eight bytes
+lent-bytes : LENT-ROWS * ROW * 8 ≡ 64512
+lent-bytes = refl

@@ -2,7 +2,7 @@
 -- the links to the nodes below (a link is a row and one, 0 is none), 2 and 3 the marks beside them, DEPTH the depth, the
 -- next ones to COST spare and 0, COST + j the least cost and STRIDE + j its stride with j + 1 levels left. Readers follow
 -- links from a root link; rows may lie in any order.
-use mathlib.Core.Path.{_≡_}
+use mathlib.Core.Path.{_≡_, refl}
 use mathlib.Core.List.{List}
 use mathlib.Core.Bool.{cond}
 use Prim.Native.Nat.{ℕ, _+_, _-_, _*_, _≤_, _<_}
@@ -32,6 +32,10 @@ BEFORE-STRIDES = STRIDE - 1
 -- numbers in a row
 abbrev pub ROW : ℕ
 ROW = STRIDE + LEVELS
+
+-- 02, [2]: "scratch rows may take 72 numbers"
+row-numbers : ROW ≡ 72
+row-numbers = refl
 
 -- a mark is below this: it is a hop
 abbrev pub MARKS : ℕ

@@ -1,0 +1,14 @@
+-- Both ends of the limits of a width and of a table's entries, by computation (01, refusals 1 and 3; 02, [2]).
+use mathlib.Core.Path.{_≡_, refl}
+use mathlib.Core.Bool.{true, false}
+use Rattle.table.specs.Limits.{widthLimit, outside}
+use Rattle.table.specs.Table.{shapeBad}
+
+width-edges : (outside 0 widthLimit ≡ true) × (outside 1 widthLimit ≡ false) × (outside 32 widthLimit ≡ false) × (outside 33 widthLimit ≡ true)
+unfolding outside
+width-edges = (refl, refl, refl, refl)
+
+-- three lists of one length pass up to 65,536; one that is shorter or longer does not
+entry-edges : (shapeBad 0 0 0 ≡ false) × (shapeBad 65536 65536 65536 ≡ false) × (shapeBad 65537 65537 65537 ≡ true) × (shapeBad 2 1 2 ≡ true) × (shapeBad 2 2 3 ≡ true)
+unfolding shapeBad
+entry-edges = (refl, refl, refl, refl, refl)
