@@ -9,6 +9,7 @@ unfolding outside
 width-edges = (refl, refl, refl, refl)
 
 -- three lists of one length pass up to 65,536; one that is shorter or longer does not
-entry-edges : (shapeBad 0 0 0 ≡ false) × (shapeBad 65536 65536 65536 ≡ false) × (shapeBad 65537 65537 65537 ≡ true) × (shapeBad 2 1 2 ≡ true) × (shapeBad 2 2 3 ≡ true)
+entry-edges : (shapeBad 0 0 0 ≡ false) × (shapeBad 65536 65536 65536 ≡ false) × (shapeBad 65537 65537 65537 ≡ true)
+    × (shapeBad 2 1 2 ≡ true) × (shapeBad 2 2 3 ≡ true)
 unfolding shapeBad
 entry-edges = (refl, refl, refl, refl, refl)
