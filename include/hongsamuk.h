@@ -4,8 +4,8 @@
  * be checked first. `number` in an answer is 0 for accepted, else the refusal:
  *
  *    1  the width is 0 or above 32                                detail 0
- *    2  the level limit is 0 or above 8                           detail 0
- *    3  lists of unequal length, or more than 4,096 entries       detail 0
+ *    2  the level limit is 0 or above 32                          detail 0
+ *    3  lists of unequal length, or more than 65,536 entries      detail 0
  *    4  an entry is no prefix of that width, or has a bad hop     detail: its index
  *    5  an entry does not stand above the one before              detail: its index
  *    6  scratch has too few whole rows for the table's trie       detail: the rows needed
@@ -33,13 +33,13 @@
  * for Rust all have these numbers; the asserts at the end of this file hold a compiler of C11 or C++11 to them, and the tests of
  * the calls for Rust hold all three to this table.
  *
- *    hongsamuk_record         width 0, levels 4, elements 8, floor 12, strides 14, size 24
+ *    hongsamuk_record         width 0, levels 4, elements 8, floor 12, strides 14, size 48
  *    hongsamuk_bitmap         width 0, supernodes 4, hops 8, size 12
  *    hongsamuk_checked        number 0, detail 8, size 16
  *    hongsamuk_shared         number 0, bits 4, size 8
  *    hongsamuk_span           number 0, detail 8, index 16, count 20, size 24
- *    hongsamuk_chosen         number 0, detail 8, cost 16, strides 24, size 32
- *    hongsamuk_built          number 0, detail 8, record 16, size 40
+ *    hongsamuk_chosen         number 0, detail 8, cost 16, strides 24, size 56
+ *    hongsamuk_built          number 0, detail 8, record 16, size 64
  *    hongsamuk_built_bitmap   number 0, detail 8, record 16, size 32
  *    hongsamuk_answer         number 0, hop 4, reads 8, size 12
  */
@@ -55,10 +55,10 @@ extern "C" {
 
 enum {
     HONGSAMUK_WIDTH = 32,          /* the most bits of an address */
-    HONGSAMUK_LEVELS = 8,          /* the most levels */
-    HONGSAMUK_ENTRIES = 4096,      /* the most entries of a table */
+    HONGSAMUK_LEVELS = 32,         /* the most levels */
+    HONGSAMUK_ENTRIES = 65536,     /* the most entries of a table */
     HONGSAMUK_ELEMENTS = 16777216, /* the most elements of a build */
-    HONGSAMUK_ROW = 24,            /* numbers in a scratch row of a chooser or of a build of elements */
+    HONGSAMUK_ROW = 72,            /* numbers in a scratch row of a chooser or of a build of elements */
     HONGSAMUK_NODE_ROW = 4         /* numbers in a scratch row of a build of a bitmap */
 };
 
@@ -255,7 +255,7 @@ HONGSAMUK_AT(hongsamuk_record, levels, 4);
 HONGSAMUK_AT(hongsamuk_record, elements, 8);
 HONGSAMUK_AT(hongsamuk_record, floor, 12);
 HONGSAMUK_AT(hongsamuk_record, strides, 14);
-HONGSAMUK_SIZE(hongsamuk_record, 24);
+HONGSAMUK_SIZE(hongsamuk_record, 48);
 HONGSAMUK_AT(hongsamuk_bitmap, width, 0);
 HONGSAMUK_AT(hongsamuk_bitmap, supernodes, 4);
 HONGSAMUK_AT(hongsamuk_bitmap, hops, 8);
@@ -275,11 +275,11 @@ HONGSAMUK_AT(hongsamuk_chosen, number, 0);
 HONGSAMUK_AT(hongsamuk_chosen, detail, 8);
 HONGSAMUK_AT(hongsamuk_chosen, cost, 16);
 HONGSAMUK_AT(hongsamuk_chosen, strides, 24);
-HONGSAMUK_SIZE(hongsamuk_chosen, 32);
+HONGSAMUK_SIZE(hongsamuk_chosen, 56);
 HONGSAMUK_AT(hongsamuk_built, number, 0);
 HONGSAMUK_AT(hongsamuk_built, detail, 8);
 HONGSAMUK_AT(hongsamuk_built, record, 16);
-HONGSAMUK_SIZE(hongsamuk_built, 40);
+HONGSAMUK_SIZE(hongsamuk_built, 64);
 HONGSAMUK_AT(hongsamuk_built_bitmap, number, 0);
 HONGSAMUK_AT(hongsamuk_built_bitmap, detail, 8);
 HONGSAMUK_AT(hongsamuk_built_bitmap, record, 16);

@@ -1,6 +1,6 @@
 /* The eight-prefix table: builds it with variable strides and two levels, looks addresses up one by one and in a batch, and asks
- * for a zone. Then the same calls with no lists at all: a null pointer with length 0 is a list. Exits with 1 where an answer is
- * not the one expected. */
+ * for a zone. Then a route of 32 bits with a level for each bit, one level and one entry too many, and the same calls with no lists
+ * at all: a null pointer with length 0 is a list. Exits with 1 where an answer is not the one expected. */
 #include <stdio.h>
 #include "hongsamuk.h"
 
@@ -81,6 +81,41 @@ static void ask_the_table(void)
     expect(built.number == 7 && built.detail == 32 && built.record.elements == 0, "too little room");
 }
 
+static void go_to_the_limits(void)
+{
+    static const uint32_t host[] = { 0xc0a80101 };
+    static const uint8_t bits[] = { HONGSAMUK_WIDTH };
+    static const uint16_t next[] = { 9 };
+    static uint64_t words[HONGSAMUK_WIDTH * HONGSAMUK_ROW];
+    static uint16_t hops[2 * HONGSAMUK_LEVELS];
+    static uint32_t links[2 * HONGSAMUK_LEVELS];
+    static uint8_t strides[2 * HONGSAMUK_LEVELS];
+    hongsamuk_built built = hongsamuk_build_fixed(HONGSAMUK_WIDTH, HONGSAMUK_LEVELS, LIST(host), LIST(bits), LIST(next),
+                                                  LIST(words), LIST(hops), LIST(links), LIST(strides));
+    hongsamuk_answer answer = hongsamuk_lookup(built.record, LIST(hops), LIST(links), LIST(strides), host[0]);
+    printf("32 levels: elements=%u hop=%u reads=%u\n", (unsigned)built.record.elements, (unsigned)answer.hop,
+           (unsigned)answer.reads);
+    expect(built.number == 0 && built.record.elements == 2 * HONGSAMUK_LEVELS, "a build with 32 levels");
+    for (size_t i = 0; i < HONGSAMUK_LEVELS; i++)
+        expect(built.record.strides[i] == 1, "32 strides of 1");
+    expect(answer.number == 0 && answer.hop == 9 && answer.reads == HONGSAMUK_LEVELS, "a lookup with 32 reads");
+    built.record.levels = HONGSAMUK_LEVELS + 1;
+    expect(hongsamuk_lookup(built.record, LIST(hops), LIST(links), LIST(strides), host[0]).number == 2, "a record of 33 levels");
+    expect(hongsamuk_choose_fixed(WIDTH, HONGSAMUK_LEVELS + 1, NONE, NONE, NONE, NONE).number == 2, "33 levels");
+
+    enum { MOST = HONGSAMUK_ENTRIES };
+    static uint32_t values[MOST + 1];
+    static uint8_t lengths[MOST + 1];
+    static uint16_t own[MOST + 1];
+    for (uint32_t i = 0; i <= MOST; i++) {
+        values[i] = i;
+        lengths[i] = HONGSAMUK_WIDTH;
+        own[i] = 1;
+    }
+    expect(hongsamuk_check(HONGSAMUK_WIDTH, values, MOST, lengths, MOST, own, MOST).number == 0, "65,536 entries");
+    expect(hongsamuk_check(HONGSAMUK_WIDTH, LIST(values), LIST(lengths), LIST(own)).number == 3, "65,537 entries");
+}
+
 static void lend_nothing(void)
 {
     expect(hongsamuk_check(WIDTH, NONE, NONE, NONE).number == 0, "the check of nothing");
@@ -108,6 +143,7 @@ int main(void)
     look(record);
     look_in_a_batch(record);
     ask_the_table();
+    go_to_the_limits();
     lend_nothing();
     return wrong;
 }

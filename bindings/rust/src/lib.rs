@@ -6,8 +6,8 @@
 //! | Number | Refused because | Detail |
 //! |---|---|---|
 //! | 1 | the width is 0 or above 32 | 0 |
-//! | 2 | the level limit is 0 or above 8 | 0 |
-//! | 3 | lists of unequal length, or more than 4,096 entries | 0 |
+//! | 2 | the level limit is 0 or above 32 | 0 |
+//! | 3 | lists of unequal length, or more than 65,536 entries | 0 |
 //! | 4 | an entry is no prefix of that width, or has a bad hop | its index |
 //! | 5 | an entry does not stand above the one before | its index |
 //! | 6 | scratch has too few whole rows for the table's trie | the rows needed |
@@ -21,13 +21,13 @@ pub mod raw;
 /// The most bits of an address.
 pub const WIDTH: u32 = 32;
 /// The most levels.
-pub const LEVELS: usize = 8;
+pub const LEVELS: usize = 32;
 /// The most entries of a table.
-pub const ENTRIES: usize = 4096;
+pub const ENTRIES: usize = 65_536;
 /// The most elements of a build.
 pub const ELEMENTS: u32 = 16_777_216;
 /// Numbers in a scratch row; a build needs one row for each node of the table's 1-bit trie.
-pub const SCRATCH_ROW: usize = 24;
+pub const SCRATCH_ROW: usize = 72;
 /// Numbers in a scratch row of a bitmap's build; it needs one row for each node of the table's binary trie: for every start of an
 /// entry, the whole entry and length 0 included.
 pub const NODE_ROW: usize = 4;

@@ -40,6 +40,13 @@ fn refused(number: u32, detail: u64) -> Outcome {
     Outcome::Refused { number, detail }
 }
 
+/// The strides of a record that begin with these.
+fn strides(first: &[u8]) -> [u8; LEVELS] {
+    let mut strides = [0; LEVELS];
+    strides[..first.len()].copy_from_slice(first);
+    strides
+}
+
 fn costs(kind: Kind) -> Vec<u64> {
     (1..=4).map(|k| choose(kind, k, EIGHT, &mut vec![7; WORDS]).cost).collect()
 }
@@ -48,10 +55,10 @@ fn costs(kind: Kind) -> Vec<u64> {
 fn costs_and_strides() {
     assert_eq!(costs(Kind::Fixed), [128, 32, 20, 18]);
     assert_eq!(costs(Kind::Variable), [128, 26, 20, 18]);
-    let strides = |k| choose(Kind::Fixed, k, EIGHT, &mut vec![7; WORDS]).strides;
-    assert_eq!(strides(2), [4, 3, 0, 0, 0, 0, 0, 0]);
-    assert_eq!(strides(3), [3, 2, 2, 0, 0, 0, 0, 0]);
-    assert_eq!(strides(4), [1, 2, 2, 2, 0, 0, 0, 0]);
+    let chosen = |k| choose(Kind::Fixed, k, EIGHT, &mut vec![7; WORDS]).strides;
+    assert_eq!(chosen(2), strides(&[4, 3]));
+    assert_eq!(chosen(3), strides(&[3, 2, 2]));
+    assert_eq!(chosen(4), strides(&[1, 2, 2, 2]));
 }
 
 #[test]
@@ -74,7 +81,7 @@ fn longest_match_with_every_limit() {
 #[test]
 fn variable_with_two_levels() {
     let made = make(Kind::Variable, 2, EIGHT, WORDS + 5, 30);
-    let record = Record { width: 7, levels: 2, elements: 26, floor: 0, strides: [4, 0, 0, 0, 0, 0, 0, 0] };
+    let record = Record { width: 7, levels: 2, elements: 26, floor: 0, strides: strides(&[4]) };
     assert_eq!(made.built, Built { outcome: Outcome::Accepted, record });
     assert!(made.scratch.iter().all(|x| *x == 0));
     assert!(made.hop[26..] == [9; 4] && made.link[26..] == [9; 4] && made.stride[26..] == [9; 4]);
@@ -100,13 +107,15 @@ fn rows_of_the_small_table() {
 fn refusals_of_a_build() {
     let outcome = |table, levels, words, room| make(Kind::Variable, levels, table, words, room).built.outcome;
     assert_eq!(outcome(Table { width: 33, ..EIGHT }, 2, WORDS, 26), refused(1, 0));
-    assert_eq!(outcome(EIGHT, 9, WORDS, 26), refused(2, 0));
+    assert_eq!(outcome(EIGHT, 33, WORDS, 26), refused(2, 0));
     assert_eq!(outcome(Table { hop: &EIGHT.hop[1..], ..EIGHT }, 2, WORDS, 26), refused(3, 0));
     assert_eq!(outcome(Table { hop: &[1, 2, 5, 4, 3, 65535, 7, 8], ..EIGHT }, 2, WORDS, 26), refused(4, 5));
     assert_eq!(outcome(Table { length: &[1, 1, 5, 4, 4, 4, 6, 7], ..EIGHT }, 2, WORDS, 26), refused(5, 5));
     assert_eq!(outcome(EIGHT, 2, WORDS - 1, 26), refused(6, 10));
     assert_eq!(outcome(EIGHT, 2, WORDS, 25), refused(7, 26));
     assert_eq!(outcome(EIGHT, 8, WORDS, 26), Outcome::Accepted);
+    assert_eq!(outcome(EIGHT, 9, WORDS, 26), Outcome::Accepted);
+    assert_eq!(outcome(EIGHT, 32, WORDS, 26), Outcome::Accepted);
 }
 
 #[test]
@@ -175,6 +184,8 @@ fn damaged_rows() {
     assert_eq!(made.lookup(0), Answer::Match { hop: 1, reads: 1 });
     made.built.record.elements = 27;
     assert_eq!(made.lookup(0), Answer::Refused { number: 9 });
-    made.built.record.levels = 0;
-    assert_eq!(made.lookup(0), Answer::Refused { number: 2 });
+    for levels in [0, 33] {
+        made.built.record.levels = levels;
+        assert_eq!(made.lookup(0), Answer::Refused { number: 2 });
+    }
 }

@@ -1,5 +1,5 @@
 //! The layout of each struct that goes over the C calls, in three copies: the header's, this crate's, and the proved code's. Each is
-//! held to the one table of numbers in the header's comment.
+//! held to the one table of numbers in the header's comment. And the limits, which the header and this crate both name.
 
 use hongsamuk::{raw, Bitmap, Record};
 use std::collections::BTreeMap;
@@ -137,4 +137,23 @@ fn the_headers_asserts() {
     let stated: usize = stated().values().map(Vec::len).sum();
     let holds = |word: &str| HEADER.lines().filter(|line| line.starts_with(word)).count();
     assert_eq!(holds("HONGSAMUK_AT(") + holds("HONGSAMUK_SIZE("), stated);
+}
+
+#[test]
+fn the_headers_limits() {
+    let own = [
+        ("WIDTH", hongsamuk::WIDTH as usize),
+        ("LEVELS", hongsamuk::LEVELS),
+        ("ENTRIES", hongsamuk::ENTRIES),
+        ("ELEMENTS", hongsamuk::ELEMENTS as usize),
+        ("ROW", hongsamuk::SCRATCH_ROW),
+        ("NODE_ROW", hongsamuk::NODE_ROW),
+    ];
+    let limit = |line: &str| {
+        let (name, number) = line.strip_prefix("    HONGSAMUK_")?.split_once(" = ")?;
+        let digits: String = number.chars().take_while(char::is_ascii_digit).collect();
+        Some((name.to_string(), digits.parse().expect("a number")))
+    };
+    let stated: Vec<(String, usize)> = HEADER.lines().filter_map(limit).collect();
+    assert_eq!(stated, own.map(|(name, number)| (name.to_string(), number)));
 }
