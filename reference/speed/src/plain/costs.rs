@@ -5,7 +5,7 @@ use super::LEVELS;
 
 /// Costs are held here, above what any choice at 32 bits costs.
 const CAP: u64 = 1 << 33;
-/// Places of the sums: strides 1 to 32, and 1 to 8 levels left.
+/// Places of the sums: strides 1 to 32, and 1 to 32 levels left.
 const CELLS: usize = 32 * LEVELS;
 
 fn capped_sum(a: u64, b: u64) -> u64 {

@@ -3,7 +3,7 @@
 use super::costs::choice;
 use super::{Table, LEVELS, WIDTH};
 
-/// Levels 0 to 32, and 1 to 8 strides left.
+/// Levels 0 to 32, and 1 to 32 strides left.
 const CELLS: usize = (WIDTH as usize + 1) * LEVELS;
 
 /// The least cost, and the strides from the front.

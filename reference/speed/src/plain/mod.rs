@@ -20,4 +20,4 @@ pub use walk::{lookup, lookup_batch, Answers, Elements};
 /// The widest address.
 const WIDTH: u32 = 32;
 /// The most levels.
-const LEVELS: usize = 8;
+const LEVELS: usize = 32;
