@@ -48,7 +48,7 @@ impl Trial<'_> {
     /// The table that is lent, over lists about as long as it needs.
     pub fn bitmap(&mut self, table: &Table) -> Same {
         let (words, supernodes, hops) = needed(table);
-        let words = self.around(words, 9);
+        let words = self.around(words.min(SMALL.words as u64 - 9), 9);
         let scratch = self.marks(words, |mark| mark | 1);
         let (rows, hops) = (self.lengths(supernodes), self.around(hops, 5));
         let lists = self.bitmap_room(rows, hops);

@@ -26,7 +26,7 @@ fn harm_record(record: &mut Record, rows: &Elements, random: &mut Random) {
         3 => record.elements = random.next() as u32,
         4 => record.strides[0] = 0,
         5 => record.strides[0] = pick(random, &[1, 2, 31, 32, 33, 63, 64, 65, 128, 255]),
-        6 => record.levels = pick(random, &[0, 1, 2, 3, 8, 9, 256, u32::MAX]),
+        6 => record.levels = pick(random, &[0, 1, 2, 3, 8, 9, 31, 32, 33, 256, u32::MAX]),
         7 => record.width = pick(random, &[0, 1, 31, 32, 33, 64, 256, u32::MAX]),
         8 => record.width = random.within(1, 32) as u32,
         _ => record.floor = pick(random, &[0, 1, 65535]),
@@ -64,8 +64,11 @@ pub fn harm(record: &mut Record, rows: &mut Elements, random: &mut Random) {
     }
 }
 
-/// A record and rows of any numbers, small enough that links lead somewhere.
+/// A record and rows of any numbers, small enough that links lead somewhere: short paths, or paths of many blocks.
 pub fn noise(random: &mut Random) -> (Record, Elements) {
+    if random.one_in(4) {
+        return long_paths(random);
+    }
     let n = random.within(0, 40);
     let mut rows = Elements::default();
     for _ in 0..n {
@@ -81,4 +84,18 @@ pub fn noise(random: &mut Random) -> (Record, Elements) {
         strides: [random.within(0, 4) as u8; LEVELS],
     };
     (record, rows)
+}
+
+/// Nearly every row has a link, and nearly every stride is 1, so that some paths have as many blocks as the width has bits.
+fn long_paths(random: &mut Random) -> (Record, Elements) {
+    let n = random.within(2, 40);
+    let mut rows = Elements::default();
+    for _ in 0..n {
+        rows.hop.push(if random.one_in(2) { 0 } else { random.next() as u16 });
+        rows.link.push(if random.one_in(16) { 0 } else { random.within(1, n - 1) as u32 });
+        rows.stride.push(if random.one_in(32) { random.within(0, 3) as u8 } else { 1 });
+    }
+    let width = random.within(8, 32) as u32;
+    let levels = if random.one_in(2) { random.within(8, LEVELS as u64) } else { u64::from(width) } as u32;
+    (Record { width, levels, elements: n as u32, floor: random.within(0, 3) as u16, strides: [1; LEVELS] }, rows)
 }

@@ -1,36 +1,45 @@
-//! The limit of elements, and tables of 4,096 entries in both layouts.
+//! The limit of elements, the most levels, and large tables in both layouts: of 4,096 entries and of 65,536.
 
 use crate::bitmaps::needed;
 use crate::calls::{Lists, Most};
 use crate::memory::Edge;
 use crate::tally::Tally;
 use crate::trying::{Same, Trial};
-use reference::build::ELEMENTS;
+use reference::build::{Record, ELEMENTS, SCRATCH_ROW};
 use reference::choices::Kind;
 use reference::random::Random;
 use reference::table::{Refusal, Table, ENTRIES};
+use reference::trie::Trie;
 
 const SEED: u64 = 24;
 const KINDS: [Kind; 2] = [Kind::Fixed, Kind::Variable];
 /// Twice the limit of elements.
 const ROWS: usize = 2 * ELEMENTS as usize;
-/// 4,096 entries of 32 bits have at most 131,072 nodes.
-const LARGE: Most =
-    Most { entries: ENTRIES, words: 24 << 17, rows: ROWS, supernodes: 1 << 17, addresses: ASKED as usize + 8 };
+/// The tables below have at most half a million nodes, and an eighth of a million supernodes.
+const LARGE: Most = Most {
+    entries: ENTRIES + 8,
+    words: SCRATCH_ROW << 19,
+    rows: ROWS,
+    supernodes: 1 << 17,
+    addresses: ASKED as usize + 8,
+};
 /// Addresses asked of each build.
 const ASKED: u64 = 1_000;
-/// Element lists for tables of 4,096 entries; some builds need more and are refused.
-const ROOM: usize = 1 << 19;
 
-fn of(width: u32, mut prefixes: Vec<(u32, u8)>, random: &mut Random) -> Table {
-    prefixes.sort();
-    prefixes.dedup();
-    prefixes.truncate(ENTRIES);
-    Table {
-        width,
-        hop: prefixes.iter().map(|_| random.hop()).collect(),
-        value: prefixes.iter().map(|p| p.0).collect(),
-        length: prefixes.iter().map(|p| p.1).collect(),
+/// Tables of one size: the most entries, the level limits, and the element lists that are lent; some builds need more and are refused.
+struct Size {
+    entries: usize,
+    levels: &'static [u32],
+    rows: usize,
+}
+
+const SMALLER: Size = Size { entries: 4_096, levels: &[1, 2, 3, 5, 8, 32], rows: 1 << 19 };
+const MOST: Size = Size { entries: ENTRIES, levels: &[1, 2, 3, 5, 8, 16, 32], rows: 1 << 20 };
+
+fn outcome((refusal, record): &(Refusal, Record)) -> String {
+    match refusal.number {
+        0 => format!("E = {}", record.elements),
+        number => format!("refused by {number}, detail {}", refusal.detail),
     }
 }
 
@@ -43,40 +52,95 @@ fn limits(trial: &mut Trial) -> Same {
     let most = ELEMENTS as usize;
     for (bits, rows) in [(24, most), (24, most - 1), (25, ROWS)] {
         for kind in KINDS {
-            let Refusal { number, detail } = trial.given(&one_entry(bits), kind, 1, rows)?;
-            println!("{kind:?}, one entry of {bits} bits, k = 1, {rows} rows lent: number {number}, detail {detail}");
+            let given = trial.given(&one_entry(bits), bits as usize, kind, 1, rows)?;
+            println!("{kind:?}, one entry of {bits} bits, k = 1, {rows} rows lent: {}", outcome(&given));
         }
     }
     Ok(())
 }
 
-/// Tables of 4,096 entries: neighbours, all of 32 bits, of any lengths, of 8 to 24 bits, and all of 32 bits that part in the first 12.
-fn tables(random: &mut Random) -> Vec<Table> {
-    let n = ENTRIES as u32;
-    let neighbours = (0..n).map(|i| (2 * i, 12)).collect();
-    let hosts = (0..n).map(|i| (u32::MAX - n + 1 + i, 32)).collect();
-    let parted = (0..n).map(|i| (i << 20, 32)).collect();
-    let routes = (0..2 * n).map(|_| random.prefix(32, 8, 24)).collect();
-    let nested = random.table(32, 2 * ENTRIES);
-    let nested = nested.value.into_iter().zip(nested.length).collect();
-    let mut tables = vec![of(13, neighbours, random), of(32, hosts, random), of(32, nested, random)];
-    tables.extend([of(32, routes, random), of(32, parted, random)]);
-    tables
+/// One entry of 32 bits is a chain of 32 nodes, on which every level limit tells.
+fn chain(trial: &mut Trial) -> Same {
+    for levels in 1..=33 {
+        for kind in KINDS {
+            let told = |text| format!("one entry of 32 bits {kind:?} levels {levels}: {text}");
+            let given = trial.given(&one_entry(32), 32, kind, levels, 1 << 17).map_err(told)?;
+            println!("{kind:?}, one entry of 32 bits, k = {levels}: {}", outcome(&given));
+        }
+    }
+    Ok(())
 }
 
-fn many(trial: &mut Trial) -> Same {
-    let mut random = Random::new(SEED);
-    for (i, table) in tables(&mut random).iter().enumerate() {
+impl Size {
+    fn of(&self, width: u32, mut prefixes: Vec<(u32, u8)>, random: &mut Random) -> Table {
+        prefixes.sort();
+        prefixes.dedup();
+        prefixes.truncate(self.entries);
+        Table {
+            width,
+            hop: prefixes.iter().map(|_| random.hop()).collect(),
+            value: prefixes.iter().map(|p| p.0).collect(),
+            length: prefixes.iter().map(|p| p.1).collect(),
+        }
+    }
+
+    /// Entries of any lengths, half of them inside others.
+    fn nested(&self, random: &mut Random) -> Table {
+        let nested = random.table(32, 2 * self.entries);
+        self.of(32, nested.value.into_iter().zip(nested.length).collect(), random)
+    }
+
+    /// Entries of 8 to 24 bits.
+    fn routes(&self, random: &mut Random) -> Table {
+        let routes = (0..2 * self.entries).map(|_| random.prefix(32, 8, 24)).collect();
+        self.of(32, routes, random)
+    }
+
+    /// A table in elements, both kinds, every level limit, then as a bitmap. Besides, a larger limit and the variable kind must not
+    /// cost more.
+    fn tried(&self, name: &str, table: &Table, trial: &mut Trial) -> Same {
+        let (n, nodes) = (table.value.len(), Trie::of(table).size());
+        println!("{name}: {n} entries of width {}, {nodes} nodes", table.width);
+        let mut most = vec![u64::MAX; self.levels.len()];
         for kind in KINDS {
-            for levels in [1, 2, 3, 5, 8] {
-                let told = |text| format!("table {i} {kind:?} levels {levels}: {text}");
-                trial.given(table, kind, levels, ROOM).map_err(told)?;
+            let mut less = u64::MAX;
+            for (levels, most) in self.levels.iter().zip(&mut most) {
+                let told = |text| format!("{name}, {n} entries, {kind:?} levels {levels}: {text}");
+                let given = trial.given(table, nodes, kind, *levels, self.rows).map_err(told)?;
+                println!("{kind:?}, k = {levels}: {}", outcome(&given));
+                let cost = given.0.detail.max(given.1.elements.into());
+                if cost > less || cost > *most {
+                    return Err(told(format!("costs {cost}, fewer levels {less}, the fixed kind {most}")));
+                }
+                (less, *most) = (cost, cost);
             }
         }
-        println!("table {i}, {} entries of width {}, both kinds, k = 1, 2, 3, 5, 8", table.value.len(), table.width);
-        bitmaps(trial, table).map_err(|text| format!("table {i} as a bitmap: {text}"))?;
+        bitmaps(trial, table).map_err(|text| format!("{name}, {n} entries, as a bitmap: {text}"))
     }
-    Ok(())
+}
+
+/// Neighbours, the last addresses, of any lengths, of 8 to 24 bits, and all of 32 bits that part in the first 12.
+fn smaller(trial: &mut Trial, random: &mut Random) -> Same {
+    let n = SMALLER.entries as u32;
+    let neighbours = SMALLER.of(13, (0..n).map(|i| (2 * i, 12)).collect(), random);
+    let hosts = SMALLER.of(32, (0..n).map(|i| (u32::MAX - n + 1 + i, 32)).collect(), random);
+    let parted = SMALLER.of(32, (0..n).map(|i| (i << 20, 32)).collect(), random);
+    SMALLER.tried("neighbours", &neighbours, trial)?;
+    SMALLER.tried("the last addresses", &hosts, trial)?;
+    SMALLER.tried("nested", &SMALLER.nested(random), trial)?;
+    SMALLER.tried("of 8 to 24 bits", &SMALLER.routes(random), trial)?;
+    SMALLER.tried("all of 32 bits", &parted, trial)
+}
+
+/// All of 16 bits, of 8 to 24, of any lengths, and a quarter as many of 32 bits: more of these have more nodes than memory should hold.
+fn most(trial: &mut Trial, random: &mut Random) -> Same {
+    let n = MOST.entries as u32;
+    let sixteen = MOST.of(32, (0..n).map(|i| (i << 16, 16)).collect(), random);
+    let hosts = MOST.of(32, (0..n / 4).map(|_| random.prefix(32, 32, 32)).collect(), random);
+    MOST.tried("all of 16 bits", &sixteen, trial)?;
+    MOST.tried("of 8 to 24 bits", &MOST.routes(random), trial)?;
+    MOST.tried("nested", &MOST.nested(random), trial)?;
+    MOST.tried("all of 32 bits", &hosts, trial)
 }
 
 /// The bitmap of the table that is lent, in lists just long enough, then with each of them in turn one shorter.
@@ -99,7 +163,11 @@ fn bitmaps(trial: &mut Trial, table: &Table) -> Same {
 pub fn run() -> bool {
     let (mut lists, mut tally) = (Lists::new(&LARGE, Edge::Last), Tally::default());
     let mut trial = Trial::new(&mut lists, &mut tally, Random::new(SEED), ASKED);
-    let same = limits(&mut trial).and_then(|()| many(&mut trial));
+    let random = &mut Random::new(SEED);
+    let same = limits(&mut trial)
+        .and_then(|()| chain(&mut trial))
+        .and_then(|()| smaller(&mut trial, random))
+        .and_then(|()| most(&mut trial, random));
     if let Err(text) = same {
         println!("DIFFERENCE: {text}");
         return false;

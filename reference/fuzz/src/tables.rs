@@ -5,6 +5,10 @@ use reference::table::{Table, ENTRIES};
 
 /// Entries of a small table.
 const SMALL: u64 = 12;
+/// Every so many tables one has more entries than a table may have; every so many of those have just as many as it may, and take
+/// the reference a second or two.
+const TOO_LONG: u64 = 1 << 12;
+const LONGEST: u64 = 32;
 
 /// Small widths more often than large ones: there prefixes meet, and all addresses can be asked.
 fn width(random: &mut Random) -> u32 {
@@ -27,11 +31,14 @@ fn of(width: u32, mut prefixes: Vec<(u32, u8)>, random: &mut Random) -> Table {
     }
 }
 
-/// Prefixes of one address, each nested in the one before.
+/// Prefixes of one address, each nested in the one before; often all of its bits are one of them.
 fn chain(width: u32, n: usize, random: &mut Random) -> Table {
     let address = random.next();
-    let lengths = (0..n).map(|_| random.within(0, width as u64) as u32);
-    let prefixes = lengths.collect::<Vec<_>>().iter().map(|l| (cut(width, address, *l), *l as u8)).collect();
+    let mut lengths: Vec<u32> = (0..n).map(|_| random.within(0, width as u64) as u32).collect();
+    if n > 0 && random.one_in(2) {
+        lengths[0] = width;
+    }
+    let prefixes = lengths.iter().map(|l| (cut(width, address, *l), *l as u8)).collect();
     of(width, prefixes, random)
 }
 
@@ -92,17 +99,18 @@ fn damage(table: &mut Table, random: &mut Random) {
     }
 }
 
-/// More entries than a table may have: all lists are as long.
-fn too_many(random: &mut Random) -> Table {
-    let n = ENTRIES + 1;
-    let value = (0..n as u32).map(|i| 2 * i);
-    Table { width: random.within(14, 32) as u32, value: value.collect(), length: vec![1; n], hop: vec![1; n] }
+/// Neighbours of 17 bits, all of them good entries: as many as a table may have, or one more.
+fn long(n: usize, random: &mut Random) -> Table {
+    let width = random.within(17, 32) as u32;
+    let value = (0..n as u32).map(|i| i << (width - 17)).collect();
+    Table { width, value, length: vec![17; n], hop: (0..n).map(|_| random.hop()).collect() }
 }
 
 /// A table of any kind.
 pub fn any(random: &mut Random) -> Table {
-    if random.one_in(1 << 12) {
-        return too_many(random);
+    if random.one_in(TOO_LONG) {
+        let n = if random.one_in(LONGEST) { ENTRIES } else { ENTRIES + 1 };
+        return long(n, random);
     }
     let mut table = sound(random);
     if random.one_in(5) {

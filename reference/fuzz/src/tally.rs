@@ -1,7 +1,10 @@
 //! How often each call gave each answer.
 
 use reference::bitmap;
+use reference::build::Record;
+use reference::choices::LEVELS;
 use reference::lookup::Damage;
+use reference::table::ENTRIES;
 use std::collections::BTreeMap;
 
 /// Refusals are 1 to 10; 0 is accepted.
@@ -44,6 +47,15 @@ pub struct Tally {
     pub no_routes: u64,
     pub batches: u64,
     pub longest: u64,
+    /// The most reads of a lookup in elements.
+    pub most_reads: u32,
+    /// Tables that were checked: of just as many entries as there may be, and of more.
+    most_entries: u64,
+    more_entries: u64,
+    /// Accepted builds with more than 8 levels, with the most levels, and with as many strides.
+    many_levels: u64,
+    most_levels: u64,
+    most_strides: u64,
     /// Of lookups in bitmaps: those without a route, those held to longest match besides, and those held to the hop that the
     /// elements of the same table gave.
     pub bitmap_no_routes: u64,
@@ -58,6 +70,17 @@ fn by_clause<T: std::fmt::Debug>(damages: &BTreeMap<T, u64>) -> String {
 impl Tally {
     pub fn count(&mut self, call: Call, number: u32) {
         self.numbers[call as usize][number as usize] += 1;
+    }
+
+    pub fn entries(&mut self, n: usize) {
+        self.most_entries += (n == ENTRIES) as u64;
+        self.more_entries += (n > ENTRIES) as u64;
+    }
+
+    pub fn accepted(&mut self, record: &Record) {
+        self.many_levels += (record.levels > 8) as u64;
+        self.most_levels += (record.levels == LEVELS as u32) as u64;
+        self.most_strides += (record.strides[LEVELS - 1] > 0) as u64;
     }
 
     pub fn damage(&mut self, damage: Damage) {
@@ -98,6 +121,10 @@ impl Tally {
         }
         println!("lookups without a route: {}; refusal 9 by clause: {}", self.no_routes, by_clause(&self.damages));
         println!("batches: {}; answers held to longest match besides: {}", self.batches, self.longest);
+        println!("tables of {ENTRIES} entries checked: {}; of more: {}", self.most_entries, self.more_entries);
+        let (many, most, strides) = (self.many_levels, self.most_levels, self.most_strides);
+        println!("accepted builds with k above 8: {many}; k = {LEVELS}: {most}; {LEVELS} strides: {strides}");
+        println!("most reads of a lookup in elements: {}", self.most_reads);
         let clauses = by_clause(&self.bitmap_damages);
         println!("lookups in bitmaps without a route: {}; refusal 9 by clause: {clauses}", self.bitmap_no_routes);
         println!("held to longest match besides: {}; to the elements' hop: {}", self.bitmap_longest, self.agreed);

@@ -7,17 +7,22 @@ use crate::tally::{Call, Tally};
 use crate::{harm, tables};
 use hongsamuk::raw;
 use reference::build::{build, chosen, Elements, Record, SCRATCH_ROW};
-use reference::choices::Kind;
+use reference::choices::{Kind, LEVELS};
 use reference::lookup::{lookup, walk};
 use reference::random::Random;
 use reference::table::{self, Refusal, Table, ENTRIES};
 use reference::trie::Trie;
 
 /// Lists of the small cases: 12 entries at width 32 have at most 384 nodes and 97 supernodes; longer element lists are not needed
-/// at small widths.
-pub const SMALL: Most = Most { entries: ENTRIES + 8, words: 10_240, rows: 1_200, supernodes: 128, addresses: 64 };
+/// at small widths. A table of the most entries is refused for scratch there.
+pub const SMALL: Most =
+    Most { entries: ENTRIES + 8, words: 385 * SCRATCH_ROW, rows: 1_200, supernodes: 128, addresses: 64 };
 /// All addresses are asked where there are at most so many.
 const ALL: u32 = 4;
+/// The most words of scratch beyond those needed.
+const SPARE: u64 = 30;
+/// Where a difference is told, a table of more entries is named by how many they are.
+const NAMED: usize = 100;
 
 /// The two sides differ: what was asked, and both answers.
 pub type Same = Result<(), String>;
@@ -37,6 +42,14 @@ pub fn same_list<T: PartialEq + std::fmt::Debug>(what: &str, archive: &[T], refe
     match archive.iter().zip(reference).position(|(a, b)| a != b) {
         Some(i) => same(&format!("{what} at {i}"), &archive[i], &reference[i]),
         None => same(&format!("length of {what}"), archive.len(), reference.len()),
+    }
+}
+
+/// A table, where a difference is told.
+fn named(table: &Table) -> String {
+    match table.value.len() {
+        0..=NAMED => format!("{table:?}"),
+        n => format!("table of {n} entries, width {}", table.width),
     }
 }
 
@@ -64,11 +77,14 @@ impl Trial<'_> {
         Trial { lists, tally, random, asked, answers: vec![] }
     }
 
+    /// Small level limits more often than large ones, which only a deep table tells from each other.
     fn levels(&mut self) -> u32 {
-        if self.random.one_in(40) {
-            return [0, 9, 255, 256, u32::MAX][self.random.within(0, 4) as usize];
+        match self.random.within(0, 39) {
+            0 => harm::pick(&mut self.random, &[0, 33, 255, 256, u32::MAX]),
+            1 => LEVELS as u32,
+            2..=7 => self.random.within(9, LEVELS as u64) as u32,
+            _ => self.random.within(1, 8) as u32,
         }
-        self.random.within(1, 8) as u32
     }
 
     fn kind(&mut self) -> Kind {
@@ -96,8 +112,9 @@ impl Trial<'_> {
     }
 
     fn scratch(&mut self, table: &Table) -> Vec<u64> {
-        let nodes = if table.check().is_ok() { Trie::of(table).size() as u64 } else { 2 };
-        let words = self.around(nodes * SCRATCH_ROW as u64, 30);
+        let nodes = if table.check().is_ok() { Trie::of(table).size() } else { 2 };
+        let about = (nodes * SCRATCH_ROW) as u64;
+        let words = self.around(about.min(SMALL.words as u64 - SPARE), SPARE);
         self.marks(words, |mark| mark | 1)
     }
 
@@ -125,28 +142,47 @@ impl Trial<'_> {
     pub fn table(&mut self) -> Same {
         let table = tables::any(&mut self.random);
         self.lists.lend_table(&table, &mut self.random);
-        self.entries(&table).map_err(|text| format!("{table:?}: {text}"))?;
+        self.entries(&table).map_err(|text| format!("{}: {text}", named(&table)))?;
         let (kind, levels) = (self.kind(), self.levels());
-        let told = |text| format!("{table:?} {kind:?} levels {levels}: {text}");
+        let told = |text| format!("{} {kind:?} levels {levels}: {text}", named(&table));
         let cost = self.choose(&table, kind, levels).map_err(told)?;
         self.build(&table, kind, levels, cost).map_err(told)?;
         self.bitmap(&table).map_err(told)
     }
 
-    /// A given table through every call, with just enough scratch and element lists of that length. Answers the build's outcome.
-    pub fn given(&mut self, table: &Table, kind: Kind, levels: u32, rows: usize) -> Result<Refusal, String> {
+    /// A given table through every call, with scratch for so many nodes and element lists of that length. Answers the build's
+    /// number, detail and record.
+    pub fn given(
+        &mut self,
+        table: &Table,
+        nodes: usize,
+        kind: Kind,
+        levels: u32,
+        rows: usize,
+    ) -> Result<(Refusal, Record), String> {
         self.lists.lend_table(table, &mut self.random);
         self.entries(table)?;
-        self.choose(table, kind, levels)?;
-        let scratch = self.marks(Trie::of(table).size() * SCRATCH_ROW, |mark| mark | 1);
+        let scratch = self.marks(nodes * SCRATCH_ROW, |mark| mark | 1);
         let rows = self.rows(rows, rows, rows);
-        self.build_over(table, kind, levels, scratch, rows)
+        let (outcome, record) = self.build_over(table, kind, levels, scratch, rows)?;
+        let mut scratch = self.marks(nodes * SCRATCH_ROW, |mark| mark | 1);
+        if outcome.number > 0 {
+            self.choose_over(table, kind, levels, scratch)?;
+            return Ok((outcome, record));
+        }
+        // The record has what the chooser must answer, so that the reference goes through its recurrence once.
+        self.lists.lend_scratch(&scratch, &mut self.random);
+        scratch.fill(0);
+        let expected = raw::Chosen { number: 0, detail: 0, cost: record.elements.into(), strides: record.strides };
+        self.chosen(table, kind, levels, expected, &scratch)?;
+        Ok((outcome, record))
     }
 
     fn entries(&mut self, table: &Table) -> Same {
         let (number, detail) = numbers(table.check());
         same("check", self.lists.check(table.width), raw::Checked { number, detail })?;
         self.tally.count(Call::Check, number);
+        self.tally.entries(table.value.len());
         let (prefix, bits) = tables::prefix(table, &mut self.random);
         let expected = match table.zone(prefix, bits) {
             Ok((index, count)) => raw::Span { number: 0, detail: 0, index: index as u32, count: count as u32 },
@@ -167,15 +203,25 @@ impl Trial<'_> {
 
     /// Answers the cost that the reference finds, 0 where it refuses.
     fn choose(&mut self, table: &Table, kind: Kind, levels: u32) -> Result<u64, String> {
-        let mut scratch = self.scratch(table);
+        let scratch = self.scratch(table);
+        self.choose_over(table, kind, levels, scratch)
+    }
+
+    fn choose_over(&mut self, table: &Table, kind: Kind, levels: u32, mut scratch: Vec<u64>) -> Result<u64, String> {
         self.lists.lend_scratch(&scratch, &mut self.random);
         let (outcome, cost, strides) = chosen(kind, levels, table, &mut scratch);
         let (number, detail) = numbers(outcome);
-        let answer = self.lists.choose(kind, table.width, levels);
-        same("choice", answer, raw::Chosen { number, detail, cost, strides })?;
-        same_list("scratch after the choice", self.lists.scratch.held(), &scratch)?;
-        self.tally.count(if kind == Kind::Fixed { Call::ChooseFixed } else { Call::ChooseVariable }, number);
+        self.chosen(table, kind, levels, raw::Chosen { number, detail, cost, strides }, &scratch)?;
         Ok(cost)
+    }
+
+    /// What the archive's chooser answers, and what it leaves in the scratch that is lent.
+    fn chosen(&mut self, table: &Table, kind: Kind, levels: u32, expected: raw::Chosen, scratch: &[u64]) -> Same {
+        let answer = self.lists.choose(kind, table.width, levels);
+        same("choice", answer, expected)?;
+        same_list("scratch after the choice", self.lists.scratch.held(), scratch)?;
+        self.tally.count(if kind == Kind::Fixed { Call::ChooseFixed } else { Call::ChooseVariable }, expected.number);
+        Ok(())
     }
 
     fn build(&mut self, table: &Table, kind: Kind, levels: u32, cost: u64) -> Same {
@@ -183,7 +229,7 @@ impl Trial<'_> {
         self.build_over(table, kind, levels, scratch, rows).map(|_| ())
     }
 
-    /// The build over these lists, and lookups where it is accepted. Answers number and detail, which both sides have.
+    /// The build over these lists, and lookups where it is accepted. Answers number, detail and record, which both sides have.
     fn build_over(
         &mut self,
         table: &Table,
@@ -191,7 +237,7 @@ impl Trial<'_> {
         levels: u32,
         mut scratch: Vec<u64>,
         mut rows: Elements,
-    ) -> Result<Refusal, String> {
+    ) -> Result<(Refusal, Record), String> {
         self.answers.clear();
         self.lists.lend_scratch(&scratch, &mut self.random);
         self.lists.lend_rows(&rows, &mut self.random);
@@ -207,9 +253,10 @@ impl Trial<'_> {
             same_list("strides after the build", self.lists.row_stride.held(), &rows.stride)?;
         }
         if number == 0 {
+            self.tally.accepted(&record);
             self.after(table, record, rows)?;
         }
-        Ok(Refusal { number, detail })
+        Ok((Refusal { number, detail }, record))
     }
 
     /// Lookups over what an accepted build left, then over the same damaged.
@@ -277,6 +324,7 @@ impl Trial<'_> {
         match lookup(record, rows, address) {
             Ok(found) => {
                 self.tally.no_routes += (found.hop == 0) as u64;
+                self.tally.most_reads = self.tally.most_reads.max(found.reads);
                 raw::Answer { number: 0, hop: found.hop, reads: found.reads }
             }
             Err(refusal) => {

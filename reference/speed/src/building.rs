@@ -9,9 +9,11 @@ use hongsamuk::{Kind, Outcome, Record, Table};
 
 /// The level limit of the lookups, and one of those at which growth is measured.
 pub const K: u32 = 3;
-const LEVELS: u32 = 8;
-const SIZES: [usize; 4] = [512, 1024, 2048, 4096];
-const ROUNDS: usize = 101;
+/// The level limits of a build, of growth, and of the measure of memory.
+const LEVELS: [u32; 10] = [1, 2, 3, 4, 5, 6, 7, 8, 16, 32];
+const GROWING: [u32; 3] = [K, 8, 32];
+const FEW: std::ops::RangeInclusive<u32> = 2..=8;
+const SIZES: [usize; 6] = [512, 1024, 2048, 4096, 16_384, 65_536];
 /// The most elements of a build.
 const ELEMENTS: usize = hongsamuk::ELEMENTS as usize;
 /// Rows of a block of 8 bits.
@@ -85,12 +87,21 @@ fn timed(kind: Kind, levels: u32, routes: &Routes) -> (Timed, u64) {
     let mut theirs = ours.clone();
     let (mut scratch, mut other) = (scratch(routes), scratch(routes));
     let timed = alternate(
-        ROUNDS,
+        rounds(routes),
         || archive(kind, levels, routes, &mut scratch, &mut ours),
         || in_plain_rust(kind, levels, routes, &mut other, &mut theirs),
     );
     assert!(ours.hop == theirs.hop && ours.link == theirs.link && ours.stride == theirs.stride, "the same rows");
     (timed, cost)
+}
+
+/// Fewer rounds where a build takes long.
+fn rounds(routes: &Routes) -> usize {
+    match routes.value.len() {
+        0..=4096 => 101,
+        4097..=16_384 => 21,
+        _ => 5,
+    }
 }
 
 fn milliseconds(nanoseconds: f64) -> f64 {
@@ -102,17 +113,17 @@ fn columns(timed: &Timed) -> String {
     format!("{:.2} | {:.2} | {:.2} |", milliseconds(timed.first), milliseconds(timed.second), timed.ratio)
 }
 
-/// All k at the full size, and the bitmap.
+/// Both kinds with each level limit, and the bitmap.
 pub fn measure(routes: &Routes) {
     println!("| Kind | k | Rows | Archive, ms | Plain Rust, ms | Ratio |");
     println!("|---|---|---|---|---|---|");
     for kind in [Kind::Fixed, Kind::Variable] {
-        for levels in 1..=LEVELS {
+        for levels in LEVELS {
             let (timed, cost) = timed(kind, levels, routes);
             println!("| {kind:?} | {levels} | {cost} | {}", columns(&timed));
         }
     }
-    let (timed, Needed { supernodes, .. }) = timed_build(routes, ROUNDS);
+    let (timed, Needed { supernodes, .. }) = timed_build(routes, rounds(routes));
     println!("| Bitmap | | {supernodes} | {}", columns(&timed));
 }
 
@@ -121,7 +132,7 @@ pub fn growth(seed: u64) {
     println!("| Kind | k | n | Trie nodes | Rows | Archive, ms | Plain Rust, ms | Ratio |");
     println!("|---|---|---|---|---|---|---|---|");
     for kind in [Kind::Fixed, Kind::Variable] {
-        for levels in [K, LEVELS] {
+        for levels in GROWING {
             for n in SIZES {
                 let routes = Routes::new(n, 0, seed);
                 let (timed, cost) = timed(kind, levels, &routes);
@@ -130,7 +141,8 @@ pub fn growth(seed: u64) {
         }
     }
     for n in SIZES {
-        let (timed, Needed { nodes, supernodes }) = timed_build(&Routes::new(n, 0, seed), ROUNDS);
+        let routes = Routes::new(n, 0, seed);
+        let (timed, Needed { nodes, supernodes }) = timed_build(&routes, rounds(&routes));
         println!("| Bitmap | | {n} | {nodes} | {supernodes} | {}", columns(&timed));
     }
 }
@@ -143,7 +155,7 @@ pub fn memory(routes: &Routes) {
     println!("| k | Fixed: E | of one level | of 8-8-8-8 | Variable: E | of one level | of 8-8-8-8 |");
     println!("|---|---|---|---|---|---|---|");
     let share = |e: u64, of: u64| format!("{:.3} %", 100.0 * e as f64 / of as f64);
-    for levels in 2..=LEVELS {
+    for levels in FEW {
         let columns: String = [Kind::Fixed, Kind::Variable]
             .into_iter()
             .map(|kind| least(kind, levels, routes))
@@ -160,7 +172,7 @@ fn bytes(routes: &Routes) {
     let a_route = |bytes: u64| bytes as f64 / routes.value.len() as f64;
     println!("| k | Fixed: bytes a route | Variable: bytes a route |");
     println!("|---|---|---|");
-    for levels in 2..=LEVELS {
+    for levels in FEW {
         let of = |kind| a_route(least(kind, levels, routes) * ELEMENT);
         println!("| {levels} | {:.1} | {:.1} |", of(Kind::Fixed), of(Kind::Variable));
     }

@@ -1,6 +1,7 @@
 //! Route tables and addresses to measure with, the same on every run.
 
 use reference::random::{cut, Random};
+use std::collections::BTreeSet;
 
 pub const WIDTH: u32 = 32;
 /// Routes of each length from 8 bits on, of a thousand: most have 24 bits, as in tables of the internet, and none has more.
@@ -44,8 +45,7 @@ fn length(random: &mut Random) -> u32 {
 }
 
 impl Routes {
-    fn of(mut prefixes: Vec<(u32, u8)>, random: &mut Random) -> Routes {
-        prefixes.sort();
+    fn of(prefixes: BTreeSet<(u32, u8)>, random: &mut Random) -> Routes {
         Routes {
             value: prefixes.iter().map(|p| p.0).collect(),
             length: prefixes.iter().map(|p| p.1).collect(),
@@ -56,7 +56,7 @@ impl Routes {
     /// n different routes, the last `hosts` of them with all 32 bits.
     pub fn new(n: usize, hosts: usize, seed: u64) -> Routes {
         let mut random = Random::new(seed);
-        let mut prefixes: Vec<(u32, u8)> = vec![];
+        let mut prefixes: BTreeSet<(u32, u8)> = BTreeSet::new();
         let mut allocations: Vec<u64> = vec![];
         while prefixes.len() < n {
             if allocations.is_empty() || random.one_in(ALLOCATION) {
@@ -65,10 +65,7 @@ impl Routes {
             let at = allocations[random.within(0, allocations.len() as u64 - 1) as usize];
             let inside = random.next() & ((1 << (WIDTH - ALLOCATED)) - 1);
             let length = if prefixes.len() + hosts < n { length(&mut random) } else { WIDTH };
-            let prefix = (cut(WIDTH, at | inside, length), length as u8);
-            if !prefixes.contains(&prefix) {
-                prefixes.push(prefix);
-            }
+            prefixes.insert((cut(WIDTH, at | inside, length), length as u8));
         }
         Routes::of(prefixes, &mut random)
     }

@@ -3,13 +3,13 @@
 
 use super::{Table, LEVELS, WIDTH};
 
-/// Numbers in a row.
-pub const ROW: usize = STRIDE + LEVELS;
 /// Columns: the marks after a 0 and a 1, the depth, the costs and the strides; the links are columns 0 and 1.
 pub const MARK: usize = 2;
 pub const DEPTH: usize = 4;
 pub const COST: usize = 8;
 pub const STRIDE: usize = COST + LEVELS;
+/// Numbers in a row.
+pub const ROW: usize = STRIDE + LEVELS;
 
 /// Column c of the row at a link, 0 where there is none.
 #[inline]

@@ -3,7 +3,7 @@
 use super::WIDTH;
 
 /// The most entries.
-const ENTRIES: usize = 65536;
+const ENTRIES: usize = 65_536;
 /// The hop that is no hop of an entry, besides 0.
 const NO_HOP: u16 = 65535;
 
