@@ -26,7 +26,7 @@ const LARGE: Most = Most {
 /// Addresses asked of each build.
 const ASKED: u64 = 1_000;
 
-/// Tables of one size: the most entries, the level limits, and the element lists that are lent; some builds need more and are refused.
+/// Tables of one size: the most entries, the level limits, and the rows of the element lists; some builds need more and are refused.
 struct Size {
     entries: usize,
     levels: &'static [u32],
@@ -34,7 +34,7 @@ struct Size {
 }
 
 const SMALLER: Size = Size { entries: 4_096, levels: &[1, 2, 3, 5, 8, 32], rows: 1 << 19 };
-const MOST: Size = Size { entries: ENTRIES, levels: &[1, 2, 3, 5, 8, 16, 32], rows: 1 << 20 };
+const LARGEST: Size = Size { entries: ENTRIES, levels: &[1, 2, 3, 5, 8, 16, 32], rows: 1 << 20 };
 
 fn outcome((refusal, record): &(Refusal, Record)) -> String {
     match refusal.number {
@@ -96,8 +96,8 @@ impl Size {
         self.of(32, routes, random)
     }
 
-    /// A table in elements, both kinds, every level limit, then as a bitmap. Besides, a larger limit and the variable kind must not
-    /// cost more.
+    /// A table in elements, both kinds, every level limit and too little scratch, then as a bitmap. Besides, a larger limit and the
+    /// variable kind must not cost more.
     fn tried(&self, name: &str, table: &Table, trial: &mut Trial) -> Same {
         let (n, nodes) = (table.value.len(), Trie::of(table).size());
         println!("{name}: {n} entries of width {}, {nodes} nodes", table.width);
@@ -114,6 +114,7 @@ impl Size {
                 }
                 (less, *most) = (cost, cost);
             }
+            trial.scarce(table, nodes, kind, 1).map_err(|text| format!("{name}, {n} entries, {kind:?}: {text}"))?;
         }
         bitmaps(trial, table).map_err(|text| format!("{name}, {n} entries, as a bitmap: {text}"))
     }
@@ -132,15 +133,15 @@ fn smaller(trial: &mut Trial, random: &mut Random) -> Same {
     SMALLER.tried("all of 32 bits", &parted, trial)
 }
 
-/// All of 16 bits, of 8 to 24, of any lengths, and a quarter as many of 32 bits: more of these have more nodes than memory should hold.
-fn most(trial: &mut Trial, random: &mut Random) -> Same {
-    let n = MOST.entries as u32;
-    let sixteen = MOST.of(32, (0..n).map(|i| (i << 16, 16)).collect(), random);
-    let hosts = MOST.of(32, (0..n / 4).map(|_| random.prefix(32, 32, 32)).collect(), random);
-    MOST.tried("all of 16 bits", &sixteen, trial)?;
-    MOST.tried("of 8 to 24 bits", &MOST.routes(random), trial)?;
-    MOST.tried("nested", &MOST.nested(random), trial)?;
-    MOST.tried("all of 32 bits", &hosts, trial)
+/// All of 16 bits, of 8 to 24, of any lengths, and a quarter as many of 32 bits, whose nodes are many.
+fn largest(trial: &mut Trial, random: &mut Random) -> Same {
+    let n = LARGEST.entries as u32;
+    let sixteen = LARGEST.of(32, (0..n).map(|i| (i << 16, 16)).collect(), random);
+    let hosts = LARGEST.of(32, (0..n / 4).map(|_| random.prefix(32, 32, 32)).collect(), random);
+    LARGEST.tried("all of 16 bits", &sixteen, trial)?;
+    LARGEST.tried("of 8 to 24 bits", &LARGEST.routes(random), trial)?;
+    LARGEST.tried("nested", &LARGEST.nested(random), trial)?;
+    LARGEST.tried("all of 32 bits", &hosts, trial)
 }
 
 /// The bitmap of the table that is lent, in lists just long enough, then with each of them in turn one shorter.
@@ -167,7 +168,7 @@ pub fn run() -> bool {
     let same = limits(&mut trial)
         .and_then(|()| chain(&mut trial))
         .and_then(|()| smaller(&mut trial, random))
-        .and_then(|()| most(&mut trial, random));
+        .and_then(|()| largest(&mut trial, random));
     if let Err(text) = same {
         println!("DIFFERENCE: {text}");
         return false;

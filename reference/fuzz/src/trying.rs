@@ -178,6 +178,12 @@ impl Trial<'_> {
         Ok((outcome, record))
     }
 
+    /// The chooser of a table that is lent, with one word of scratch less than so many nodes take.
+    pub fn scarce(&mut self, table: &Table, nodes: usize, kind: Kind, levels: u32) -> Same {
+        let scratch = self.marks(nodes * SCRATCH_ROW - 1, |mark| mark | 1);
+        self.choose_over(table, kind, levels, scratch).map(|_| ())
+    }
+
     fn entries(&mut self, table: &Table) -> Same {
         let (number, detail) = numbers(table.check());
         same("check", self.lists.check(table.width), raw::Checked { number, detail })?;
