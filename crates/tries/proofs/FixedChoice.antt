@@ -74,7 +74,7 @@ module _ (n d i : ℕ) (costs strides : List ℕ) where
       kept : (r : ℕ) → (bestCost (lower costs1 r) n d r ≡ bestCost (lower costs r) n d r) × (bestStride (lower costs1 r) n d r ≡ bestStride (lower costs r) n d r)
       kept zero = (refl, refl)
       kept (suc q) =
-          let e : lower costs1 (suc q) ≡ lower costs (suc q) = fun-ext (λ j. a .costs-below ((i + 1) * LEVELS + suc q - 1 + j * LEVELS) (omega arith)) in
+          let e : lower costs1 (suc q) ≡ lower costs (suc q) = fun-ext (λ j. a .costs-below (j * LEVELS + ((i + 1) * LEVELS + suc q - 1)) (omega arith)) in
           (ap (λ (f : ℕ → ℕ). bestCost f n d (suc q)) e, ap (λ (f : ℕ → ℕ). bestStride f n d (suc q)) e)
 
 -- what is chosen there is what the recurrence says
@@ -132,7 +132,7 @@ filled-next nodes levels depth i costs strides costs′ strides′ few h f a = r
     below-is : (r q : ℕ) → r ≡ suc q → r < levels → (j : ℕ) → j ≤ depth - i - 1
         → column ((i + 1) * LEVELS + r - 1) LEVELS costs j ≡ fixBy held nodes q (i + suc j) (depth - i - 1 - j)
     below-is r q z l j p =
-        let e : (i + 1) * LEVELS + r - 1 + j * LEVELS ≡ (i + suc j) * LEVELS + q = omega arith in
+        let e : j * LEVELS + ((i + 1) * LEVELS + r - 1) ≡ (i + suc j) * LEVELS + q = omega arith in
         let g : depth - (i + suc j) ≡ depth - i - 1 - j = omega arith in
         ap (λ (x : ℕ). getD costs x 0) e ∙ f .cost (i + suc j) q (omega arith) (omega arith) (omega arith) ∙ ap (λ (x : ℕ). fixBy held nodes q (i + suc j) x) g
 

@@ -16,7 +16,7 @@ use Rattle.strides.proofs.Sums.{sum-deep}
 use Rattle.walk.specs.Limits.{WIDTH}
 use Rattle.tries.specs.Limits.{COST-CAP}
 use Rattle.tries.specs.Scratch.{ask, BEFORE-COSTS}
-use Rattle.tries.specs.Costs.{held, COLUMNS, Pass, SUM-CELLS, slot, SmallSums, RowAdded, Lifted, HandedUp, downTo0, PagesIn, SumsOut, Sums}
+use Rattle.tries.specs.Costs.{held, COLUMNS, Pass, SUM-CELLS, slot, SmallSums, RowAdded, Lifted, HandedUp, sumTo, SumsIn, SumsOut, Sums, SUM-LINES}
 
 pub same? : (a b : ℕ) → (a ≡ b) ⊎ (a ≡ b → ⊥)
 same? a b = elim (decLe a b) [ yes p ↦ elim (decLe b a) [ yes q ↦ inl (omega arith) | no q ↦ inr (λ e. omega arith) ] | no p ↦ inr (λ e. omega arith) ]
@@ -45,7 +45,7 @@ module _ (from : ℕ) (rows : List ℕ) (k j : ℕ) (sums : List ℕ) where
             (λ (z : i ≡ place → ⊥). omega (arith, far i z, a .small s i)) (same? i place);
       }
 
--- ---- rows handed up
+-- ---- lines handed up
 
 module _ (sums : List ℕ) (up down : ℕ) where
   pub lift-start : Lifted sums up down 0 sums
@@ -107,24 +107,27 @@ handed-up from to rows k j below m sums sums1 sums2 pass h a b = record {
 
 -- ---- the sums of a tree
 
-down-next : (w : ℕ) → 0 < w → downTo0 w ≡ w + downTo0 (w - 1)
-unfolding downTo0
+down-next : (w : ℕ) → 0 < w → sumTo w ≡ w + sumTo (w - 1)
+unfolding sumTo
 down-next zero h = absurd (omega arith)
 down-next (suc w) h = let e : suc w - 1 ≡ w = omega arith in rw e
 
--- the last row is only read
-down-twice : (w : ℕ) → w + w ≤ downTo0 w + 1
-unfolding downTo0
+-- the last line is only read
+down-twice : (w : ℕ) → w + w ≤ sumTo w + 1
+unfolding sumTo
 down-twice zero = omega arith
 down-twice (suc zero) = omega arith
 down-twice (suc (suc w)) = omega (arith, down-twice (suc w))
 
+pub lines-enough : sumTo WIDTH + 1 ≡ SUM-LINES
+unfolding sumTo
+lines-enough = refl
+
 -- at the root of all, with no sum yet
-pub pages-start : PagesIn 0 WIDTH (replicate SUM-CELLS 0)
-unfolding downTo0
-pages-start = record {
+pub sums-start : SumsIn 0 WIDTH (replicate SUM-CELLS 0)
+sums-start = record {
   long = length-replicate {A = ℕ} SUM-CELLS 0;
-  room = omega arith;
+  room = omega (arith, lines-enough);
   small = λ i. omega (arith, zeros-read SUM-CELLS i);
   blank = λ i h. zeros-read SUM-CELLS i;
 }
@@ -144,33 +147,33 @@ added-all {from} {to} {j} {t} {sums} {sums′} o small i r lo hi = go (decLe (de
           sum-deep (optBy held r) t i h,
         )
 
-module _ {j w : ℕ} {sums : List ℕ} (g : PagesIn j w sums) where
-  -- the rows of what stands below
-  pub pages-below : 0 < w → PagesIn (j + w) (w - 1) sums
-  pages-below h = record {
+module _ {j w : ℕ} {sums : List ℕ} (g : SumsIn j w sums) where
+  -- the lines of what stands below
+  pub sums-below : 0 < w → SumsIn (j + w) (w - 1) sums
+  sums-below h = record {
     long = g .long;
     room = omega (arith, g .room, down-next w h);
     small = g .small;
     blank = λ i l. g .blank i (omega arith);
   }
 
-  pub pages-after : {from to : ℕ} {t : Trie} {sums′ : List ℕ} → depth t ≤ w → length sums′ ≡ length sums → SumsOut from to j t sums sums′ → PagesIn j w sums′
-  pages-after {t = t} deep len o = record {
+  pub sums-after : {from to : ℕ} {t : Trie} {sums′ : List ℕ} → depth t ≤ w → length sums′ ≡ length sums → SumsOut from to j t sums sums′ → SumsIn j w sums′
+  sums-after {t = t} deep len o = record {
     long = len ∙ g .long;
     room = g .room;
     small = o .small;
     blank = λ i l. o .after i (omega arith) ∙ g .blank i l;
   }
 
-  pub pages-room : (j + w + w) * COLUMNS ≤ length sums
-  pages-room = omega (arith, g .long, g .room, down-twice w)
+  pub sums-room : (j + w + w) * COLUMNS ≤ length sums
+  sums-room = omega (arith, g .long, g .room, down-twice w)
 
   -- nothing stands here
   pub sums-none : {from to : ℕ} → SumsOut from to j none sums sums
   unfolding depth
   sums-none = record { added = λ i r h lo hi. absurd (omega arith); before = λ i h. refl; after = λ i h. refl; small = g .small }
 
-  -- the two sides, in the rows below
+  -- the two sides, in the lines below
   module _ {from to : ℕ} {a b : Trie} {sums1 sums2 : List ℕ} (pass : Pass from to) (deep : suc (max (depth a) (depth b)) ≤ w)
       (left : SumsOut from to (j + w) a sums sums1) (right : SumsOut from to (j + w) b sums1 sums2) where
     pub both-sums : Sums from to (j + w) sums2 a b

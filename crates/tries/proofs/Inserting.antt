@@ -158,33 +158,33 @@ module _ (rows : List ℕ) (x p : ℕ) (l : Tree) (q : ℕ) (r : Tree) where
   deep-sides n zero d = (d .1, d .2)
   deep-sides n (suc s) d = (d .2, d .1)
 
+  other : (h c i : ℕ) → (i ≡ x * ROW + c → ⊥) → getD (set rows (x * ROW + c) h) i 0 ≡ getD rows i 0
+  other h c i ne = getD-set-other rows (x * ROW + c) i h 0 ne
+
   -- after the last bit
   mark-put : (h s : ℕ) → s < 2 → (x + 1) * ROW ≤ length rows → Apart T → Stand rows T → Stand (set rows (x * ROW + (2 + s)) h) (setMark s x T h)
   mark-put h s hs fits a u = go s hs
     where
-      other : (c i : ℕ) → (i ≡ x * ROW + c → ⊥) → getD (set rows (x * ROW + c) h) i 0 ≡ getD rows i 0
-      other c i ne = getD-set-other rows (x * ROW + c) i h 0 ne
-
       far : (c : ℕ) → c < ROW → (t : Tree) → (HasRow x t → ⊥) → Stand rows t → Stand (set rows (x * ROW + c) h) t
       far c hc t off st = keep-stand rows (set rows (x * ROW + c) h) t
-          (λ y hy e he. let ne : y ≡ x → ⊥ = λ z. off (subst (λ (w : ℕ). HasRow w t) z hy) in other c (y * ROW + e) (omega arith)) st
+          (λ y hy e he. let ne : y ≡ x → ⊥ = λ z. off (subst (λ (w : ℕ). HasRow w t) z hy) in other h c (y * ROW + e) (omega arith)) st
 
       go : (s : ℕ) → s < 2 → Stand (set rows (x * ROW + (2 + s)) h) (setMark s x T h)
       go zero l2 = (
         record {
-          link0 = other 2 (x * ROW + 0) (omega arith) ∙ u .0 .link0;
-          link1 = other 2 (x * ROW + 1) (omega arith) ∙ u .0 .link1;
+          link0 = other h 2 (x * ROW + 0) (omega arith) ∙ u .0 .link0;
+          link1 = other h 2 (x * ROW + 1) (omega arith) ∙ u .0 .link1;
           mark0 = getD-set-same rows (x * ROW + 2) h 0 (omega arith);
-          mark1 = other 2 (x * ROW + 3) (omega arith) ∙ u .0 .mark1;
+          mark1 = other h 2 (x * ROW + 3) (omega arith) ∙ u .0 .mark1;
         },
         far 2 (omega arith) l (a .0) (u .1),
         far 2 (omega arith) r (a .1) (u .2),
       )
       go (suc zero) l2 = (
         record {
-          link0 = other 3 (x * ROW + 0) (omega arith) ∙ u .0 .link0;
-          link1 = other 3 (x * ROW + 1) (omega arith) ∙ u .0 .link1;
-          mark0 = other 3 (x * ROW + 2) (omega arith) ∙ u .0 .mark0;
+          link0 = other h 3 (x * ROW + 0) (omega arith) ∙ u .0 .link0;
+          link1 = other h 3 (x * ROW + 1) (omega arith) ∙ u .0 .link1;
+          mark0 = other h 3 (x * ROW + 2) (omega arith) ∙ u .0 .mark0;
           mark1 = getD-set-same rows (x * ROW + 3) h 0 (omega arith);
         },
         far 3 (omega arith) l (a .0) (u .1),
@@ -196,15 +196,12 @@ module _ (rows : List ℕ) (x p : ℕ) (l : Tree) (q : ℕ) (r : Tree) where
   unfolding depth
   mark-deep h s hs a d up = go s hs
     where
-      other : (c i : ℕ) → (i ≡ x * ROW + c → ⊥) → getD (set rows (x * ROW + c) h) i 0 ≡ getD rows i 0
-      other c i ne = getD-set-other rows (x * ROW + c) i h 0 ne
-
       far : (c : ℕ) → c < DEPTH → (t : Tree) → Deep rows t → Deep (set rows (x * ROW + c) h) t
-      far c hc t dt = keep-deep rows (set rows (x * ROW + c) h) t (λ y hy. other c (y * ROW + DEPTH) (omega arith)) dt
+      far c hc t dt = keep-deep rows (set rows (x * ROW + c) h) t (λ y hy. other h c (y * ROW + DEPTH) (omega arith)) dt
 
       go : (s : ℕ) → s < 2 → Deep (set rows (x * ROW + (2 + s)) h) (setMark s x T h)
-      go zero l2 = (other 2 (x * ROW + DEPTH) (omega arith) ∙ omega (arith, d .0), far 2 (omega arith) l (d .1), far 2 (omega arith) r (d .2))
-      go (suc zero) l2 = (other 3 (x * ROW + DEPTH) (omega arith) ∙ omega (arith, d .0), far 3 (omega arith) l (d .1), far 3 (omega arith) r (d .2))
+      go zero l2 = (other h 2 (x * ROW + DEPTH) (omega arith) ∙ omega (arith, d .0), far 2 (omega arith) l (d .1), far 2 (omega arith) r (d .2))
+      go (suc zero) l2 = (other h 3 (x * ROW + DEPTH) (omega arith) ∙ omega (arith, d .0), far 3 (omega arith) l (d .1), far 3 (omega arith) r (d .2))
       go (suc (suc s)) l2 = absurd (omega arith)
 
 pub record Ready (rows rows1 : List ℕ) (x s used y used1 : ℕ) (k : Tree) : Type 0 where

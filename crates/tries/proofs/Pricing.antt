@@ -82,8 +82,8 @@ choice-more below n d (suc q) ne = let f : d - 1 ≡ pred d = omega arith in rw 
 
 -- ---- storing them, number by number
 
-module _ (from : ℕ) (rows : List ℕ) (x d place : ℕ) (sums : List ℕ) where
-  pub store-start : Stored from from rows x d place sums rows
+module _ (from : ℕ) (rows : List ℕ) (x d first : ℕ) (sums : List ℕ) where
+  pub store-start : Stored from from rows x d first sums rows
   store-start = record {
     cost = λ r h g. absurd (omega arith);
     stride = λ r h g. absurd (omega arith);
@@ -93,11 +93,11 @@ module _ (from : ℕ) (rows : List ℕ) (x d place : ℕ) (sums : List ℕ) wher
   }
 
   abbrev below : ℕ → ℕ → ℕ
-  below r = column (place + (r - from)) COLUMNS sums
+  below r = column (first + (r - from)) COLUMNS sums
 
   pub store-next : (rows1 rows2 rows3 : List ℕ) (m c s : ℕ) → from ≤ m → m < LEVELS → (x + 1) * ROW ≤ length rows1 → (x + 1) * ROW ≤ length rows2
-      → Stored from m rows x d place sums rows1 → c ≡ bestCost (below m) 1 d m → s ≡ bestStride (below m) 1 d m
-      → rows2 ≡ set rows1 (x * ROW + (COST + m)) c → rows3 ≡ set rows2 (x * ROW + (STRIDE + m)) s → Stored from (m + 1) rows x d place sums rows3
+      → Stored from m rows x d first sums rows1 → c ≡ bestCost (below m) 1 d m → s ≡ bestStride (below m) 1 d m
+      → rows2 ≡ set rows1 (x * ROW + (COST + m)) c → rows3 ≡ set rows2 (x * ROW + (STRIDE + m)) s → Stored from (m + 1) rows x d first sums rows3
   store-next rows1 rows2 rows3 m c s lo hm f1 f2 st ec es e2 e3 =
       let one : (i : ℕ) → (i ≡ x * ROW + (COST + m) → ⊥) → getD rows2 i 0 ≡ getD rows1 i 0
       = λ i ne. ap (λ (l : List ℕ). getD l i 0) e2 ∙ getD-set-other rows1 (x * ROW + (COST + m)) i c 0 ne in

@@ -13,11 +13,11 @@ use Rattle.strides.specs.Recurrence.{optBy, pickBy}
 use Rattle.walk.specs.Limits.{WIDTH, LEVELS}
 use Rattle.tries.specs.Scratch.{ROW, ask, COST, DEPTH, STRIDE, BEFORE-COSTS}
 use Rattle.tries.specs.Trees.{Tree, nil, fork, shape, col, HasRow}
-use Rattle.tries.specs.Costs.{Priced, AllPriced, column, COLUMNS, Pass, Stored, HandedUp, FinishIn}
-use Rattle.tries.specs.Costs.{held, TreeIn, TreeOut, TreeAsk, TreeDone, PagesIn, SumsOut, SumsDone, Sums}
+use Rattle.tries.specs.Costs.{Priced, AllPriced, column, COLUMNS, Pass, Stored, HandedUp, SettleIn}
+use Rattle.tries.specs.Costs.{held, TreeIn, TreeOut, TreeAsk, TreeDone, SumsIn, SumsOut, SumsDone, Sums}
 use Rattle.tries.proofs.Frames.{keep-stand, keep-deep}
 use Rattle.tries.proofs.Pricing.{best-cost, best-stride}
-use Rattle.tries.proofs.Gathering.{pages-below, pages-after, pages-room, sums-none, both-sums, sums-node}
+use Rattle.tries.proofs.Gathering.{sums-below, sums-after, sums-room, sums-none, both-sums, sums-node}
 
 pub ask-col : (rows : List ℕ) (x c : ℕ) → ask rows (x + 1) c ≡ col rows x c
 unfolding ask
@@ -113,7 +113,7 @@ module _ (from to : ℕ) (pass : Pass from to) (rows : List ℕ) (k d x p : ℕ)
         below-is : (i m : ℕ) → i ≡ suc m → from ≤ i → i < to → (j : ℕ) → j ≤ max (depth (shape l)) (depth (shape r))
             → column (below * COLUMNS + (i - from)) COLUMNS sums j ≡ held (sumBelow j (optBy held m) (shape l) + sumBelow j (optBy held m) (shape r))
         below-is i m e lo hi j h =
-            let f : below * COLUMNS + (i - from) + j * COLUMNS ≡ (below + j) * COLUMNS + (suc m - from) = omega arith in
+            let f : j * COLUMNS + (below * COLUMNS + (i - from)) ≡ (below + j) * COLUMNS + (suc m - from) = omega arith in
             ap (λ (y : ℕ). getD sums y 0) f ∙ sum j m (omega arith) (omega arith)
 
         own-priced : Priced to rows3 x (node p (shape l) q (shape r))
@@ -189,18 +189,18 @@ module _ {from to : ℕ} (pass : Pass from to) {rows : List ℕ} {k d : ℕ} whe
   none-settled z nil g = record { stand = tt; depths = tt; priced = tt; above = λ y i h lo hi. absurd h; others = λ y h c hc. refl }
   none-settled z (fork x p l q r) g = absurd (omega (arith, g .link))
 
-  module _ {j : ℕ} {sums : List ℕ} (pages : PagesIn j (WIDTH - d) sums) where
+  module _ {j : ℕ} {sums : List ℕ} (lent : SumsIn j (WIDTH - d) sums) where
     pub none-summed : k ≡ 0 → SumsDone from to rows k d j sums sums
     unfolding shape
-    none-summed z nil g = sums-none pages
+    none-summed z nil g = sums-none lent
     none-summed z (fork x p l q r) g = absurd (omega (arith, g .link))
 
     module _ (ne : k ≡ 0 → ⊥) where
-      pub left-pages : TreeAsk from rows k d → PagesIn (j + (WIDTH - d)) (WIDTH - (d + 1)) sums
-      left-pages a =
+      pub left-sums : TreeAsk from rows k d → SumsIn (j + (WIDTH - d)) (WIDTH - (d + 1)) sums
+      left-sums a =
           let f = some-fits a ne in
           let e : WIDTH - (d + 1) ≡ WIDTH - d - 1 = omega arith in
-          rw e (pages-below pages (omega arith))
+          rw e (sums-below lent (omega arith))
 
       module _ {rows1 sums1 : List ℕ} (len1 : length rows1 ≡ length rows) (long1 : length sums1 ≡ length sums)
           (d1 : TreeDone from to rows (ask rows k 0) (d + 1) rows1) (s1 : SumsDone from to rows (ask rows k 0) (d + 1) (j + (WIDTH - d)) sums sums1) where
@@ -208,11 +208,11 @@ module _ {from to : ℕ} (pass : Pass from to) {rows : List ℕ} {k d : ℕ} whe
         some-right (nil, g) = absurd (ne (g .link))
         some-right (fork x p l q r, g) = (r, right-tree from to pass rows k d x p l q r g rows1 len1 (d1 l (left-tree from to pass rows k d x p l q r g)))
 
-        pub right-pages : TreeAsk from rows k d → PagesIn (j + (WIDTH - d)) (WIDTH - (d + 1)) sums1
-        right-pages (nil, g) = absurd (ne (g .link))
-        right-pages (fork x p l q r, g) =
+        pub right-sums : TreeAsk from rows k d → SumsIn (j + (WIDTH - d)) (WIDTH - (d + 1)) sums1
+        right-sums (nil, g) = absurd (ne (g .link))
+        right-sums (fork x p l q r, g) =
             let t = left-tree from to pass rows k d x p l q r g in
-            pages-after (left-pages (fork x p l q r, g)) (omega (arith, t .deep)) long1 (s1 l t)
+            sums-after (left-sums (fork x p l q r, g)) (omega (arith, t .deep)) long1 (s1 l t)
 
         module _ {rows2 sums2 : List ℕ} (len2 : length rows2 ≡ length rows1) (long2 : length sums2 ≡ length sums1)
             (d2 : TreeDone from to rows1 (ask rows1 k 1) (d + 1) rows2) (s2 : SumsDone from to rows1 (ask rows1 k 1) (d + 1) (j + (WIDTH - d)) sums1 sums2) where
@@ -230,14 +230,14 @@ module _ {from to : ℕ} (pass : Pass from to) {rows : List ℕ} {k d : ℕ} whe
             unfolding shape depth
             reaches = omega (arith, g .deep)
 
-            finish-at : FinishIn from to rows2 k j (j + (WIDTH - d)) sums2
-            finish-at = record {
+            settle-at : SettleIn from to rows2 k j (j + (WIDTH - d)) sums2
+            settle-at = record {
               pass = pass;
               some = omega (arith, g .link);
               fits = omega (arith, node-fits from to pass rows k d x p l q r g);
               deep = (omega (arith, deep-is), omega (arith, deep-is, reaches));
               reach = omega (arith, deep-is, reaches);
-              room = omega (arith, deep-is, reaches, pages-room pages);
+              room = omega (arith, deep-is, reaches, sums-room lent);
             }
 
             module _ (rows3 sums3 : List ℕ) (st : Stored from to rows2 (k - 1) (ask rows2 k DEPTH) ((j + (WIDTH - d)) * COLUMNS) sums2 rows3)
@@ -248,20 +248,20 @@ module _ {from to : ℕ} (pass : Pass from to) {rows : List ℕ} {k d : ℕ} whe
               tree-at : TreeOut to rows rows3 (fork x p l q r)
               tree-at =
                   tree-settled from to pass rows k d x p l q r g rows1 len1 (d1 l first) rows2 len2 (d2 r second) rows3 (j + (WIDTH - d)) sums2 stored-at
-                  (both-sums pages pass reaches (s1 l first) (s2 r second))
+                  (both-sums lent pass reaches (s1 l first) (s2 r second))
 
               sums-at : SumsOut from to j (shape (fork x p l q r)) sums sums3
               unfolding shape
               sums-at =
                   let m : ask rows2 k DEPTH - 1 ≡ max (depth (shape l)) (depth (shape r)) = omega (arith, deep-is) in
-                  sums-node pages pass reaches (s1 l first) (s2 r second)
+                  sums-node lent pass reaches (s1 l first) (s2 r second)
                   (λ i hi. let e : BEFORE-COSTS + suc i ≡ COST + i = omega arith in
                   ap (ask rows3 k) e ∙ at-node from to pass rows k d x p l q r g rows3 (COST + i) ∙ tree-at .priced .0 .cost i (omega arith))
                   (rw m at h)
 
-          pub finish-in : TreeAsk from rows k d → FinishIn from to rows2 k j (j + (WIDTH - d)) sums2
-          finish-in (nil, g) = absurd (ne (g .link))
-          finish-in (fork x p l q r, g) = finish-at x p l q r g
+          pub settle-row-in : TreeAsk from rows k d → SettleIn from to rows2 k j (j + (WIDTH - d)) sums2
+          settle-row-in (nil, g) = absurd (ne (g .link))
+          settle-row-in (fork x p l q r, g) = settle-at x p l q r g
 
           module _ {rows3 sums3 : List ℕ} (st : Stored from to rows2 (k - 1) (ask rows2 k DEPTH) ((j + (WIDTH - d)) * COLUMNS) sums2 rows3)
               (h : HandedUp from to rows3 k j (j + (WIDTH - d)) (ask rows2 k DEPTH - 1) sums2 sums3) where

@@ -43,9 +43,9 @@ unfoldable pub bestStride : (ℕ → ℕ) → ℕ → ℕ → ℕ → ℕ
 bestStride below n d zero = d
 bestStride below n d (suc q) = suc (scan (price below n) (pred d) .0)
 
--- a column of a list in rows: its first number stands at a place, and the next ones `pitch` places later each
-abbrev pub column : (place pitch : ℕ) → List ℕ → ℕ → ℕ
-column place pitch list j = getD list (place + j * pitch) 0
+-- a column of a list: its first number stands at a place, and the next ones `pitch` places later each
+abbrev pub column : (first pitch : ℕ) → List ℕ → ℕ → ℕ
+column first pitch list j = getD list (j * pitch + first) 0
 
 -- ---- a pass: from + 1 to `to` levels left
 
@@ -58,21 +58,21 @@ pub record Pass (from to : ℕ) : Type 0 where
   pub few : to ≤ from + COLUMNS
   pub most : to ≤ LEVELS
 
--- rows of the sums: at depth d those of WIDTH - d levels, and of the nodes above; and one that is only read
-abbrev pub SUM-ROWS : ℕ
-SUM-ROWS = WIDTH * (WIDTH + 1) / 2 + 1
+-- lines of the sums: at level d those of WIDTH - d levels, and of the nodes above; and one that is only read (`lines-enough`)
+abbrev pub SUM-LINES : ℕ
+SUM-LINES = WIDTH * (WIDTH + 1) / 2 + 1
 
 abbrev pub SUM-CELLS : ℕ
-SUM-CELLS = SUM-ROWS * COLUMNS
+SUM-CELLS = SUM-LINES * COLUMNS
 
--- row j, at a number of levels left that is c more than the pass begins with
+-- line j, at a number of levels left that is c more than the pass begins with
 abbrev pub slot : List ℕ → ℕ → ℕ → ℕ
-slot sums j c = getD sums (j * COLUMNS + c) 0
+slot sums j c = column c COLUMNS sums j
 
--- row x: what is stored of the choices, from the sums that stand from `place` on; all else is kept
-pub record Stored (from to : ℕ) (rows : List ℕ) (x d place : ℕ) (sums rows′ : List ℕ) : Type 0 where
-  pub cost : (r : ℕ) → from ≤ r → r < to → col rows′ x (COST + r) ≡ bestCost (column (place + (r - from)) COLUMNS sums) 1 d r
-  pub stride : (r : ℕ) → from ≤ r → r < to → col rows′ x (STRIDE + r) ≡ bestStride (column (place + (r - from)) COLUMNS sums) 1 d r
+-- row x: what is stored of the choices, from the sums that stand from place `first` on; all else is kept
+pub record Stored (from to : ℕ) (rows : List ℕ) (x d first : ℕ) (sums rows′ : List ℕ) : Type 0 where
+  pub cost : (r : ℕ) → from ≤ r → r < to → col rows′ x (COST + r) ≡ bestCost (column (first + (r - from)) COLUMNS sums) 1 d r
+  pub stride : (r : ℕ) → from ≤ r → r < to → col rows′ x (STRIDE + r) ≡ bestStride (column (first + (r - from)) COLUMNS sums) 1 d r
   pub before : (i : ℕ) → i < x * ROW + (COST + from) → getD rows′ i 0 ≡ getD rows i 0
   pub between : (i : ℕ) → x * ROW + (COST + to) ≤ i → i < x * ROW + (STRIDE + from) → getD rows′ i 0 ≡ getD rows i 0
   pub after : (i : ℕ) → x * ROW + (STRIDE + to) ≤ i → getD rows′ i 0 ≡ getD rows i 0
@@ -81,7 +81,7 @@ pub record Stored (from to : ℕ) (rows : List ℕ) (x d place : ℕ) (sums rows
 abbrev pub SmallSums : List ℕ → Type 0
 SmallSums sums = (i : ℕ) → getD sums i 0 ≤ COST-CAP
 
--- the costs of the row at link k are added in row j of the sums
+-- the costs of the row at link k are added in line j of the sums
 pub record RowAdded (from to : ℕ) (rows : List ℕ) (k j : ℕ) (sums sums′ : List ℕ) : Type 0 where
   pub here : (r : ℕ) → 1 ≤ r → from ≤ r → r < to → slot sums′ j (r - from) ≡ held (slot sums j (r - from) + ask rows k (BEFORE-COSTS + r))
   pub before : (i : ℕ) → i < j * COLUMNS → getD sums′ i 0 ≡ getD sums i 0
@@ -97,7 +97,7 @@ pub record Lifted (sums : List ℕ) (up down n : ℕ) (sums′ : List ℕ) : Typ
   pub after : (i : ℕ) → down + n ≤ i → getD sums′ i 0 ≡ getD sums i 0
   pub small : SmallSums sums → SmallSums sums′
 
--- the m rows from row `below` on are added to those after row j, and cleared; the costs of the row at link k are added in row j
+-- the m lines from line `below` on are added to those after line j, and cleared; the costs of the row at link k are added in line j
 pub record HandedUp (from to : ℕ) (rows : List ℕ) (k j below m : ℕ) (sums sums′ : List ℕ) : Type 0 where
   pub own : (r : ℕ) → 1 ≤ r → from ≤ r → r < to → slot sums′ j (r - from) ≡ held (slot sums j (r - from) + ask rows k (BEFORE-COSTS + r))
   pub lifted : (i c : ℕ) → i < m → c < COLUMNS → slot sums′ (j + suc i) c ≡ held (slot sums (j + suc i) c + slot sums (below + i) c)
@@ -107,8 +107,8 @@ pub record HandedUp (from to : ℕ) (rows : List ℕ) (k j below m : ℕ) (sums 
   pub after : (i : ℕ) → (below + m) * COLUMNS ≤ i → getD sums′ i 0 ≡ getD sums i 0
   pub small : SmallSums sums → SmallSums sums′
 
--- settled from the sums that stand from row `below` on, which are then handed up to row j
-pub record FinishIn (from to : ℕ) (rows : List ℕ) (k j below : ℕ) (sums : List ℕ) : Type 0 where
+-- settled from the sums that stand from line `below` on, which are then handed up to line j
+pub record SettleIn (from to : ℕ) (rows : List ℕ) (k j below : ℕ) (sums : List ℕ) : Type 0 where
   pub pass : Pass from to
   pub some : 0 < k
   pub fits : k * ROW ≤ length rows
@@ -145,15 +145,15 @@ TreeDone from to rows k d rows′ = (t : Tree) → TreeIn from rows k d t → Tr
 
 -- ---- and its sums
 
--- n and n - 1 and so on, together
-unfoldable pub downTo0 : ℕ → ℕ
-downTo0 zero = 0
-downTo0 (suc n) = suc n + downTo0 n
+-- n and n - 1 and so on to 0, together
+unfoldable pub sumTo : ℕ → ℕ
+sumTo zero = 0
+sumTo (suc n) = suc n + sumTo n
 
--- the rows from j on are for w levels; those after them are 0
-pub record PagesIn (j w : ℕ) (sums : List ℕ) : Type 0 where
+-- the lines from j on are for w levels; those after them are 0
+pub record SumsIn (j w : ℕ) (sums : List ℕ) : Type 0 where
   pub long : length sums ≡ SUM-CELLS
-  pub room : j + downTo0 w + 1 ≤ SUM-ROWS
+  pub room : j + sumTo w + 1 ≤ SUM-LINES
   pub small : SmallSums sums
   pub blank : (i : ℕ) → (j + w) * COLUMNS ≤ i → getD sums i 0 ≡ 0
 
@@ -168,7 +168,7 @@ pub record SumsOut (from to j : ℕ) (t : Trie) (sums sums′ : List ℕ) : Type
 abbrev pub SumsDone : (from to : ℕ) → List ℕ → (k d j : ℕ) → List ℕ → List ℕ → Type 0
 SumsDone from to rows k d j sums sums′ = (t : Tree) → TreeIn from rows k d t → SumsOut from to j (shape t) sums sums′
 
--- what the nodes of a and b cost together, i levels below their roots, stands from row j on
+-- what the nodes of a and b cost together, i levels below their roots, stands from line j on
 abbrev pub Sums : (from to j : ℕ) → List ℕ → Trie → Trie → Type 0
 Sums from to j sums a b =
     (i r : ℕ) → from ≤ suc r → suc r < to

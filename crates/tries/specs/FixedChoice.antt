@@ -19,7 +19,7 @@ LEVEL-CELLS = (WIDTH + 1) * LEVELS
 
 -- the place for level i and r + 1 levels left
 abbrev pub cell : List ℕ → ℕ → ℕ → ℕ
-cell table i r = getD table (i * LEVELS + r) 0
+cell table i r = column r LEVELS table i
 
 -- from level i on the table is what the recurrence says of a trie of `depth` levels
 pub record Filled (nodes : ℕ → ℕ) (levels depth i : ℕ) (costs strides : List ℕ) : Type 0 where
@@ -28,7 +28,7 @@ pub record Filled (nodes : ℕ → ℕ) (levels depth i : ℕ) (costs strides : 
   pub cost : (j r : ℕ) → i ≤ j → j ≤ depth → r < levels → cell costs j r ≡ fixBy held nodes r j (depth - j)
   pub stride : (j r : ℕ) → i ≤ j → j ≤ depth → r < levels → cell strides j r ≡ pickFixedBy held nodes r j (depth - j)
 
--- one level more, as far as r levels left; rows below it are kept
+-- one level more, for 1 to `levels` levels left; rows below it are kept
 pub record RowFilled (levels n d i : ℕ) (costs strides costs′ strides′ : List ℕ) : Type 0 where
   pub long-costs : length costs′ ≡ length costs
   pub long-strides : length strides′ ≡ length strides

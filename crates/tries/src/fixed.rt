@@ -41,6 +41,7 @@ fn fill_row(n: usize, i: usize, d: usize, levels: usize, costs: &mut [u64], stri
 {
     let mut r = 0;
     while r < levels {
+        // The costs of the levels after i, with one level less; not read where r is 0.
         let b = choice(costs, (i + 1) * SLOTS + r - 1, SLOTS, n, r, d);
         let at = i * SLOTS + r;
         costs[at] = b.cost;

@@ -3,7 +3,7 @@
 use Prim.Native.Nat.{_-_}
 use Rattle.walk.specs.Limits.{WIDTH}
 use native.Mathlib.Omega.{arith}
-use Rattle.tries.proofs.Settling.{some-fits, some-left, some-right, none-settled, none-summed, left-pages, right-pages, finish-in, tree-done, sums-done}
+use Rattle.tries.proofs.Settling.{some-fits, some-left, some-right, none-settled, none-summed, left-sums, right-sums, settle-row-in, tree-done, sums-done}
 use borrow.Author.Needs.{needs}
 use Prim.Native.Nat.{ℕ, _<_}
 use borrow.Fn.Kinds.{In}
@@ -11,7 +11,7 @@ use borrow.Fn.PlainCycle.{Measures, is, falls, and}
 use Rattle.tries.proofs.costs.settle_tree.Reads as settle-tree
 use Rattle.tries.proofs.costs.settle_tree.Kinds as settle-tree-kinds
 use Rattle.tries.proofs.costs.+settle_tree.Lts-settle_tree as settle-tree-lts
-use Rattle.tries.proofs.costs.finish.Reads as finish-reads
+use Rattle.tries.proofs.costs.settle_row.Reads as settle-row-reads
 use Rattle.tries.proofs.scratch.asked.Reads as asked-reads
 use Rattle.tries.proofs.costs.+settle_tree.{statement}
 use Rattle.tries.proofs.costs.+settle_tree.Tie.{close}
@@ -28,7 +28,7 @@ settle-tree-below t =
     and 2 settle-tree-kinds.ps (falls 2 settle-tree-kinds.ps _<_ μ-settle-tree t) settle-tree.Pre
 
 abbrev cs : ℕ → settle-tree-lts.Claims
-cs t = (asked-reads.Asked, asked-reads.Learnt, settle-tree-below t, settle-tree.Post, finish-reads.Asked, finish-reads.Learnt)
+cs t = (asked-reads.Asked, asked-reads.Learnt, settle-tree-below t, settle-tree.Post, settle-row-reads.Asked, settle-row-reads.Learnt)
 
 settle-tree-cast-below : (t : ℕ) → settle-tree-lts.Need-cast-below (cs t) (settle-tree-at t) settle-tree.Post
 settle-tree-cast-below t c = search needs
@@ -62,7 +62,7 @@ settle-tree-settle-tree-requires t c κs =
       omega arith,
       (
         (rw (c .before .asked .ensures) (some-left (S .pre .1 .0 .1) (S .pre .1 .0 .0) ne), S .pre .1 .0 .1),
-        left-pages (S .pre .1 .0 .1) (S .pre .1 .1) ne (S .pre .1 .0 .0),
+        left-sums (S .pre .1 .0 .1) (S .pre .1 .1) ne (S .pre .1 .0 .0),
       ),
     )
 
@@ -88,19 +88,19 @@ settle-tree-settle-tree-requires-2 t c κs =
       omega arith,
       (
         (rw (c .before .asked2 .ensures) (some-right (S .pre .1 .0 .1) (S .pre .1 .1) ne (omega arith) (omega arith) (l .0) (l .1) (S .pre .1 .0 .0)), S .pre .1 .0 .1),
-        right-pages (S .pre .1 .0 .1) (S .pre .1 .1) ne (omega arith) (omega arith) (l .0) (l .1) (S .pre .1 .0 .0),
+        right-sums (S .pre .1 .0 .1) (S .pre .1 .1) ne (omega arith) (omega arith) (l .0) (l .1) (S .pre .1 .0 .0),
       ),
     )
 
-settle-tree-finish-requires : (t : ℕ) → settle-tree-lts.Need-finish-requires (cs t) (settle-tree-at t) settle-tree.Post
-settle-tree-finish-requires t c κs =
+settle-tree-settle-row-requires : (t : ℕ) → settle-tree-lts.Need-settle-row-requires (cs t) (settle-tree-at t) settle-tree.Post
+settle-tree-settle-row-requires t c κs =
     let right = c .before .before .before .before .before .before in
     let left = right .before .before .before .before .before .before .before .before .before in
     let S = left .before .before .before .before .before .before .before .before in
     let l = rw (left .before .before .asked .ensures) at (left .settle-tree .ensures) in
     let r = rw (right .before .before .asked2 .ensures) at (right .settle-tree2 .ensures) in
     let ne = left .before .before .before .before .before .if1 .taken in
-    finish-in (S .pre .1 .0 .1) (S .pre .1 .1) ne (omega arith) (omega arith) (l .0) (l .1) (omega arith) (omega arith) (r .0) (r .1) (S .pre .1 .0 .0)
+    settle-row-in (S .pre .1 .0 .1) (S .pre .1 .1) ne (omega arith) (omega arith) (l .0) (l .1) (omega arith) (omega arith) (r .0) (r .1) (S .pre .1 .0 .0)
 
 settle-tree-same-length : (t : ℕ) → settle-tree-lts.Need-same-length (cs t) (settle-tree-at t) settle-tree.Post
 settle-tree-same-length t c = search needs
@@ -119,7 +119,7 @@ settle-tree-returns t c =
     let r = rw (right .before .before .asked2 .ensures) at (right .settle-tree2 .ensures) in
     let p = left .settle-tree .kept in
     let q = right .settle-tree2 .kept in
-    let X = last .finish in (
+    let X = last .settle-row in (
       tree-done (S .pre .1 .0 .1) (S .pre .1 .1) ne (omega (arith, p)) (omega (arith, p)) (l .0) (l .1) (omega (arith, q)) (omega (arith, q)) (r .0) (r .1) (X .ensures .0) (X .ensures .1),
       sums-done (S .pre .1 .0 .1) (S .pre .1 .1) ne (omega (arith, p)) (omega (arith, p)) (l .0) (l .1) (omega (arith, q)) (omega (arith, q)) (r .0) (r .1) (X .ensures .0) (X .ensures .1),
     )
@@ -142,7 +142,7 @@ pub +settle-tree-spec : {M : Type 1} → statement M
     (settle-tree-asked-requires-2 t)
     (settle-tree-add-settle-tree-2 t)
     (settle-tree-settle-tree-requires-2 t)
-    (settle-tree-finish-requires t)
+    (settle-tree-settle-row-requires t)
     (settle-tree-same-length t)
     (settle-tree-same-length-2 t)
     (settle-tree-returns t)

@@ -10,10 +10,10 @@ use Rattle.tries.proofs.costs.add_row.Statement.{statement}
 use Rattle.tries.proofs.costs.add_row.Tie as tie
 
 abbrev Inv-loop : tie.InvT-loop
-Inv-loop rows k from to at sums₀ r₀ sums r = (from ≤ r) × (r ≤ to) × (length sums ≡ length sums₀) × RowAdded from r rows k at sums₀ sums
+Inv-loop rows k from to line sums₀ r₀ sums r = (from ≤ r) × (r ≤ to) × (length sums ≡ length sums₀) × RowAdded from r rows k line sums₀ sums
 
 abbrev μ-loop : tie.MeasureT-loop
-μ-loop rows k from to at sums₀ r₀ sums r = to - r
+μ-loop rows k from to line sums₀ r₀ sums r = to - r
 
 larger-requires : tie.Need-larger-requires Inv-loop μ-loop
 larger-requires c κs = search needs
@@ -25,8 +25,8 @@ loop-holds c =
       omega (arith, e),
       omega (arith, e, S .pre .0 .some),
       refl,
-      subst (λ (m : ℕ). RowAdded (S .args .from) m (S .args .rows .now) (S .args .k) (S .args .at) (S .args .sums .now) (S .args .sums .now)) (sym e)
-          (add-start (S .args .from) (S .args .rows .now) (S .args .k) (S .args .at) (S .args .sums .now)),
+      subst (λ (m : ℕ). RowAdded (S .args .from) m (S .args .rows .now) (S .args .k) (S .args .line) (S .args .sums .now) (S .args .sums .now)) (sym e)
+          (add-start (S .args .from) (S .args .rows .now) (S .args .k) (S .args .line) (S .args .sums .now)),
     )
 
 mul-bump : tie.Need-mul-bump Inv-loop μ-loop
@@ -60,8 +60,8 @@ loop-again c =
     let K = c .before .before .bump in (
       omega arith,
       omega arith,
-      ap length (K .ensures) ∙ length-set (l .sums) (S .args .at * COLUMNS + (l .r - S .args .from)) _ ∙ l .inv .2,
-      add-next (S .args .from) (S .args .rows .now) (S .args .k) (S .args .at) (S .args .sums .now) _ _ (l .r) _ (l .inv .0) (omega (arith, S .pre .0 .few)) (omega arith) (l .inv .3)
+      ap length (K .ensures) ∙ length-set (l .sums) (S .args .line * COLUMNS + (l .r - S .args .from)) _ ∙ l .inv .2,
+      add-next (S .args .from) (S .args .rows .now) (S .args .k) (S .args .line) (S .args .sums .now) _ _ (l .r) _ (l .inv .0) (omega (arith, S .pre .0 .few)) (omega arith) (l .inv .3)
           (c .before .before .before .asked .ensures) (K .ensures),
     )
 
@@ -73,7 +73,7 @@ returns c =
     let S = c .before .before .before .before .before in
     let l = c .before .loop in
     let e : l .r ≡ S .args .to = omega arith in
-    subst (λ (m : ℕ). RowAdded (S .args .from) m (S .args .rows .now) (S .args .k) (S .args .at) (S .args .sums .now) (l .sums)) e (l .inv .3)
+    subst (λ (m : ℕ). RowAdded (S .args .from) m (S .args .rows .now) (S .args .k) (S .args .line) (S .args .sums .now) (l .sums)) e (l .inv .3)
 
 pub add-row-spec : {M : Type 1} → statement M
 add-row-spec =

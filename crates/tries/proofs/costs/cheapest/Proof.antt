@@ -10,11 +10,11 @@ use Rattle.tries.proofs.costs.cheapest.Statement.{statement}
 use Rattle.tries.proofs.costs.cheapest.Tie as tie
 
 abbrev Inv-loop : tie.InvT-loop
-Inv-loop sums at pitch n depth b₀ j₀ b j =
-    (j < depth) × (b .cost ≡ scan (price (column at pitch sums) n) j .1) × (b .place ≡ scan (price (column at pitch sums) n) j .0)
+Inv-loop sums first pitch n depth b₀ j₀ b j =
+    (j < depth) × (b .cost ≡ scan (price (column first pitch sums) n) j .1) × (b .place ≡ scan (price (column first pitch sums) n) j .0)
 
 abbrev μ-loop : tie.MeasureT-loop
-μ-loop sums at pitch n depth b₀ j₀ b j = depth - j
+μ-loop sums first pitch n depth b₀ j₀ b j = depth - j
 
 price-at-requires : tie.Need-price-at-requires Inv-loop μ-loop
 price-at-requires c κs = let S = c .before in (S .pre .0 0 (omega arith), S .pre .1, omega arith)
@@ -42,7 +42,7 @@ loop-again : tie.Need-loop-again Inv-loop μ-loop
 loop-again c =
     let S = c .before .before .before .before .before .before in
     let l = c .before .before .before .loop in
-    let g = price (column (S .args .at) (S .args .pitch) (S .args .sums .now)) (S .args .n) in
+    let g = price (column (S .args .first) (S .args .pitch) (S .args .sums .now)) (S .args .n) in
     let n = scan-next g (l .j) (l .inv .1) (l .inv .2) (c .before .price-at2 .ensures) (c .cheaper .ensures .0) (c .cheaper .ensures .1) in
     (omega arith, n .0, n .1)
 
@@ -51,7 +51,7 @@ returns c =
     let S = c .before .before .before .before in
     let l = c .before .loop in
     let e : l .j ≡ S .args .depth - 1 = omega arith in
-    let g = price (column (S .args .at) (S .args .pitch) (S .args .sums .now)) (S .args .n) in
+    let g = price (column (S .args .first) (S .args .pitch) (S .args .sums .now)) (S .args .n) in
     (l .inv .1 ∙ ap (λ (n : ℕ). scan g n .1) e, l .inv .2 ∙ ap (λ (n : ℕ). scan g n .0) e)
 
 pub cheapest-spec : {M : Type 1} → statement M

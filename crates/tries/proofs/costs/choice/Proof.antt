@@ -33,7 +33,7 @@ returns c =
 returns-2 : tie.Need-returns-2
 returns-2 c =
     let S = c .before .before .before in
-    let below = column (S .args .at) (S .args .pitch) (S .args .sums .now) in
+    let below = column (S .args .first) (S .args .pitch) (S .args .sums .now) in
     let b = choice-more below (S .args .n) (S .args .depth) (S .args .r) (c .before .if1 .left) in
     let w = scanned (price below (S .args .n)) (S .args .depth - 1) .within in
     (c .cheapest .ensures .0 ∙ b .0, (ap (λ (x : ℕ). x + 1) (c .cheapest .ensures .1) ∙ b .1, omega (arith, c .cheapest .ensures .1)))

@@ -1,4 +1,3 @@
-use native.Mathlib.Omega.{arith}
 use Rattle.tries.proofs.Gathering.{handed-up}
 use borrow.Author.Needs.{needs}
 use Rattle.tries.proofs.costs.hand_up.Statement.{statement}
@@ -30,7 +29,7 @@ returns c =
     let S = c .before .before .before .before .before .before .before .before .before .before in
     let L = c .before .before .before .before .before .before .lift in
     let A = c .before .before .add-row in
-    handed-up (S .args .from) (S .args .to) (S .args .rows .now) (S .args .k) (S .args .at) (S .args .below) (S .args .m) (S .args .sums .now) (L .last .0) (A .last .1 .1 .1 .1 .1 .0)
+    handed-up (S .args .from) (S .args .to) (S .args .rows .now) (S .args .k) (S .args .line) (S .args .below) (S .args .m) (S .args .sums .now) (L .last .0) (A .last .1 .1 .1 .1 .1 .0)
     (S .pre .0) (S .pre .3) (L .ensures) (A .ensures)
 
 pub hand-up-spec : {M : Type 1} → statement M

@@ -1,4 +1,4 @@
-use Rattle.tries.proofs.Gathering.{pages-start}
+use Rattle.tries.proofs.Gathering.{sums-start}
 use borrow.Author.Needs.{needs}
 use Rattle.tries.proofs.costs.settle_pass.Statement.{statement}
 use Rattle.tries.proofs.costs.settle_pass.Tie as tie
@@ -7,7 +7,7 @@ slice-aggregate-settle-tree : tie.Need-slice-aggregate-settle-tree
 slice-aggregate-settle-tree c = search needs
 
 settle-tree-requires : tie.Need-settle-tree-requires
-settle-tree-requires c κs = let S = c .before .before .before in (S .pre, pages-start)
+settle-tree-requires c κs = let S = c .before .before .before in (S .pre, sums-start)
 
 same-length : tie.Need-same-length
 same-length c = search needs

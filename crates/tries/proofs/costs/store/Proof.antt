@@ -10,15 +10,15 @@ use Rattle.tries.proofs.costs.store.Statement.{statement}
 use Rattle.tries.proofs.costs.store.Tie as tie
 
 abbrev Inv-loop : tie.InvT-loop
-Inv-loop rows₀ x depth from to at sums r₀ rows r = (from ≤ r) × (r ≤ to) × (length rows ≡ length rows₀) × Stored from r rows₀ x depth at sums rows
+Inv-loop rows₀ x depth from to first sums r₀ rows r = (from ≤ r) × (r ≤ to) × (length rows ≡ length rows₀) × Stored from r rows₀ x depth first sums rows
 
 abbrev μ-loop : tie.MeasureT-loop
-μ-loop rows₀ x depth from to at sums r₀ rows r = to - r
+μ-loop rows₀ x depth from to first sums r₀ rows r = to - r
 
 loop-holds : tie.Need-loop-holds Inv-loop μ-loop
 loop-holds c =
     let S = c .before .before in
-    (omega arith, omega (arith, S .pre .0 .some), refl, store-start (S .args .from) (S .args .rows .now) (S .args .x) (S .args .depth) (S .args .at) (S .args .sums .now))
+    (omega arith, omega (arith, S .pre .0 .some), refl, store-start (S .args .from) (S .args .rows .now) (S .args .x) (S .args .depth) (S .args .first) (S .args .sums .now))
 
 sub-choice : tie.Need-sub-choice Inv-loop μ-loop
 sub-choice c = search needs
@@ -60,7 +60,7 @@ loop-again c =
       omega arith,
       omega arith,
       omega arith,
-      store-next (S .args .from) (S .args .rows .now) (S .args .x) (S .args .depth) (S .args .at) (S .args .sums .now) (l .rows) (Q .last .0) (T .last .0) (l .r) _ _ (l .inv .0)
+      store-next (S .args .from) (S .args .rows .now) (S .args .x) (S .args .depth) (S .args .first) (S .args .sums .now) (l .rows) (Q .last .0) (T .last .0) (l .r) _ _ (l .inv .0)
           (omega (arith, S .pre .0 .most)) (omega arith) (omega arith) (l .inv .3) (C .ensures .0) (C .ensures .1 .0) (Q .ensures) (T .ensures),
     )
 
@@ -72,7 +72,7 @@ returns c =
     let S = c .before .before .before .before in
     let l = c .before .loop in
     let e : l .r ≡ S .args .to = omega arith in
-    subst (λ (m : ℕ). Stored (S .args .from) m (S .args .rows .now) (S .args .x) (S .args .depth) (S .args .at) (S .args .sums .now) (l .rows)) e (l .inv .3)
+    subst (λ (m : ℕ). Stored (S .args .from) m (S .args .rows .now) (S .args .x) (S .args .depth) (S .args .first) (S .args .sums .now) (l .rows)) e (l .inv .3)
 
 pub store-spec : {M : Type 1} → statement M
 store-spec =

@@ -1,7 +1,6 @@
-use native.Mathlib.Omega.{arith}
 use borrow.Author.Needs.{needs}
-use Rattle.tries.proofs.costs.finish.Statement.{statement}
-use Rattle.tries.proofs.costs.finish.Tie as tie
+use Rattle.tries.proofs.costs.settle_row.Statement.{statement}
+use Rattle.tries.proofs.costs.settle_row.Tie as tie
 
 asked-requires : tie.Need-asked-requires
 asked-requires c κs = search needs
@@ -32,8 +31,8 @@ returns c =
     let A = c .before .before .before .before .before .before .before .before .before .before .asked in
     rw (← (A .ensures)) (c .before .before .before .before .before .before .before .store .ensures, c .before .before .hand-up .ensures)
 
-pub finish-spec : {M : Type 1} → statement M
-finish-spec =
+pub settle-row-spec : {M : Type 1} → statement M
+settle-row-spec =
     tie.close
     (tie.spec
     asked-requires
