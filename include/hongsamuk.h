@@ -29,6 +29,8 @@
  * of an entry, the whole entry and length 0 included. It needs as many hops as the table has entries; with these lent, and no
  * supernode, the detail of 7 is the number of supernodes.
  *
+ * A chooser or a build of elements takes some 50,000 bytes of stack, every other call little.
+ *
  * The layout of the structs, in bytes: where each field begins, then the size. The code behind the calls, this header and the calls
  * for Rust all have these numbers; the asserts at the end of this file hold a compiler of C11 or C++11 to them, and the tests of
  * the calls for Rust hold all three to this table.

@@ -11,7 +11,7 @@ TEXT = 1048576
 abbrev pub PLACES : ℕ
 PLACES = 65600
 
--- the words of scratch: fewer than a table of 65,536 entries needs for a trie, enough for its tree bitmap
+-- the words of scratch: fewer than a table of 65,536 entries needs for a trie, enough for the tree bitmap of some
 abbrev pub SCRATCH : ℕ
 SCRATCH = 600000
 

@@ -7,7 +7,7 @@ pub const TEXT: usize = 1048576;
 pub const PLACES: usize = 65600;
 
 // The words of scratch: 8,333 rows of a trie's 72, of the 8 MiB of stack that a program has. A table of 65,536 entries is refused
-// for them by the choosers and the build, and its tree bitmap, whose rows have 4 words, is built.
+// for them by the choosers and the build; the tree bitmap of some such tables, whose rows have 4 words, is built.
 pub const SCRATCH: usize = 600000;
 
 // The places of an element list: more than the rows of the largest build.
@@ -19,3 +19,11 @@ pub const SUPERNODES: usize = 8740;
 
 // The places of a hop list: one more than a table has entries.
 pub const HOP_ROWS: usize = 65537;
+
+// The hops of a rising table go up to this one, and begin again.
+pub const LAST_HOP: usize = 65534;
+
+// The bits of a value, and the largest step of rising values: with it the second is past these bits.
+pub const VALUE_BITS: u32 = 32;
+
+pub const STEP_CAP: u64 = 4294967296;

@@ -4,6 +4,9 @@ ghost use mathlib.Core.Path.{_≡_};
 ghost use Prim.Native.Nat.{_-_, _^_, _≤_, min};
 ghost use Rattle.cases.specs.Limits.{STEP-CAP};
 ghost use Rattle.cases.specs.Rising.{Climbs, Risen, badRising};
+use crate::limits::LAST_HOP;
+use crate::limits::STEP_CAP;
+use crate::limits::VALUE_BITS;
 use crate::numerals::held8;
 use crate::numerals::held32;
 use crate::numerals::least;
@@ -18,13 +21,13 @@ fn step_of(width: u32, bits: u8) -> u64
         return 1;
     }
     let past = width - bits as u32;
-    if past < 32 {
+    if past < VALUE_BITS {
         return 1 << past;
     }
-    4294967296
+    STEP_CAP
 }
 
-// Entries from the first on, as many as the shortest list has places.
+// Entries from the first on: `count` of them, or as many as the shortest list has places.
 fn climb(
     count: usize,
     step: u64,
@@ -45,12 +48,13 @@ fn climb(
     while i < n {
         values[i] = value;
         lengths[i] = bits;
-        hops[i] = (i % 65534) as u16 + 1;
+        hops[i] = (i % LAST_HOP) as u16 + 1;
         value = held32(value as u64 + step);
         i += 1;
     }
 }
 
+// Makes the table that a line asks for, and says what it then holds and where the next line begins.
 pub fn rising_line(
     text: &[u8],
     at: usize,

@@ -1,6 +1,7 @@
 -- The numbers of the tablet's text, named once; `src/limits.rt` has the same ones for the code.
-use Prim.Native.Nat.{ℕ, _+_, _*_}
+use Prim.Native.Nat.{ℕ, _+_, _*_, _≤_}
 use mathlib.Core.Path.{_≡_, refl}
+use native.Mathlib.Omega.{arith}
 use lib.ListN.{length}
 use Rattle.tries.specs.Scratch.{ROW}
 use Rattle.sheet.specs.Keys.{widthKey, fixedKey, levelsKey, entriesKey, bitsKey, hopKey, addressKey}
@@ -112,6 +113,6 @@ LENT-ROWS = 112
 abbrev pub LENT-ELEMENTS : ℕ
 LENT-ELEMENTS = 8192
 
--- 02, [2]: "to stay within 64 KiB" (65,536 bytes) the program lends 112 rows, of numbers of eight bytes
-lent-bytes : LENT-ROWS * ROW * 8 ≡ 64512
-lent-bytes = refl
+-- 02, [2]: "to stay within 64 KiB" the program lends 112 rows, of numbers of eight bytes
+lent-bytes : (LENT-ROWS ≡ 112) × (LENT-ROWS * ROW * 8 ≤ 64 * 1024)
+lent-bytes = (refl, omega arith)

@@ -109,7 +109,7 @@ fn plan_variable(
     }
 }
 
-// A fixed choice: the rows hold links and hops only.
+// A fixed choice: the rows hold links, hops and depths, and no costs.
 fn plan_fixed(
     width: u32,
     levels: u32,

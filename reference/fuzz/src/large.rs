@@ -130,7 +130,7 @@ fn smaller(trial: &mut Trial, random: &mut Random) -> Same {
     SMALLER.tried("the last addresses", &hosts, trial)?;
     SMALLER.tried("nested", &SMALLER.nested(random), trial)?;
     SMALLER.tried("of 8 to 24 bits", &SMALLER.routes(random), trial)?;
-    SMALLER.tried("all of 32 bits", &parted, trial)
+    SMALLER.tried("all of 32 bits that part in the first 12", &parted, trial)
 }
 
 /// All of 16 bits, of 8 to 24, of any lengths, and a quarter as many of 32 bits, whose nodes are many.
@@ -141,7 +141,7 @@ fn largest(trial: &mut Trial, random: &mut Random) -> Same {
     LARGEST.tried("all of 16 bits", &sixteen, trial)?;
     LARGEST.tried("of 8 to 24 bits", &LARGEST.routes(random), trial)?;
     LARGEST.tried("nested", &LARGEST.nested(random), trial)?;
-    LARGEST.tried("all of 32 bits", &hosts, trial)
+    LARGEST.tried("any of 32 bits", &hosts, trial)
 }
 
 /// The bitmap of the table that is lent, in lists just long enough, then with each of them in turn one shorter.

@@ -9,10 +9,13 @@ use hongsamuk::{Kind, Outcome, Record, Table};
 
 /// The level limit of the lookups, and one of those at which growth is measured.
 pub const K: u32 = 3;
-/// The level limits of a build, of growth, and of the measure of memory.
-const LEVELS: [u32; 10] = [1, 2, 3, 4, 5, 6, 7, 8, 16, 32];
+/// The level limits at which builds of one table are measured.
+const LIMITS: [u32; 10] = [1, 2, 3, 4, 5, 6, 7, 8, 16, 32];
+/// Those at which growth is.
 const GROWING: [u32; 3] = [K, 8, 32];
+/// Those at which memory is.
 const FEW: std::ops::RangeInclusive<u32> = 2..=8;
+/// The numbers of routes over which growth is measured.
 const SIZES: [usize; 6] = [512, 1024, 2048, 4096, 16_384, 65_536];
 /// The most elements of a build.
 const ELEMENTS: usize = hongsamuk::ELEMENTS as usize;
@@ -118,7 +121,7 @@ pub fn measure(routes: &Routes) {
     println!("| Kind | k | Rows | Archive, ms | Plain Rust, ms | Ratio |");
     println!("|---|---|---|---|---|---|");
     for kind in [Kind::Fixed, Kind::Variable] {
-        for levels in LEVELS {
+        for levels in LIMITS {
             let (timed, cost) = timed(kind, levels, routes);
             println!("| {kind:?} | {levels} | {cost} | {}", columns(&timed));
         }

@@ -75,6 +75,19 @@ fn is_small(kind: Kind, trie: &Trie, k: u32) -> bool {
     }
 }
 
+/// What an accepted choice shows of its levels.
+fn hit_levels(vectors: &mut Vectors, kind: Kind, levels: u32, strides: &[u8]) {
+    if kind == Kind::Fixed && (strides.iter().filter(|s| **s > 0).count() as u32) < levels {
+        vectors.hit("fixed strides fewer than k");
+    }
+    if levels > 8 {
+        vectors.hit(&format!("{} more than 8 levels", name(kind)));
+    }
+    if strides.iter().all(|s| *s > 0) {
+        vectors.hit("32 strides");
+    }
+}
+
 fn choose(vectors: &mut Vectors, table: &Table, kind: Kind, levels: u32, places: usize) {
     assert!(places <= SCRATCH);
     let mut scratch = vec![7; places];
@@ -99,15 +112,7 @@ fn choose(vectors: &mut Vectors, table: &Table, kind: Kind, levels: u32, places:
         } else {
             vectors.hit(&format!("{} by recurrence", name(kind)));
         }
-        if kind == Kind::Fixed && (strides.iter().filter(|s| **s > 0).count() as u32) < levels {
-            vectors.hit("fixed strides fewer than k");
-        }
-        if levels > 8 {
-            vectors.hit(&format!("{} more than 8 levels", name(kind)));
-        }
-        if strides.iter().all(|s| *s > 0) {
-            vectors.hit("32 strides");
-        }
+        hit_levels(vectors, kind, levels, &strides);
     }
     let zeros = scratch.iter().filter(|x| **x == 0).count();
     let strides: String = strides.iter().map(|s| format!(" {s}")).collect();
