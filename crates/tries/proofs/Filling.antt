@@ -6,7 +6,7 @@ use mathlib.Core.List.{List}
 use native.Mathlib.Omega.{arith}
 use native.Mathlib.Nat.{zero-add, add-zero, add-assoc, one-mul, pow-suc, div-eq-of-lt}
 use native.Mathlib.Decide.{decLe}
-use lib.ListN.{length, set}
+use lib.ListN.{length, getD, set}
 use lib.Seq.{getD-set-same, getD-set-other}
 use lib.Pow.{pow-mono, low, high}
 use Rattle.table.specs.Longest.{newer}
@@ -17,7 +17,7 @@ use Rattle.tries.specs.Limits.{ELEMENTS}
 use Rattle.walk.specs.Rows.{Lists, lists, shortest, rowAt}
 use Rattle.tries.specs.Scratch.{ROW, ask, strideAt, MARKS}
 use Rattle.layout.specs.Blocks.{Strides, wide, leftOf, linkTo, rowBelow}
-use Rattle.tries.specs.Filling.{HasRoom, Bare, FillAsks, FillGives}
+use Rattle.tries.specs.Filling.{HasRoom, Spread, Bare, FillAsks, FillGives}
 use Rattle.layout.proofs.Blocks.{wide-sides, left-same}
 use Rattle.tries.proofs.Standing.{mark-left, mark-right, trunk-fits, trunk-none, trunk-left, trunk-right, trunk-child}
 
@@ -120,21 +120,23 @@ module _ {σ : Strides} {t : Trie} {rows plan : List ℕ} {k r base free : ℕ} 
         }
 
 -- ---- no node: all rows are alike
-pub bare-none : {base best : ℕ} {ls : Lists} → Bare base base best ls ls
-bare-none = record { wrote = λ i h l. absurd (omega arith); before = λ i h. refl; after = λ i h. refl }
+pub spread-none : {from v : ℕ} {l : List ℕ} → Spread from from v l l
+spread-none = record { wrote = λ i h k. absurd (omega arith); before = λ i h. refl; after = λ i h. refl }
 
-pub bare-more : {base i best : ℕ} {ls ls′ ls″ : Lists} → base ≤ i → i < shortest ls′ → Bare base i best ls ls′ → ls″ .hop ≡ set (ls′ .hop) i best
-    → ls″ .link ≡ set (ls′ .link) i 0 → ls″ .stride ≡ set (ls′ .stride) i 0 → Bare base (i + 1) best ls ls″
-bare-more {base} {i} {best} {ls} {ls′} le h b e0 e1 e2 =
-    let other = row-other (ls′ .hop) (ls′ .link) (ls′ .stride) i best 0 0 e0 e1 e2 in
+pub spread-more : {from i v : ℕ} {l l′ : List ℕ} → from ≤ i → i < length l′ → Spread from i v l l′ → Spread from (i + 1) v l (set l′ i v)
+spread-more {from} {i} {v} {l} {l′} le h s =
+    let other : (j : ℕ) → (j ≡ i → ⊥) → getD (set l′ i v) j 0 ≡ getD l′ j 0 = λ j ne. getD-set-other l′ i j v 0 ne in
     record {
       wrote = λ j p q. elim (decLe i j) [
-        | yes r ↦ let z : j ≡ i = omega arith in rw z (row-same (ls′ .hop) (ls′ .link) (ls′ .stride) i best 0 0 e0 e1 e2 h)
-        | no r ↦ other j (λ e. omega arith) ∙ b .wrote j p (omega arith)
+        | yes r ↦ let z : j ≡ i = omega arith in rw z (getD-set-same l′ i v 0 h)
+        | no r ↦ other j (λ e. omega arith) ∙ s .wrote j p (omega arith)
       ];
-      before = λ j p. other j (λ e. omega arith) ∙ b .before j p;
-      after = λ j p. other j (λ e. omega arith) ∙ b .after j (omega arith);
+      before = λ j p. other j (λ e. omega arith) ∙ s .before j p;
+      after = λ j p. other j (λ e. omega arith) ∙ s .after j (omega arith);
     }
+
+pub spread-end : {from i to v : ℕ} {l l′ : List ℕ} → i ≡ to → Spread from i v l l′ → Spread from to v l l′
+spread-end e s = rw e at s
 
 row-bare : (σ : Strides) (c r best free x : ℕ) → rowBelow σ c r none best free x ≡ record { hop = best; link = 0; stride = 0 }
 unfolding rowBelow
@@ -149,13 +151,19 @@ module _ {σ : Strides} {t : Trie} {rows plan : List ℕ} {k c r base free : ℕ
   bare-end e = (omega (arith, g .own, g .room .fits), omega (arith, g .own, g .room .few))
 
   pub bare-gives : {p best : ℕ} {ls′ : Lists} → k ≡ 0 → p ≡ 2 ^ c → Bare base (base + p) best ls ls′ → FillGives σ t c r base best free ls free ls′
-  bare-gives {best = best} z e b =
+  bare-gives {p} {best} z e b =
       let n = trunk-none (g .trunk) z in
       record {
         next = rw (n, wide-none σ c r) (omega arith);
-        wrote = λ x h. b .wrote (base + x) (omega arith) (omega arith) ∙ sym (rw n (row-bare σ c r best free x));
-        before = b .before;
-        after = λ i h. b .after i (omega arith);
+        wrote = λ x h.
+            let i = base + x in
+            let lo : base ≤ i = omega arith in
+            let hi : i < base + p = omega arith in
+            rw (b .hop .wrote i lo hi, b .link .wrote i lo hi, b .stride .wrote i lo hi) (sym (rw n (row-bare σ c r best free x)));
+        before = λ i h. rw (b .hop .before i h, b .link .before i h, b .stride .before i h);
+        after = λ i h.
+            let q : base + p ≤ i = omega arith in
+            rw (b .hop .after i q, b .link .after i q, b .stride .after i q);
       }
 
 -- ---- no bit left

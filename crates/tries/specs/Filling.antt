@@ -4,7 +4,7 @@
 use Prim.Native.Nat.{ℕ, suc, _+_, _^_, _≤_, _<_}
 use mathlib.Core.Path.{_≡_}
 use mathlib.Core.List.{List}
-use lib.ListN.{length}
+use lib.ListN.{length, getD}
 use Rattle.strides.specs.Trie.{Trie}
 use Rattle.strides.specs.Strides.{Good}
 use Rattle.walk.specs.Limits.{WIDTH, LEVELS}
@@ -27,10 +27,17 @@ pub record Trunk (σ : Strides) (t : Trie) (rows plan : List ℕ) (k w c r : ℕ
   pub planned : length plan ≤ LEVELS
 
 -- ---- the rows from `base` to before `end`, below which there is no node
+-- a list holds v from place `from` to before `to`, and else what it held
+pub record Spread (from to v : ℕ) (l l′ : List ℕ) : Type 0 where
+  pub wrote : (i : ℕ) → from ≤ i → i < to → getD l′ i 0 ≡ v
+  pub before : (i : ℕ) → i < from → getD l′ i 0 ≡ getD l i 0
+  pub after : (i : ℕ) → to ≤ i → getD l′ i 0 ≡ getD l i 0
+
+-- the hop `best` and no child
 pub record Bare (base end best : ℕ) (ls ls′ : Lists) : Type 0 where
-  pub wrote : (i : ℕ) → base ≤ i → i < end → rowAt ls′ i ≡ record { hop = best; link = 0; stride = 0 }
-  pub before : (i : ℕ) → i < base → rowAt ls′ i ≡ rowAt ls i
-  pub after : (i : ℕ) → end ≤ i → rowAt ls′ i ≡ rowAt ls i
+  pub hop : Spread base end best (ls .hop) (ls′ .hop)
+  pub link : Spread base end 0 (ls .link) (ls′ .link)
+  pub stride : Spread base end 0 (ls .stride) (ls′ .stride)
 
 -- ---- the 2 ^ c rows from `base` on, below the trie at link k; child blocks lie from row `free` on
 pub record FillAsks (σ : Strides) (t : Trie) (rows plan : List ℕ) (k c r base free : ℕ) (ls : Lists) : Type 0 where

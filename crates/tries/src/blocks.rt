@@ -9,7 +9,7 @@ ghost use Rattle.walk.specs.Limits.{WIDTH};
 ghost use Rattle.tries.specs.Limits.{LINKS, BYTE};
 ghost use Rattle.walk.specs.Rows.{lists, shortest};
 ghost use Rattle.tries.specs.Scratch.{ROW, MARKS, ask};
-ghost use Rattle.tries.specs.Filling.{Bare, CanFill, Fills, CanBlock, WritesBlock, CanLevel, WritesLevel, CanLay, Lays};
+ghost use Rattle.tries.specs.Filling.{Spread, Bare, CanFill, Fills, CanBlock, WritesBlock, CanLevel, WritesLevel, CanLay, Lays};
 use crate::scratch::DEPTH;
 use crate::scratch::asked;
 use crate::scratch::stride_at;
@@ -41,7 +41,7 @@ fn best_below(rows: &[u64], k: usize, side: usize, best: u16) -> u16
     mark as u16
 }
 
-// Writes element row i: the only place that does.
+// Writes element row i.
 fn write(hop: &mut [u16], link: &mut [u32], stride: &mut [u8], i: usize, h: u16, l: usize, s: usize)
     requires { ⌜ (i < length (now hop)) × (i < length (now link)) × (i < length (now stride)) × (l < LINKS) × (s < BYTE) ⌝ }
     ensures hops { λ _. ⌜ now (hop .exit) ≡ set (now (hop .entry)) i h ⌝ }
@@ -53,18 +53,53 @@ fn write(hop: &mut [u16], link: &mut [u32], stride: &mut [u8], i: usize, h: u16,
     stride[i] = s as u8;
 }
 
-// Writes the rows from `base` to before `end`, below which there is no node: all have the hop `best` and no child.
+// Writes the hop `best` to the places from `from` to before `to`.
+fn spread_hop(hop: &mut [u16], from: usize, to: usize, best: u16)
+    requires { ⌜ (from ≤ to) × (to ≤ length (now hop)) ⌝ }
+    ensures { λ _. ⌜ Spread from to best (now (hop .entry)) (now (hop .exit)) ⌝ }
+{
+    let mut i = from;
+    while i < to {
+        hop[i] = best;
+        i += 1;
+    }
+}
+
+// Writes no link to the places from `from` to before `to`.
+fn clear_link(link: &mut [u32], from: usize, to: usize)
+    requires { ⌜ (from ≤ to) × (to ≤ length (now link)) ⌝ }
+    ensures { λ _. ⌜ Spread from to 0 (now (link .entry)) (now (link .exit)) ⌝ }
+{
+    let mut i = from;
+    while i < to {
+        link[i] = 0;
+        i += 1;
+    }
+}
+
+// Writes no child stride to the places from `from` to before `to`.
+fn clear_stride(stride: &mut [u8], from: usize, to: usize)
+    requires { ⌜ (from ≤ to) × (to ≤ length (now stride)) ⌝ }
+    ensures { λ _. ⌜ Spread from to 0 (now (stride .entry)) (now (stride .exit)) ⌝ }
+{
+    let mut i = from;
+    while i < to {
+        stride[i] = 0;
+        i += 1;
+    }
+}
+
+// Writes the rows from `base` to before `end`, below which there is no node: all have the hop `best` and no child. One list after
+// the other, so that each is written by the machine's own way to fill memory.
 fn bare(hop: &mut [u16], link: &mut [u32], stride: &mut [u8], base: usize, end: usize, best: u16)
     requires { ⌜ (base ≤ end) × (end ≤ shortest (lists (now hop) (now link) (now stride))) ⌝ }
     ensures { λ _. ⌜
         Bare base end best (lists (now (hop .entry)) (now (link .entry)) (now (stride .entry)))
         (lists (now (hop .exit)) (now (link .exit)) (now (stride .exit))) ⌝ }
 {
-    let mut i = base;
-    while i < end {
-        write(hop, link, stride, i, best, 0, 0);
-        i += 1;
-    }
+    spread_hop(hop, base, end, best);
+    clear_link(link, base, end);
+    clear_stride(stride, base, end);
 }
 
 // Writes the row at the end of a path where a child block begins, at the node of link k. Returns the next free row.

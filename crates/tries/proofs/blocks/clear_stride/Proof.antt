@@ -1,0 +1,42 @@
+-- The loop's invariant: the places passed are written, and no other has changed.
+use Prim.Native.Nat.{ℕ, _-_, _≤_}
+use mathlib.Core.Path.{_≡_, refl, _∙_}
+use native.Mathlib.Omega.{arith}
+use lib.ListN.{length, length-set}
+use borrow.Author.Needs.{needs}
+use Rattle.tries.specs.Filling.{Spread}
+use Rattle.tries.proofs.Filling.{spread-none, spread-more, spread-end}
+use Rattle.tries.proofs.blocks.clear_stride.Statement.{statement}
+use Rattle.tries.proofs.blocks.clear_stride.Tie as tie
+
+abbrev Inv-loop : tie.InvT-loop
+Inv-loop stride₀ from to i₀ stride i = (length stride ≡ length stride₀) × (from ≤ i) × (i ≤ to) × Spread from i 0 stride₀ stride
+
+abbrev μ-loop : tie.MeasureT-loop
+μ-loop stride₀ from to i₀ stride i = to - i
+
+loop-holds : tie.Need-loop-holds Inv-loop μ-loop
+loop-holds c = (refl, omega arith, omega arith, spread-none)
+
+slice-write-stride : tie.Need-slice-write-stride Inv-loop μ-loop
+slice-write-stride c = search needs
+
+add-i : tie.Need-add-i Inv-loop μ-loop
+add-i c = search needs
+
+loop-less : tie.Need-loop-less Inv-loop μ-loop
+loop-less c = search needs
+
+loop-again : tie.Need-loop-again Inv-loop μ-loop
+loop-again c =
+    let l = c .before .loop in
+    (length-set (l .stride) (l .i) _ ∙ l .inv .0, omega arith, omega arith, spread-more (l .inv .1) (omega arith) (l .inv .3))
+
+same-length : tie.Need-same-length Inv-loop μ-loop
+same-length c = search needs
+
+returns : tie.Need-returns Inv-loop μ-loop
+returns c = let l = c .before .loop in spread-end (omega arith) (l .inv .3)
+
+pub clear-stride-spec : {M : Type 1} → statement M
+clear-stride-spec = tie.close (tie.spec Inv-loop μ-loop loop-holds slice-write-stride add-i loop-less loop-again same-length returns)
