@@ -244,7 +244,13 @@ fn level(
     }
     let k0 = asked(rows, k, 0);
     let k1 = asked(rows, k, 1);
+    if k0 == 0 {
+        return level(rows, plan, k1, w - 1, c - 1, n, r, to, hop, link, stride);
+    }
     let then = level(rows, plan, k0, w - 1, c - 1, n, r, to, hop, link, stride);
+    if k1 == 0 {
+        return then;
+    }
     level(rows, plan, k1, w - 1, c - 1, n, r, then, hop, link, stride)
 }
 

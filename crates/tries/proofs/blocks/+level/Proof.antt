@@ -4,7 +4,7 @@ use native.Mathlib.Omega.{arith}
 use borrow.Author.Needs.{needs}
 use Rattle.strides.specs.Trie.{left, right}
 use Rattle.tries.proofs.Leveling.{nothing-gives, shallow-gives, at-block, from-block, at-own, from-own, block-bounds, stride-positive, below-asks, below-gives, side-bounds, first-asks}
-use Rattle.tries.proofs.Leveling.{second-asks, sides-give}
+use Rattle.tries.proofs.Leveling.{second-asks, sides-give, right-asks, right-gives}
 use Prim.Native.Nat.{ℕ, _<_}
 use borrow.Fn.Kinds.{In}
 use borrow.Fn.PlainCycle.{Measures, is, falls, and}
@@ -114,45 +114,26 @@ level-asked-requires-2 t c κs = omega (arith, side-bounds (c .before .before .b
 level-asked-requires-3 : (t : ℕ) → level-lts.Need-asked-requires-3 (cs t) (level-at t) level.Post
 level-asked-requires-3 t c κs = omega (arith, side-bounds (c .before .before .before .before .before .before .before .before .pre .1 .2) (omega arith))
 
+-- no trie on the left
 level-sub-level-3 : (t : ℕ) → level-lts.Need-sub-level-3 (cs t) (level-at t) level.Post
-level-sub-level-3 t c = omega (arith, side-bounds (c .before .before .before .before .before .before .before .before .before .pre .1 .2) (omega arith))
+level-sub-level-3 t c = omega (arith, side-bounds (c .before .before .before .before .before .before .before .before .before .before .pre .1 .2) (omega arith))
 
 level-sub-level-4 : (t : ℕ) → level-lts.Need-sub-level-4 (cs t) (level-at t) level.Post
 level-sub-level-4 t c = omega arith
 
 level-level-requires-2 : (t : ℕ) → level-lts.Need-level-requires-2 (cs t) (level-at t) level.Post
 level-level-requires-2 t c κs =
-    let S = c .before .before .before .before .before .before .before .before .before .before .before .before in
-    let b = side-bounds (S .pre .1 .2) (omega arith) in
-    (omega arith, (S .pre .1 .0, left (S .pre .1 .1), first-asks (S .pre .1 .2) (omega arith) (c .before .before .before .before .asked2 .ensures)))
-
-level-sub-level-5 : (t : ℕ) → level-lts.Need-sub-level-5 (cs t) (level-at t) level.Post
-level-sub-level-5 t c =
-    omega (
-      arith,
-      side-bounds (c .before .before .before .before .before .before .before .before .before .before .before .before .before .before .before .before .before .before .before .pre .1 .2)
-          (omega arith),
-    )
-
-level-sub-level-6 : (t : ℕ) → level-lts.Need-sub-level-6 (cs t) (level-at t) level.Post
-level-sub-level-6 t c = omega arith
-
-level-level-requires-3 : (t : ℕ) → level-lts.Need-level-requires-3 (cs t) (level-at t) level.Post
-level-level-requires-3 t c κs =
-    let c9 = c .before .before .before .before .before .before .before .before .before in
-    let c13 = c9 .before .before .before .before in
-    let c14 = c13 .before in
-    let c15 = c14 .before in
-    let c16 = c15 .before in
-    let c22 = c16 .before .before .before .before .before .before in
-    let S = c22 in
-    let F = c9 .level2 in
-    let ne = c15 .if2 .left in
-    let b = side-bounds (S .pre .1 .2) (omega (arith, c16 .if1 .left)) in
-    let e : S .args .c ≡ suc (S .args .c - 1) = omega (arith, ne) in
-    let o = F .ensures (S .pre .1 .0) (left (S .pre .1 .1)) (first-asks (S .pre .1 .2) e (c14 .asked2 .ensures)) in (
-      omega (arith, ne, b, S .pre .0),
-      (S .pre .1 .0, right (S .pre .1 .1), second-asks (S .pre .1 .2) e (omega (arith, F .kept)) o (c13 .asked3 .ensures)),
+    let c3 = c .before .before .before in
+    let c4 = c3 .before in
+    let c5 = c4 .before in
+    let c6 = c5 .before in
+    let c7 = c6 .before in
+    let c13 = c7 .before .before .before .before .before .before in
+    let ne = c6 .if2 .left in
+    let b = side-bounds (c13 .pre .1 .2) (omega (arith, c7 .if1 .left)) in
+    let e : c13 .args .c ≡ suc (c13 .args .c - 1) = omega (arith, ne) in (
+      omega (arith, ne, b, c13 .pre .0),
+      (c13 .pre .1 .0, right (c13 .pre .1 .1), right-asks (c13 .pre .1 .2) e (c3 .if5 .taken) (c5 .asked2 .ensures) (c4 .asked3 .ensures)),
     )
 
 level-same-length-7 : (t : ℕ) → level-lts.Need-same-length-7 (cs t) (level-at t) level.Post
@@ -167,20 +148,100 @@ level-same-length-9 t c = search needs
 level-returns-5 : (t : ℕ) → level-lts.Need-returns-5 (cs t) (level-at t) level.Post
 level-returns-5 t c =
     let c6 = c .before .before .before .before .before .before in
-    let c16 = c6 .before .before .before .before .before .before .before .before .before .before in
-    let c20 = c16 .before .before .before .before in
-    let c21 = c20 .before in
-    let c22 = c21 .before in
-    let c29 = c22 .before .before .before .before .before .before .before in
-    let S = c29 in
-    let F = c16 .level2 in
-    let e : S .args .c ≡ suc (S .args .c - 1) = omega (arith, c22 .if2 .left) in
+    let c10 = c6 .before .before .before .before in
+    let c11 = c10 .before in
+    let c12 = c11 .before in
+    let c13 = c12 .before in
+    let c20 = c13 .before .before .before .before .before .before .before in
+    let e : c20 .args .c ≡ suc (c20 .args .c - 1) = omega (arith, c13 .if2 .left) in
+    let z = c10 .if5 .taken in
+    let q = c12 .asked2 .ensures in
+    λ σ u g. right-gives g e z q (c6 .level2 .ensures σ (right u) (right-asks g e z q (c11 .asked3 .ensures)))
+
+-- the left side, then the right one where there is one
+level-sub-level-5 : (t : ℕ) → level-lts.Need-sub-level-5 (cs t) (level-at t) level.Post
+level-sub-level-5 t c = omega (arith, side-bounds (c .before .before .before .before .before .before .before .before .before .before .pre .1 .2) (omega arith))
+
+level-sub-level-6 : (t : ℕ) → level-lts.Need-sub-level-6 (cs t) (level-at t) level.Post
+level-sub-level-6 t c = omega arith
+
+level-level-requires-3 : (t : ℕ) → level-lts.Need-level-requires-3 (cs t) (level-at t) level.Post
+level-level-requires-3 t c κs =
+    let c5 = c .before .before .before .before .before in
+    let c13 = c5 .before .before .before .before .before .before .before .before in
+    let b = side-bounds (c13 .pre .1 .2) (omega arith) in
+    (omega arith, (c13 .pre .1 .0, left (c13 .pre .1 .1), first-asks (c13 .pre .1 .2) (omega arith) (c5 .asked2 .ensures)))
+
+level-same-length-10 : (t : ℕ) → level-lts.Need-same-length-10 (cs t) (level-at t) level.Post
+level-same-length-10 t c = search needs
+
+level-same-length-11 : (t : ℕ) → level-lts.Need-same-length-11 (cs t) (level-at t) level.Post
+level-same-length-11 t c = search needs
+
+level-same-length-12 : (t : ℕ) → level-lts.Need-same-length-12 (cs t) (level-at t) level.Post
+level-same-length-12 t c = search needs
+
+level-returns-6 : (t : ℕ) → level-lts.Need-returns-6 (cs t) (level-at t) level.Post
+level-returns-6 t c =
+    let c7 = c .before .before .before .before .before .before .before in
+    let c12 = c7 .before .before .before .before .before in
+    let c13 = c12 .before in
+    let c14 = c13 .before in
+    let c21 = c14 .before .before .before .before .before .before .before in
+    let F = c7 .level3 in
+    let e : c21 .args .c ≡ suc (c21 .args .c - 1) = omega (arith, c14 .if2 .left) in
     λ σ u g.
-    let o = F .ensures σ (left u) (first-asks g e (c21 .asked2 .ensures)) in
-    sides-give g e (omega (arith, F .kept)) o
-    (c6 .level3 .ensures σ (right u)
-    (second-asks g e (omega (arith, F .kept)) o
-    (c20 .asked3 .ensures)))
+    let o = F .ensures σ (left u) (first-asks g e (c13 .asked2 .ensures)) in
+    sides-give g e (omega (arith, F .kept)) o (nothing-gives (c .if6 .taken) (second-asks g e (omega (arith, F .kept)) o (c12 .asked3 .ensures)))
+
+level-sub-level-7 : (t : ℕ) → level-lts.Need-sub-level-7 (cs t) (level-at t) level.Post
+level-sub-level-7 t c =
+    let c15 = c .before .before .before .before .before .before .before .before .before .before .before .before .before .before .before in
+    let c21 = c15 .before .before .before .before .before .before in
+    omega (arith, side-bounds (c21 .pre .1 .2) (omega (arith, c15 .if1 .left)))
+
+level-sub-level-8 : (t : ℕ) → level-lts.Need-sub-level-8 (cs t) (level-at t) level.Post
+level-sub-level-8 t c = omega arith
+
+level-level-requires-4 : (t : ℕ) → level-lts.Need-level-requires-4 (cs t) (level-at t) level.Post
+level-level-requires-4 t c κs =
+    let c10 = c .before .before .before .before .before .before .before .before .before .before in
+    let c15 = c10 .before .before .before .before .before in
+    let c16 = c15 .before in
+    let c17 = c16 .before in
+    let c18 = c17 .before in
+    let c24 = c18 .before .before .before .before .before .before in
+    let F = c10 .level3 in
+    let ne = c17 .if2 .left in
+    let b = side-bounds (c24 .pre .1 .2) (omega (arith, c18 .if1 .left)) in
+    let e : c24 .args .c ≡ suc (c24 .args .c - 1) = omega (arith, ne) in
+    let o = F .ensures (c24 .pre .1 .0) (left (c24 .pre .1 .1)) (first-asks (c24 .pre .1 .2) e (c16 .asked2 .ensures)) in (
+      omega (arith, ne, b, c24 .pre .0),
+      (c24 .pre .1 .0, right (c24 .pre .1 .1), second-asks (c24 .pre .1 .2) e (omega (arith, F .kept)) o (c15 .asked3 .ensures)),
+    )
+
+level-same-length-13 : (t : ℕ) → level-lts.Need-same-length-13 (cs t) (level-at t) level.Post
+level-same-length-13 t c = search needs
+
+level-same-length-14 : (t : ℕ) → level-lts.Need-same-length-14 (cs t) (level-at t) level.Post
+level-same-length-14 t c = search needs
+
+level-same-length-15 : (t : ℕ) → level-lts.Need-same-length-15 (cs t) (level-at t) level.Post
+level-same-length-15 t c = search needs
+
+level-returns-7 : (t : ℕ) → level-lts.Need-returns-7 (cs t) (level-at t) level.Post
+level-returns-7 t c =
+    let c6 = c .before .before .before .before .before .before in
+    let c17 = c6 .before .before .before .before .before .before .before .before .before .before .before in
+    let c22 = c17 .before .before .before .before .before in
+    let c23 = c22 .before in
+    let c24 = c23 .before in
+    let c31 = c24 .before .before .before .before .before .before .before in
+    let F = c17 .level3 in
+    let e : c31 .args .c ≡ suc (c31 .args .c - 1) = omega (arith, c24 .if2 .left) in
+    λ σ u g.
+    let o = F .ensures σ (left u) (first-asks g e (c23 .asked2 .ensures)) in
+    sides-give g e (omega (arith, F .kept)) o (c6 .level4 .ensures σ (right u) (second-asks g e (omega (arith, F .kept)) o (c22 .asked3 .ensures)))
 
 pub +level-spec : {M : Type 1} → statement M
 +level-spec = close μ-level λ t. level-lts.spec (cs t)
@@ -207,10 +268,21 @@ pub +level-spec : {M : Type 1} → statement M
     (level-sub-level-3 t)
     (level-sub-level-4 t)
     (level-level-requires-2 t)
-    (level-sub-level-5 t)
-    (level-sub-level-6 t)
-    (level-level-requires-3 t)
     (level-same-length-7 t)
     (level-same-length-8 t)
     (level-same-length-9 t)
     (level-returns-5 t)
+    (level-sub-level-5 t)
+    (level-sub-level-6 t)
+    (level-level-requires-3 t)
+    (level-same-length-10 t)
+    (level-same-length-11 t)
+    (level-same-length-12 t)
+    (level-returns-6 t)
+    (level-sub-level-7 t)
+    (level-sub-level-8 t)
+    (level-level-requires-4 t)
+    (level-same-length-13 t)
+    (level-same-length-14 t)
+    (level-same-length-15 t)
+    (level-returns-7 t)

@@ -71,7 +71,7 @@ loop-again c =
     let S = c .before .before .before .before .before .before in
     let l = c .before .before .before .before .loop in (
       omega arith,
-      length-set (set (l .sums) (S .args .up + l .i) _) (S .args .down + l .i) 0 ∙ length-set (l .sums) (S .args .up + l .i) _ ∙ l .inv .1,
+      length-set (set (l .sums) (S .args .up + l .i) _) (S .args .down + l .i) _ ∙ length-set (l .sums) (S .args .up + l .i) _ ∙ l .inv .1,
       lift-next (S .args .sums .now) (S .args .up) (S .args .down) (l .sums) (S .args .n) (l .i) _ (S .pre .0) (omega arith) (omega arith) (l .inv .2) (c .capped-sum .ensures),
     )
 
