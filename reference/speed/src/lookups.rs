@@ -29,13 +29,17 @@ impl Answers {
     }
 }
 
-/// The sum keeps the compiler from leaving anything out.
-fn archive_one_by_one(record: Record, rows: &Rows, addresses: &[u32]) -> u64 {
+/// The header's call.
+type Lookup = unsafe extern "C" fn(Record, *const u16, usize, *const u32, usize, *const u8, usize, u32) -> raw::Answer;
+
+/// Through a pointer, so that the compiler knows nothing of what is called. The sum keeps it from leaving anything out.
+fn one_by_one(lookup: Lookup, record: Record, rows: &Rows, addresses: &[u32]) -> u64 {
+    let lookup = std::hint::black_box(lookup);
     let mut sum = 0;
     for address in addresses {
         // SAFETY: pointers and lengths are those of lists, which the call only reads.
         let answer = unsafe {
-            raw::hongsamuk_lookup(
+            lookup(
                 record,
                 rows.hop.as_ptr(),
                 rows.hop.len(),
@@ -51,9 +55,9 @@ fn archive_one_by_one(record: Record, rows: &Rows, addresses: &[u32]) -> u64 {
     sum
 }
 
-fn plain_one_by_one(record: Record, rows: &Rows, addresses: &[u32]) -> u64 {
+fn plain_by_reference(record: Record, rows: &Rows, addresses: &[u32]) -> u64 {
     let rows = rows.elements();
-    addresses.iter().map(|address| plain::lookup(record, rows, *address).sum()).sum()
+    addresses.iter().map(|address| plain::lookup_by_reference(&record, &rows, *address).sum()).sum()
 }
 
 fn archive_batch(record: Record, rows: &Rows, addresses: &[u32], to: &mut Answers) -> u64 {
@@ -82,18 +86,16 @@ pub fn measure(routes: &Routes) {
         for pattern in PATTERNS {
             let addresses = routes.addresses(pattern, LOOKUPS, SEED);
             let (mut ours, mut theirs) = (Answers::new(), Answers::new());
-            let one = alternate(
-                ROUNDS,
-                || archive_one_by_one(record, &rows, &addresses),
-                || plain_one_by_one(record, &rows, &addresses),
-            );
+            let archive = || one_by_one(raw::hongsamuk_lookup, record, &rows, &addresses);
+            let one = alternate(ROUNDS, archive, || one_by_one(plain::lookup, record, &rows, &addresses));
+            let reference = alternate(ROUNDS, archive, || plain_by_reference(record, &rows, &addresses));
             let batch = alternate(
                 ROUNDS,
                 || archive_batch(record, &rows, &addresses, &mut ours),
                 || plain_batch(record, &rows, &addresses, &mut theirs),
             );
             assert!((&ours.number, &ours.hop, &ours.reads) == (&theirs.number, &theirs.hop, &theirs.reads));
-            for (call, timed) in [("one by one", one), ("batch", batch)] {
+            for (call, timed) in [("one by one", one), ("one by one, by reference", reference), ("batch", batch)] {
                 tell(&format!("{kind:?}"), record.elements, pattern, call, &timed);
             }
         }

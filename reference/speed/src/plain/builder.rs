@@ -64,8 +64,15 @@ impl Source<'_> {
             return front;
         }
         if c > 0 {
-            let then = self.level(asked(self.rows, link, 0), c - 1, n, r, front, to);
-            return self.level(asked(self.rows, link, 1), c - 1, n, r, then, to);
+            let (left, right) = (asked(self.rows, link, 0), asked(self.rows, link, 1));
+            if left == 0 {
+                return self.level(right, c - 1, n, r, front, to);
+            }
+            let then = self.level(left, c - 1, n, r, front, to);
+            if right == 0 {
+                return then;
+            }
+            return self.level(right, c - 1, n, r, then, to);
         }
         if n > 0 && asked(self.rows, link, DEPTH) <= n {
             return front;

@@ -15,7 +15,7 @@ pub use building::{build, Lent, SCRATCH_ROW};
 pub use supernodes::{build_bitmap, NODE_ROW};
 pub use table::Table;
 pub use visits::lookup_bitmap;
-pub use walk::{lookup, lookup_batch, Answers, Elements};
+pub use walk::{lookup, lookup_batch, lookup_by_reference, Answers, Elements};
 
 /// The widest address.
 const WIDTH: u32 = 32;

@@ -1,7 +1,7 @@
 //! The lookup: tests 1, 2, 8, 9, then one row a block.
 
 use super::{LEVELS, WIDTH};
-use hongsamuk::Record;
+use hongsamuk::{raw, Record};
 
 #[derive(Clone, Copy, PartialEq, Eq, Debug)]
 pub enum Answer {
@@ -11,6 +11,16 @@ pub enum Answer {
 }
 
 impl Answer {
+    /// Number, hop and reads, as the header's calls tell them.
+    #[inline(always)]
+    fn numbers(self) -> (u32, u16, u32) {
+        match self {
+            Answer::Match { hop, reads } => (0, hop, reads),
+            Answer::NoRoute { reads } => (0, 0, reads),
+            Answer::Refused { number } => (number, 0, 0),
+        }
+    }
+
     /// All its numbers, so that the compiler leaves nothing out.
     #[inline(always)]
     pub fn sum(self) -> u64 {
@@ -89,10 +99,32 @@ fn walk(record: &Record, rows: Elements, address: u32) -> Answer {
     DAMAGED
 }
 
-/// One lookup behind a call, as the archive's is: the caller keeps nothing of the tests between two lookups.
+/// One lookup behind the header's call, as the archive's is: C's convention, the record by value, a list as pointer and length.
+///
+/// # Safety
+/// Each pointer is good for its length.
 #[inline(never)]
-pub fn lookup(record: Record, rows: Elements, address: u32) -> Answer {
-    walk(&record, rows, address)
+pub unsafe extern "C" fn lookup(
+    record: Record,
+    hop: *const u16,
+    hops: usize,
+    link: *const u32,
+    links: usize,
+    stride: *const u8,
+    strides: usize,
+    address: u32,
+) -> raw::Answer {
+    let hop = std::slice::from_raw_parts(hop, hops);
+    let link = std::slice::from_raw_parts(link, links);
+    let stride = std::slice::from_raw_parts(stride, strides);
+    let (number, hop, reads) = walk(&record, Elements { hop, link, stride }, address).numbers();
+    raw::Answer { number, hop, reads }
+}
+
+/// One lookup behind a call of Rust's own: record and lists by reference, so that nothing is copied.
+#[inline(never)]
+pub fn lookup_by_reference(record: &Record, rows: &Elements, address: u32) -> Answer {
+    walk(record, *rows, address)
 }
 
 /// Lookups one after the other: the compiler may take out of the loop what it can.
@@ -101,11 +133,7 @@ pub fn lookup_batch(record: Record, rows: Elements, addresses: &[u32], answers: 
     let places = answers.number.iter_mut().zip(answers.hop).zip(answers.reads);
     let mut answered = 0;
     for (address, ((number, hop), reads)) in addresses.iter().zip(places) {
-        (*number, *hop, *reads) = match walk(&record, rows, *address) {
-            Answer::Match { hop, reads } => (0, hop, reads),
-            Answer::NoRoute { reads } => (0, 0, reads),
-            Answer::Refused { number } => (number, 0, 0),
-        };
+        (*number, *hop, *reads) = walk(&record, rows, *address).numbers();
         answered += 1;
     }
     answered
