@@ -53,7 +53,7 @@ fn write(hop: &mut [u16], link: &mut [u32], stride: &mut [u8], i: usize, h: u16,
     stride[i] = s as u8;
 }
 
-// Writes the hop `best` to the places from `from` to before `to`.
+// The hops from place `from` to before `to` become `best`.
 fn spread_hop(hop: &mut [u16], from: usize, to: usize, best: u16)
     requires { ⌜ (from ≤ to) × (to ≤ length (now hop)) ⌝ }
     ensures { λ _. ⌜ Spread from to best (now (hop .entry)) (now (hop .exit)) ⌝ }
@@ -65,7 +65,7 @@ fn spread_hop(hop: &mut [u16], from: usize, to: usize, best: u16)
     }
 }
 
-// Writes no link to the places from `from` to before `to`.
+// The links from place `from` to before `to` become 0: no child.
 fn clear_link(link: &mut [u32], from: usize, to: usize)
     requires { ⌜ (from ≤ to) × (to ≤ length (now link)) ⌝ }
     ensures { λ _. ⌜ Spread from to 0 (now (link .entry)) (now (link .exit)) ⌝ }
@@ -77,7 +77,7 @@ fn clear_link(link: &mut [u32], from: usize, to: usize)
     }
 }
 
-// Writes no child stride to the places from `from` to before `to`.
+// The child strides from place `from` to before `to` become 0: no child.
 fn clear_stride(stride: &mut [u8], from: usize, to: usize)
     requires { ⌜ (from ≤ to) × (to ≤ length (now stride)) ⌝ }
     ensures { λ _. ⌜ Spread from to 0 (now (stride .entry)) (now (stride .exit)) ⌝ }
@@ -90,7 +90,7 @@ fn clear_stride(stride: &mut [u8], from: usize, to: usize)
 }
 
 // Writes the rows from `base` to before `end`, below which there is no node: all have the hop `best` and no child. One list after
-// the other, so that each is written by the machine's own way to fill memory.
+// the other: over three lists in one loop the compiler could not take the machine's own way to fill memory.
 fn bare(hop: &mut [u16], link: &mut [u32], stride: &mut [u8], base: usize, end: usize, best: u16)
     requires { ⌜ (base ≤ end) × (end ≤ shortest (lists (now hop) (now link) (now stride))) ⌝ }
     ensures { λ _. ⌜
@@ -209,7 +209,7 @@ fn block(
 
 // Writes the blocks of level n below the trie at link k, left to right, from row `to.base` on. The next block on a path begins c
 // levels lower, with r levels left; w address bits are left. The n-th block after one begins at least n levels lower, so a subtrie
-// that is too shallow for it is left.
+// that is too shallow for it is left. A side without a node is seen before the call, which would hand five lists down for nothing.
 fn level(
     rows: &[u64],
     plan: &[u8],

@@ -4,6 +4,7 @@ use crate::plain;
 use crate::rounds::{alternate, Timed};
 use crate::routes::{Routes, WIDTH};
 use hongsamuk::{raw, Bitmap, BitmapRows, BitmapRowsMut, Outcome, Table};
+use std::cell::RefCell;
 
 /// Bytes of a supernode's row in the four lists, and of a hop.
 pub const SUPERNODE: u64 = 12;
@@ -94,16 +95,16 @@ pub fn needed(routes: &Routes) -> Needed {
     Needed { nodes, supernodes: told(&mut scratch(nodes)) }
 }
 
-/// A build just in room enough, both ways.
+/// A build just in room enough, both ways in the same scratch.
 pub fn timed_build(routes: &Routes, rounds: usize) -> (Timed, Needed) {
     let needed = needed(routes);
     let mut ours = Arrays::new(needed.supernodes, routes.value.len());
     let mut theirs = ours.clone();
-    let (mut words, mut others) = (scratch(needed.nodes), scratch(needed.nodes));
+    let scratch = RefCell::new(scratch(needed.nodes));
     let timed = alternate(
         rounds,
-        || archive(routes, &mut words, &mut ours),
-        || in_plain_rust(routes, &mut others, &mut theirs),
+        || archive(routes, &mut scratch.borrow_mut(), &mut ours),
+        || in_plain_rust(routes, &mut scratch.borrow_mut(), &mut theirs),
     );
     assert!(ours == theirs, "the same rows");
     (timed, needed)

@@ -6,6 +6,7 @@ use crate::plain;
 use crate::rounds::{alternate, Timed};
 use crate::routes::{Routes, WIDTH};
 use hongsamuk::{Kind, Outcome, Record, Table};
+use std::cell::RefCell;
 
 /// The level limit of the lookups, and one of those at which growth is measured.
 pub const K: u32 = 3;
@@ -84,15 +85,16 @@ fn in_plain_rust(kind: Kind, levels: u32, routes: &Routes, scratch: &mut [u64], 
     (built.refusal.map_or_else(refused, |()| Outcome::Accepted), built.record)
 }
 
+/// Both ways in the same scratch, so that neither has the better memory.
 fn timed(kind: Kind, levels: u32, routes: &Routes) -> (Timed, u64) {
     let cost = least(kind, levels, routes);
     let mut ours = Rows::new((cost as usize).min(ELEMENTS));
     let mut theirs = ours.clone();
-    let (mut scratch, mut other) = (scratch(routes), scratch(routes));
+    let scratch = RefCell::new(scratch(routes));
     let timed = alternate(
         rounds(routes),
-        || archive(kind, levels, routes, &mut scratch, &mut ours),
-        || in_plain_rust(kind, levels, routes, &mut other, &mut theirs),
+        || archive(kind, levels, routes, &mut scratch.borrow_mut(), &mut ours),
+        || in_plain_rust(kind, levels, routes, &mut scratch.borrow_mut(), &mut theirs),
     );
     assert!(ours.hop == theirs.hop && ours.link == theirs.link && ours.stride == theirs.stride, "the same rows");
     (timed, cost)
