@@ -120,11 +120,11 @@ module _ {σ : Strides} {t : Trie} {rows plan : List ℕ} {k r base free : ℕ} 
         }
 
 -- ---- no node: all rows are alike
-pub spread-none : {from v : ℕ} {l : List ℕ} → Spread from from v l l
+pub spread-none : {base v : ℕ} {l : List ℕ} → Spread base base v l l
 spread-none = record { wrote = λ i h k. absurd (omega arith); before = λ i h. refl; after = λ i h. refl }
 
-pub spread-more : {from i v : ℕ} {l l′ : List ℕ} → from ≤ i → i < length l′ → Spread from i v l l′ → Spread from (i + 1) v l (set l′ i v)
-spread-more {from} {i} {v} {l} {l′} le h s =
+pub spread-more : {base i v : ℕ} {l l′ : List ℕ} → base ≤ i → i < length l′ → Spread base i v l l′ → Spread base (i + 1) v l (set l′ i v)
+spread-more {base} {i} {v} {l} {l′} le h s =
     let other : (j : ℕ) → (j ≡ i → ⊥) → getD (set l′ i v) j 0 ≡ getD l′ j 0 = λ j ne. getD-set-other l′ i j v 0 ne in
     record {
       wrote = λ j p q. elim (decLe i j) [
@@ -135,7 +135,7 @@ spread-more {from} {i} {v} {l} {l′} le h s =
       after = λ j p. other j (λ e. omega arith) ∙ s .after j (omega arith);
     }
 
-pub spread-end : {from i to v : ℕ} {l l′ : List ℕ} → i ≡ to → Spread from i v l l′ → Spread from to v l l′
+pub spread-end : {base i end v : ℕ} {l l′ : List ℕ} → i ≡ end → Spread base i v l l′ → Spread base end v l l′
 spread-end e s = rw e at s
 
 row-bare : (σ : Strides) (c r best free x : ℕ) → rowBelow σ c r none best free x ≡ record { hop = best; link = 0; stride = 0 }

@@ -209,12 +209,12 @@ module _ {σ : Strides} {t : Trie} {rows plan : List ℕ} {k w c n r base free :
 
   -- no trie on the left: what stands here stands on the right
   module _ {k0 : ℕ} (z : k0 ≡ 0) (q0 : k0 ≡ ask rows k 0) where
-    pub right-asks : {k1 : ℕ} → k1 ≡ ask rows k 1 → LevelAsks σ (right t) rows plan k1 (w - 1) d n r base free ls
-    right-asks q1 = second-asks refl (nothing-gives z (first-asks q0)) q1
+    pub only-second-asks : {k1 : ℕ} → k1 ≡ ask rows k 1 → LevelAsks σ (right t) rows plan k1 (w - 1) d n r base free ls
+    only-second-asks q1 = second-asks refl (nothing-gives z (first-asks q0)) q1
 
-    pub right-gives : {base2 f2 : ℕ} {ls2 : Lists} → LevelGives σ (right t) d n r base free ls base2 f2 ls2
+    pub only-second-gives : {base2 f2 : ℕ} {ls2 : Lists} → LevelGives σ (right t) d n r base free ls base2 f2 ls2
         → LevelGives σ t c n r base free ls base2 f2 ls2
-    right-gives u = sides-give refl (nothing-gives z (first-asks q0)) u
+    only-second-gives u = sides-give refl (nothing-gives z (first-asks q0)) u
 
 -- ---- all levels
 -- the levels before level n are there, and no row after them was touched

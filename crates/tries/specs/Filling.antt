@@ -26,14 +26,13 @@ pub record Trunk (σ : Strides) (t : Trie) (rows plan : List ℕ) (k w c r : ℕ
   pub levels : r ≤ length plan
   pub planned : length plan ≤ LEVELS
 
--- ---- the rows from `base` to before `end`, below which there is no node
--- a list holds v from place `from` to before `to`, and else what it held
-pub record Spread (from to v : ℕ) (l l′ : List ℕ) : Type 0 where
-  pub wrote : (i : ℕ) → from ≤ i → i < to → getD l′ i 0 ≡ v
-  pub before : (i : ℕ) → i < from → getD l′ i 0 ≡ getD l i 0
-  pub after : (i : ℕ) → to ≤ i → getD l′ i 0 ≡ getD l i 0
+-- ---- one value from place `base` to before `end` of a list, and else what it held
+pub record Spread (base end v : ℕ) (l l′ : List ℕ) : Type 0 where
+  pub wrote : (i : ℕ) → base ≤ i → i < end → getD l′ i 0 ≡ v
+  pub before : (i : ℕ) → i < base → getD l′ i 0 ≡ getD l i 0
+  pub after : (i : ℕ) → end ≤ i → getD l′ i 0 ≡ getD l i 0
 
--- the hop `best` and no child
+-- ---- the rows from `base` to before `end`, below which there is no node: the hop `best` and no child
 pub record Bare (base end best : ℕ) (ls ls′ : Lists) : Type 0 where
   pub hop : Spread base end best (ls .hop) (ls′ .hop)
   pub link : Spread base end 0 (ls .link) (ls′ .link)

@@ -53,44 +53,44 @@ fn write(hop: &mut [u16], link: &mut [u32], stride: &mut [u8], i: usize, h: u16,
     stride[i] = s as u8;
 }
 
-// The hops from place `from` to before `to` become `best`.
-fn spread_hop(hop: &mut [u16], from: usize, to: usize, best: u16)
-    requires { ⌜ (from ≤ to) × (to ≤ length (now hop)) ⌝ }
-    ensures { λ _. ⌜ Spread from to best (now (hop .entry)) (now (hop .exit)) ⌝ }
+// The hops from `base` to before `end` become `best`.
+fn spread_hop(hop: &mut [u16], base: usize, end: usize, best: u16)
+    requires { ⌜ (base ≤ end) × (end ≤ length (now hop)) ⌝ }
+    ensures { λ _. ⌜ Spread base end best (now (hop .entry)) (now (hop .exit)) ⌝ }
 {
-    let mut i = from;
-    while i < to {
+    let mut i = base;
+    while i < end {
         hop[i] = best;
         i += 1;
     }
 }
 
-// The links from place `from` to before `to` become 0: no child.
-fn clear_link(link: &mut [u32], from: usize, to: usize)
-    requires { ⌜ (from ≤ to) × (to ≤ length (now link)) ⌝ }
-    ensures { λ _. ⌜ Spread from to 0 (now (link .entry)) (now (link .exit)) ⌝ }
+// The links from `base` to before `end` become 0: no child.
+fn clear_link(link: &mut [u32], base: usize, end: usize)
+    requires { ⌜ (base ≤ end) × (end ≤ length (now link)) ⌝ }
+    ensures { λ _. ⌜ Spread base end 0 (now (link .entry)) (now (link .exit)) ⌝ }
 {
-    let mut i = from;
-    while i < to {
+    let mut i = base;
+    while i < end {
         link[i] = 0;
         i += 1;
     }
 }
 
-// The child strides from place `from` to before `to` become 0: no child.
-fn clear_stride(stride: &mut [u8], from: usize, to: usize)
-    requires { ⌜ (from ≤ to) × (to ≤ length (now stride)) ⌝ }
-    ensures { λ _. ⌜ Spread from to 0 (now (stride .entry)) (now (stride .exit)) ⌝ }
+// The child strides from `base` to before `end` become 0: no child.
+fn clear_stride(stride: &mut [u8], base: usize, end: usize)
+    requires { ⌜ (base ≤ end) × (end ≤ length (now stride)) ⌝ }
+    ensures { λ _. ⌜ Spread base end 0 (now (stride .entry)) (now (stride .exit)) ⌝ }
 {
-    let mut i = from;
-    while i < to {
+    let mut i = base;
+    while i < end {
         stride[i] = 0;
         i += 1;
     }
 }
 
 // Writes the rows from `base` to before `end`, below which there is no node: all have the hop `best` and no child. One list after
-// the other: over three lists in one loop the compiler could not take the machine's own way to fill memory.
+// the other, so that the compiler takes `memset` for links and strides: over three lists in one loop it does not.
 fn bare(hop: &mut [u16], link: &mut [u32], stride: &mut [u8], base: usize, end: usize, best: u16)
     requires { ⌜ (base ≤ end) × (end ≤ shortest (lists (now hop) (now link) (now stride))) ⌝ }
     ensures { λ _. ⌜
@@ -126,8 +126,8 @@ fn leaf(
 }
 
 // Writes the 2 ^ c rows from `base` on, below the trie at link k, where `best` is the hop so far in the block. Child blocks have
-// r levels left and lie from row `free` on; returns the row after them. Most rows of a wide block have no node above them, so
-// those are written in one go.
+// r levels left and lie from row `free` on; returns the row after them. Most rows of a wide block have no node, so those are written
+// in one go.
 fn fill(
     rows: &[u64],
     plan: &[u8],
@@ -209,7 +209,7 @@ fn block(
 
 // Writes the blocks of level n below the trie at link k, left to right, from row `to.base` on. The next block on a path begins c
 // levels lower, with r levels left; w address bits are left. The n-th block after one begins at least n levels lower, so a subtrie
-// that is too shallow for it is left. A side without a node is seen before the call, which would hand five lists down for nothing.
+// that is too shallow for it is left. Where one side alone has a node, the other is not called for: a call hands five lists down.
 fn level(
     rows: &[u64],
     plan: &[u8],

@@ -1,5 +1,5 @@
-//! What a Rust programmer would write instead of the archive: the same rows, tests and algorithm in safe Rust. Bounds checks are
-//! those that the compiler leaves in.
+//! What a Rust programmer would write instead of the archive: the same rows, tests and algorithm in safe Rust, but for the pointers
+//! of the header's call. Bounds checks are those that the compiler leaves in.
 
 mod builder;
 mod building;

@@ -4,7 +4,7 @@ use native.Mathlib.Omega.{arith}
 use borrow.Author.Needs.{needs}
 use Rattle.strides.specs.Trie.{left, right}
 use Rattle.tries.proofs.Leveling.{nothing-gives, shallow-gives, at-block, from-block, at-own, from-own, block-bounds, stride-positive, below-asks, below-gives, side-bounds, first-asks}
-use Rattle.tries.proofs.Leveling.{second-asks, sides-give, right-asks, right-gives}
+use Rattle.tries.proofs.Leveling.{second-asks, sides-give, only-second-asks, only-second-gives}
 use Prim.Native.Nat.{ℕ, _<_}
 use borrow.Fn.Kinds.{In}
 use borrow.Fn.PlainCycle.{Measures, is, falls, and}
@@ -133,7 +133,7 @@ level-level-requires-2 t c κs =
     let b = side-bounds (c13 .pre .1 .2) (omega (arith, c7 .if1 .left)) in
     let e : c13 .args .c ≡ suc (c13 .args .c - 1) = omega (arith, ne) in (
       omega (arith, ne, b, c13 .pre .0),
-      (c13 .pre .1 .0, right (c13 .pre .1 .1), right-asks (c13 .pre .1 .2) e (c3 .if5 .taken) (c5 .asked2 .ensures) (c4 .asked3 .ensures)),
+      (c13 .pre .1 .0, right (c13 .pre .1 .1), only-second-asks (c13 .pre .1 .2) e (c3 .if5 .taken) (c5 .asked2 .ensures) (c4 .asked3 .ensures)),
     )
 
 level-same-length-7 : (t : ℕ) → level-lts.Need-same-length-7 (cs t) (level-at t) level.Post
@@ -156,7 +156,7 @@ level-returns-5 t c =
     let e : c20 .args .c ≡ suc (c20 .args .c - 1) = omega (arith, c13 .if2 .left) in
     let z = c10 .if5 .taken in
     let q = c12 .asked2 .ensures in
-    λ σ u g. right-gives g e z q (c6 .level2 .ensures σ (right u) (right-asks g e z q (c11 .asked3 .ensures)))
+    λ σ u g. only-second-gives g e z q (c6 .level2 .ensures σ (right u) (only-second-asks g e z q (c11 .asked3 .ensures)))
 
 -- the left side, then the right one where there is one
 level-sub-level-5 : (t : ℕ) → level-lts.Need-sub-level-5 (cs t) (level-at t) level.Post

@@ -1,5 +1,5 @@
 -- The loop's invariant: the places passed are written, and no other has changed.
-use Prim.Native.Nat.{ℕ, _-_, _≤_}
+use Prim.Native.Nat.{_-_, _≤_}
 use mathlib.Core.Path.{_≡_, refl, _∙_}
 use native.Mathlib.Omega.{arith}
 use lib.ListN.{length, length-set}
@@ -10,10 +10,10 @@ use Rattle.tries.proofs.blocks.clear_link.Statement.{statement}
 use Rattle.tries.proofs.blocks.clear_link.Tie as tie
 
 abbrev Inv-loop : tie.InvT-loop
-Inv-loop link₀ from to i₀ link i = (length link ≡ length link₀) × (from ≤ i) × (i ≤ to) × Spread from i 0 link₀ link
+Inv-loop link₀ base end i₀ link i = (length link ≡ length link₀) × (base ≤ i) × (i ≤ end) × Spread base i 0 link₀ link
 
 abbrev μ-loop : tie.MeasureT-loop
-μ-loop link₀ from to i₀ link i = to - i
+μ-loop link₀ base end i₀ link i = end - i
 
 loop-holds : tie.Need-loop-holds Inv-loop μ-loop
 loop-holds c = (refl, omega arith, omega arith, spread-none)

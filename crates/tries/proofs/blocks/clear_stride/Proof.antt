@@ -1,5 +1,5 @@
 -- The loop's invariant: the places passed are written, and no other has changed.
-use Prim.Native.Nat.{ℕ, _-_, _≤_}
+use Prim.Native.Nat.{_-_, _≤_}
 use mathlib.Core.Path.{_≡_, refl, _∙_}
 use native.Mathlib.Omega.{arith}
 use lib.ListN.{length, length-set}
@@ -10,10 +10,10 @@ use Rattle.tries.proofs.blocks.clear_stride.Statement.{statement}
 use Rattle.tries.proofs.blocks.clear_stride.Tie as tie
 
 abbrev Inv-loop : tie.InvT-loop
-Inv-loop stride₀ from to i₀ stride i = (length stride ≡ length stride₀) × (from ≤ i) × (i ≤ to) × Spread from i 0 stride₀ stride
+Inv-loop stride₀ base end i₀ stride i = (length stride ≡ length stride₀) × (base ≤ i) × (i ≤ end) × Spread base i 0 stride₀ stride
 
 abbrev μ-loop : tie.MeasureT-loop
-μ-loop stride₀ from to i₀ stride i = to - i
+μ-loop stride₀ base end i₀ stride i = end - i
 
 loop-holds : tie.Need-loop-holds Inv-loop μ-loop
 loop-holds c = (refl, omega arith, omega arith, spread-none)

@@ -1,5 +1,5 @@
 -- The loop's invariant: the places passed are written, and no other has changed.
-use Prim.Native.Nat.{ℕ, _-_, _≤_}
+use Prim.Native.Nat.{_-_, _≤_}
 use mathlib.Core.Path.{_≡_, refl, _∙_}
 use native.Mathlib.Omega.{arith}
 use lib.ListN.{length, length-set}
@@ -10,10 +10,10 @@ use Rattle.tries.proofs.blocks.spread_hop.Statement.{statement}
 use Rattle.tries.proofs.blocks.spread_hop.Tie as tie
 
 abbrev Inv-loop : tie.InvT-loop
-Inv-loop hop₀ from to best i₀ hop i = (length hop ≡ length hop₀) × (from ≤ i) × (i ≤ to) × Spread from i best hop₀ hop
+Inv-loop hop₀ base end best i₀ hop i = (length hop ≡ length hop₀) × (base ≤ i) × (i ≤ end) × Spread base i best hop₀ hop
 
 abbrev μ-loop : tie.MeasureT-loop
-μ-loop hop₀ from to best i₀ hop i = to - i
+μ-loop hop₀ base end best i₀ hop i = end - i
 
 loop-holds : tie.Need-loop-holds Inv-loop μ-loop
 loop-holds c = (refl, omega arith, omega arith, spread-none)
