@@ -85,7 +85,7 @@ fn in_plain_rust(kind: Kind, levels: u32, routes: &Routes, scratch: &mut [u64], 
     (built.refusal.map_or_else(refused, |()| Outcome::Accepted), built.record)
 }
 
-/// Both ways in the same scratch, so that neither has the better memory.
+/// Both ways in the same scratch, so that neither has the better place for it; the element lists are each side's own.
 fn timed(kind: Kind, levels: u32, routes: &Routes) -> (Timed, u64) {
     let cost = least(kind, levels, routes);
     let mut ours = Rows::new((cost as usize).min(ELEMENTS));

@@ -1,4 +1,5 @@
-//! A million lookups: the archive against plain Rust, in elements one by one and in a batch, and in a tree bitmap one by one.
+//! A million lookups: the archive against plain Rust, in elements one by one (plain Rust behind the same call, and by reference) and
+//! in a batch, and in a tree bitmap one by one (plain Rust behind a call of its own, by value).
 
 use crate::bitmaps::{timed_lookups, Arrays};
 use crate::building::{Rows, K};
@@ -55,6 +56,7 @@ fn one_by_one(lookup: Lookup, record: Record, rows: &Rows, addresses: &[u32]) ->
     sum
 }
 
+/// A direct call, not inlined.
 fn plain_by_reference(record: Record, rows: &Rows, addresses: &[u32]) -> u64 {
     let rows = rows.elements();
     addresses.iter().map(|address| plain::lookup_by_reference(&record, &rows, *address).sum()).sum()
@@ -104,6 +106,6 @@ pub fn measure(routes: &Routes) {
     for pattern in PATTERNS {
         let addresses = routes.addresses(pattern, LOOKUPS, SEED);
         let timed = timed_lookups(record, &arrays, &addresses, ROUNDS);
-        tell("Bitmap", record.supernodes, pattern, "one by one", &timed);
+        tell("Bitmap", record.supernodes, pattern, "one by one, by value", &timed);
     }
 }
