@@ -4,13 +4,13 @@
 // filled with sevens. The answer is the outcome, the cost, the strides, and how many zeros and how many sevens scratch
 // then holds.
 use cases::Held;
+use choosers::Chosen;
 use libc::STDIN_FILENO;
 use printing::put;
 use printing::say;
 use printing::say_outcome;
 use printing::say_scratch;
 use printing::say_strides;
-use tries::Chosen;
 
 fn say_chosen(chosen: Chosen) {
     let outcome = chosen.outcome;
@@ -32,9 +32,9 @@ fn chosen(
     scratch: &mut [u64],
 ) -> Chosen {
     if letter == b'f' {
-        return tries::choose_fixed(width, levels, values, lengths, hops, scratch);
+        return choosers::choose_fixed(width, levels, values, lengths, hops, scratch);
     }
-    tries::choose_variable(width, levels, values, lengths, hops, scratch)
+    choosers::choose_variable(width, levels, values, lengths, hops, scratch)
 }
 
 fn answer(

@@ -15,10 +15,10 @@ use Rattle.strides.specs.Cheapest.{Kind, Cheapest}
 use Rattle.walk.specs.Limits.{WIDTH}
 use Rattle.walk.specs.Rows.{Lists, shortest}
 use Rattle.layout.specs.Laid.{tableTrie}
-use Rattle.tries.specs.Chooser.{chooseTests}
+use Rattle.choosers.specs.Chooser.{chooseTests}
 use Rattle.tries.specs.Build.{buildTests}
 use Rattle.walk.specs.Meaning.{Tested, Looked}
-use Rattle.tries.proofs.ChooseTests.{numbered-choose}
+use Rattle.choosers.proofs.ChooseTests.{numbered-choose}
 use Rattle.tries.proofs.BuildSteps.{numbered-build}
 use Rattle.walk.specs.declared.record.Record.{Record}
 use Rattle.visits.specs.declared.record.Bitmap.{Bitmap}

@@ -13,7 +13,7 @@ use Rattle.strides.specs.Cheapest.{Kind}
 use Rattle.walk.specs.Limits.{WIDTH}
 use Rattle.walk.specs.Rows.{Lists}
 use Rattle.walk.specs.Meaning.{Looked}
-use Rattle.tries.specs.declared.chooser.Chosen.{Chosen}
+use Rattle.choosers.specs.declared.chooser.Chosen.{Chosen}
 use Rattle.tries.specs.declared.building.Built.{Built}
 use Rattle.walk.specs.declared.record.Record.{Record}
 use Rattle.visits.specs.declared.record.Bitmap.{Bitmap}
@@ -22,7 +22,7 @@ use Rattle.visits.specs.Meaning.{LookedBitmap}
 use Rattle.visits.proofs.Unique.{looked-bitmap-unique}
 use Rattle.supernodes.specs.declared.building.BuiltBitmap.{BuiltBitmap}
 use Rattle.supernodes.proofs.Unique.{bitmap-unique}
-use Rattle.tries.proofs.Choosing.{chooses-unique}
+use Rattle.choosers.proofs.Choosing.{chooses-unique}
 use Rattle.tries.proofs.Unique.{builds-unique}
 use Rattle.walk.proofs.Unique.{looked-unique}
 use Rattle.gateway.specs.Numbers.{Told, outcomeNumbers, sharedNumbers, spanNumbers, choiceNumbers, buildNumbers, bitmapNumbers, answerNumbers}

@@ -3,12 +3,12 @@ use mathlib.Core.List.{List}
 use Prim.Native.Nat.{ℕ}
 use Rattle.strides.specs.Cheapest.{Kind}
 use Rattle.walk.specs.Rows.{Lists}
-use Rattle.tries.specs.Chooser.{ChosenIs, Chooses}
+use Rattle.choosers.specs.Chooser.{ChosenIs, Chooses}
 use Rattle.tries.specs.Build.{BuildIs, Builds}
 use Rattle.visits.specs.Rows.{RowLists}
 use Rattle.supernodes.specs.Build.{BitmapIs, BuildsBitmap}
 use Rattle.supernodes.specs.declared.building.BuiltBitmap.{BuiltBitmap}
-use Rattle.tries.specs.declared.chooser.Chosen.{Chosen}
+use Rattle.choosers.specs.declared.chooser.Chosen.{Chosen}
 use Rattle.tries.specs.declared.building.Built.{Built}
 
 module _ (kind : Kind) (W k : ℕ) (vs ls hs : List ℕ) where

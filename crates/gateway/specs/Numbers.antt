@@ -8,7 +8,7 @@ use Rattle.table.specs.declared.entry.Outcome.{Outcome}
 use Rattle.table.specs.declared.sharing.Shared.{Shared}
 use Rattle.table.specs.declared.zoning.Span.{Span}
 use Rattle.walk.specs.Answers.{numberOf, hopOf, readsOf}
-use Rattle.tries.specs.declared.chooser.Chosen.{Chosen}
+use Rattle.choosers.specs.declared.chooser.Chosen.{Chosen}
 use Rattle.tries.specs.declared.building.Built.{Built}
 use Rattle.walk.specs.declared.walk.Answer.{Answer}
 use Rattle.supernodes.specs.declared.building.BuiltBitmap.{BuiltBitmap}

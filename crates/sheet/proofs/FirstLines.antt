@@ -7,8 +7,8 @@ use native.Mathlib.Omega.{arith}
 use native.Mathlib.Nat.{zero-add}
 use lib.Dec.{eqb, ltb}
 use borrow.Author.Tests.{ne-eqb}
-use Rattle.tries.specs.declared.chooser.Kind.{Kind}
-use Rattle.tries.specs.declared.chooser.Kind.the-variants.{Fixed, Variable}
+use Rattle.choosers.specs.declared.chooser.Kind.{Kind}
+use Rattle.choosers.specs.declared.chooser.Kind.the-variants.{Fixed, Variable}
 use Rattle.io.specs.Digits.{digits, glyph}
 use Rattle.sheet.specs.Limits.{LF, ZERO-DIGIT}
 use Rattle.sheet.specs.Printing.{decimalLength, decimal, binary, lineOf, bitsLineOf}

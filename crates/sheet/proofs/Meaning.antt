@@ -27,10 +27,10 @@ use Rattle.strides.proofs.Follows.{follows-good, follows-unique}
 use Rattle.layout.specs.Blocks.{Strides, rowCount, strideOf, Agree}
 use Rattle.tries.specs.Build.{buildTests}
 use Rattle.layout.specs.Laid.{tableTrie}
-use Rattle.tries.specs.Chooser.{chooseTests}
-use Rattle.tries.specs.Scratch.{ROW}
+use Rattle.choosers.specs.Chooser.{chooseTests}
+use Rattle.choosers.specs.Scratch.{ROW}
 use Rattle.layout.proofs.Agreeing.{same-agree, blocks-same, count-same, stride-same}
-use Rattle.tries.proofs.ChooseTests.{accepted-levels, accepted-tests-table}
+use Rattle.choosers.proofs.ChooseTests.{accepted-levels, accepted-tests-table}
 use Rattle.tries.proofs.BuildSteps.{tests-least}
 use Rattle.sheet.specs.declared.running.Report.{Report}
 use Rattle.sheet.specs.Limits.{LENT-ROWS, LENT-ELEMENTS}

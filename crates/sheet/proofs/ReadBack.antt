@@ -13,8 +13,8 @@ use lib.Seq.{getD-drop, drop-drop, drop-append-seam, append-snoc, ext-getD}
 use lib.Dec.{eqb, ltb, lit<, lit≤}
 use borrow.Author.Tests.{lt-ltb, le-ltb, le-leb, eq-eqb, eqb-true}
 use Rattle.table.specs.Table.{at}
-use Rattle.tries.specs.declared.chooser.Kind.{Kind}
-use Rattle.tries.specs.declared.chooser.Kind.the-variants.{Fixed, Variable}
+use Rattle.choosers.specs.declared.chooser.Kind.{Kind}
+use Rattle.choosers.specs.declared.chooser.Kind.the-variants.{Fixed, Variable}
 use Rattle.io.specs.Digits.{digits, glyph, Fewest}
 use Rattle.sheet.specs.declared.lines.Spot.{Spot}
 use Rattle.sheet.specs.declared.lines.Item.{Item}

@@ -8,7 +8,7 @@ use lib.Dec.{eqb, ltb}
 use lib.ListN.{length, length-append}
 use borrow.Author.Tests.{le-leb}
 use Rattle.table.specs.Table.{at}
-use Rattle.tries.specs.declared.chooser.Kind.{Kind}
+use Rattle.choosers.specs.declared.chooser.Kind.{Kind}
 use Rattle.table.specs.declared.entry.Outcome.{Outcome}
 use Rattle.table.specs.declared.entry.Outcome.the-variants.{Accepted, Refused}
 use Rattle.sheet.specs.declared.running.Report.{Report}

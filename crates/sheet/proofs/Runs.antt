@@ -11,7 +11,7 @@ use lib.Dec.{leb}
 use borrow.Author.Tests.{le-leb, lt-leb}
 use Rattle.io.specs.Counts.{Counts}
 use Rattle.table.specs.Table.{at}
-use Rattle.tries.specs.declared.chooser.Kind.{Kind}
+use Rattle.choosers.specs.declared.chooser.Kind.{Kind}
 use Rattle.sheet.specs.declared.parsing.Parsed.{Parsed}
 use Rattle.sheet.specs.declared.running.Report.{Report}
 use Rattle.sheet.specs.Limits.{COUNT, PAGE}

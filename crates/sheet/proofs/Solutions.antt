@@ -12,9 +12,9 @@ use Rattle.walk.specs.Rows.{Lists, shortest}
 use Rattle.layout.specs.Blocks.{rowCount, strideOf}
 use Rattle.tries.specs.Build.{BuildIs}
 use Rattle.layout.specs.Laid.{tableTrie, Laid}
-use Rattle.tries.specs.Scratch.{ROW}
-use Rattle.tries.specs.Kinds.{kindOf}
-use Rattle.tries.specs.declared.chooser.Kind as code
+use Rattle.choosers.specs.Scratch.{ROW}
+use Rattle.choosers.specs.Kinds.{kindOf}
+use Rattle.choosers.specs.declared.chooser.Kind as code
 use Rattle.walk.specs.declared.record.Record.{Record}
 use Rattle.layout.proofs.Laid.{hop-longest, reads-blocks}
 use Rattle.sheet.specs.Limits.{LENT-ROWS, LENT-ELEMENTS}

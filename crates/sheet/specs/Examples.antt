@@ -3,7 +3,7 @@ use mathlib.Core.Path.{_≡_, refl}
 use mathlib.Core.List.{List, [], _∷_, _++_}
 use Prim.Native.Nat.{ℕ}
 use lib.ListN.{take}
-use Rattle.tries.specs.declared.chooser.Kind.the-variants.{Variable}
+use Rattle.choosers.specs.declared.chooser.Kind.the-variants.{Variable}
 use Rattle.sheet.specs.Lines.{byteAt, keyAt, isDigit, countAt, valueAt, digitsAt, unpadded, badLine, close, numberLine, bitsLine, kindLine}
 use Rattle.table.specs.Lists.{listed}
 use Rattle.sheet.specs.Entries.{entryFrom, addressFrom, afterEntries, afterQueries, entryBits, entryLength, entryHop, queryAddress, queryPlaces}

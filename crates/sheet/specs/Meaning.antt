@@ -17,8 +17,8 @@ use Rattle.layout.specs.Blocks.{Strides, rowCount, strideOf}
 use Rattle.tries.specs.Build.{buildTests}
 use Rattle.table.specs.Longest.{LongestHop}
 use Rattle.layout.specs.Laid.{tableTrie}
-use Rattle.tries.specs.Kinds.{kindOf}
-use Rattle.tries.specs.Scratch.{ROW}
+use Rattle.choosers.specs.Kinds.{kindOf}
+use Rattle.choosers.specs.Scratch.{ROW}
 use Rattle.sheet.specs.declared.running.Report.{Report}
 use Rattle.sheet.specs.Limits.{LENT-ROWS, LENT-ELEMENTS}
 use Rattle.sheet.specs.Printing.{refusalLines, headLines, answerLines, joined}

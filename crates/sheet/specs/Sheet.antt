@@ -2,7 +2,7 @@
 -- address line each".
 use mathlib.Core.List.{List}
 use Prim.Native.Nat.{ℕ}
-use Rattle.tries.specs.declared.chooser.Kind.{Kind}
+use Rattle.choosers.specs.declared.chooser.Kind.{Kind}
 
 -- bits and addresses as the numbers that their digits spell, with the counts of the digits
 pub record Sheet : Type 0 where

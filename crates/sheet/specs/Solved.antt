@@ -15,9 +15,9 @@ use Rattle.strides.specs.Strides.{chosenBy}
 use Rattle.layout.specs.Blocks.{Strides, blockCount, rowCount, strideOf}
 use Rattle.tries.specs.Build.{buildTests}
 use Rattle.layout.specs.Laid.{tableTrie}
-use Rattle.tries.specs.Kinds.{kindOf}
-use Rattle.tries.specs.declared.chooser.Kind as code
-use Rattle.tries.specs.Scratch.{ROW}
+use Rattle.choosers.specs.Kinds.{kindOf}
+use Rattle.choosers.specs.declared.chooser.Kind as code
+use Rattle.choosers.specs.Scratch.{ROW}
 use Rattle.sheet.specs.Limits.{LENT-ROWS, LENT-ELEMENTS}
 use Rattle.sheet.specs.Printing.{refusalLines}
 use Rattle.sheet.specs.Answers.{answersReport}

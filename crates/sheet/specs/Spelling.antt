@@ -6,8 +6,8 @@ use mathlib.Core.List.{List, [], _∷_, _++_}
 use Prim.Native.Nat.{ℕ, _^_, _≤_, _<_}
 use lib.ListN.{length}
 use Rattle.table.specs.Table.{at}
-use Rattle.tries.specs.declared.chooser.Kind.{Kind}
-use Rattle.tries.specs.declared.chooser.Kind.the-variants.{Fixed, Variable}
+use Rattle.choosers.specs.declared.chooser.Kind.{Kind}
+use Rattle.choosers.specs.declared.chooser.Kind.the-variants.{Fixed, Variable}
 use Rattle.sheet.specs.Limits.{COUNT, NUMBER, HOP, BITS, LF}
 use Rattle.sheet.specs.Keys.{widthKey, fixedKey, variableKey, levelsKey, entriesKey, bitsKey, hopKey, queriesKey, addressKey}
 use Rattle.sheet.specs.Printing.{lineOf, bitsLineOf, joined}

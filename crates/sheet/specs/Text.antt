@@ -7,8 +7,8 @@ use Prim.Native.Nat.{ℕ, zero, suc, _^_, _≤_, _<_}
 use lib.ListN.{length, take}
 use lib.Dec.{eqb}
 use Rattle.table.specs.Table.{at}
-use Rattle.tries.specs.declared.chooser.Kind.{Kind}
-use Rattle.tries.specs.declared.chooser.Kind.the-variants.{Fixed, Variable}
+use Rattle.choosers.specs.declared.chooser.Kind.{Kind}
+use Rattle.choosers.specs.declared.chooser.Kind.the-variants.{Fixed, Variable}
 use Rattle.sheet.specs.Sheet.{Sheet}
 use Rattle.sheet.specs.declared.lines.Spot.{Spot}
 use Rattle.sheet.specs.declared.lines.Item.{Item}

@@ -3,7 +3,7 @@
 ghost use mathlib.Core.Path.{_≡_};
 ghost use Prim.Native.Nat.{_*_};
 ghost use lib.ListN.{length};
-ghost use Rattle.tries.specs.Scratch.{ROW};
+ghost use Rattle.choosers.specs.Scratch.{ROW};
 ghost use Rattle.sheet.specs.Limits.{LENT-ROWS, LENT-ELEMENTS};
 use crate::limits::LENT_ELEMENTS;
 use crate::limits::LENT_ROWS;

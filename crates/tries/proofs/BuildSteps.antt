@@ -24,28 +24,25 @@ use Rattle.strides.specs.Trie.{Trie, none, node, depth, nodesAt}
 use Rattle.strides.specs.Entries.{wholeEntry, markAt, floorOf}
 use Rattle.strides.specs.Cheapest.{Kind, fixed, variable, Cheapest}
 use Rattle.strides.specs.Recurrence.{plain, leastBy, stridesBy, fixedStrides, listBy, pickBy}
-use Rattle.strides.specs.Strides.{Follows, chosenBy, costBy, variableStride, fixedStride}
+use Rattle.strides.specs.Strides.{Good, chosenBy, variableStride, fixedStride}
 use Rattle.strides.proofs.Cheapest.{chosen-good, chosen-follows, least-cheapest, strides-named, cheapest-unique}
-use Rattle.strides.proofs.Capped.{chosen-capped, strides-capped, follows-capped}
-use Rattle.strides.proofs.Follows.{follows-unique}
+use Rattle.strides.proofs.Insertion.{trie-depth-width}
+use Rattle.strides.proofs.Follows.{follows-good, follows-cheapest, follows-unique}
 use Rattle.walk.specs.declared.record.Record.{Record}
 use Rattle.walk.specs.Limits.{WIDTH, LEVELS}
-use Rattle.tries.specs.Limits.{ELEMENTS, COST-CAP}
+use Rattle.tries.specs.Limits.{ELEMENTS}
 use Rattle.walk.specs.Rows.{Lists, lists, shortest, root, rowAt}
-use Rattle.layout.specs.Blocks.{Strides, strideOf, rowCount}
+use Rattle.layout.specs.Blocks.{Strides, strideOf, rowCount, Agree}
 use Rattle.layout.specs.Laid.{tableTrie, tableFloor, Laid}
-use Rattle.tries.specs.Filling.{Trunk, HasRoom, LayAsks, LayGives, Lays, CanLay}
-use Rattle.tries.specs.Costs.{held}
-use Rattle.tries.specs.Chooser.{padded}
-use Rattle.tries.specs.Chooser.{chooseTests, ifAccepted}
-use Rattle.tries.specs.Plans.{PlanIn, Planned}
+use Rattle.tries.specs.Filling.{LayAsks, LayGives, Lays, PlanFor}
+use Rattle.choosers.specs.Chooser.{padded, chooseTests, ifAccepted}
+use Rattle.choosers.specs.Plans.{PlanIs}
 use Rattle.tries.specs.Build.{roomTest, buildTests, NoRecord, Keeps, RowsAre, RowsBuilt, BuildIs, Builds}
 use Rattle.layout.proofs.Cost.{count-cost}
-use Rattle.layout.proofs.Agreeing.{same-agree, laid-agree}
+use Rattle.layout.proofs.Agreeing.{same-agree, stride-same, laid-agree}
 use Rattle.tries.proofs.Laying.{lays-built}
-use Rattle.tries.proofs.FixedChoice.{padded-read}
-use Rattle.tries.proofs.ChooseTests.{numbered-choose, accepted-plan, accepted-levels}
-use Rattle.tries.proofs.Plans.{below-cap, plan-depth-width}
+use Rattle.choosers.proofs.FixedChoice.{padded-read}
+use Rattle.choosers.proofs.ChooseTests.{numbered-choose, accepted-levels, accepted-tests-table}
 
 -- ---- the floor: an entry of length 0 can only be the first
 
@@ -112,82 +109,89 @@ numbered-build W k vs ls hs words room least =
 pub few-rows : (room e : ℕ) → (ltb room e || ltb ELEMENTS e) ≡ false → e ≤ ELEMENTS
 few-rows room e f = ltb-false ELEMENTS e (or-false (ltb room e) (ltb ELEMENTS e) f .1)
 
--- ---- the first stride of a choice is the root's
+-- ---- the first stride that the record names is the root's
 
-first-stride : (kind : Kind) (k : ℕ) (t : Trie) → 1 ≤ k → getD (padded LEVELS (stridesBy held kind k t)) 0 0 ≡ strideOf (chosenBy held kind k t) k t
+first-stride : (kind : Kind) (k : ℕ) (t : Trie) → 1 ≤ k → getD (padded LEVELS (stridesBy plain kind k t)) 0 0 ≡ strideOf (chosenBy plain kind k t) k t
 unfolding stridesBy chosenBy fixedStride variableStride padded pickBy fixedStrides listBy depth
 first-stride kind zero t h = absurd (omega arith)
 first-stride fixed (suc m) none h = no-levels m
   where
-    no-levels : (m : ℕ) → getD (padded LEVELS (listBy held (λ i. nodesAt i none) m 0 0)) 0 0 ≡ 0
+    no-levels : (m : ℕ) → getD (padded LEVELS (listBy plain (λ i. nodesAt i none) m 0 0)) 0 0 ≡ 0
     no-levels zero = refl
     no-levels (suc m) = refl
 first-stride fixed (suc m) (node p a q b) h =
-    padded-read LEVELS (fixedStrides held (suc m) (node p a q b)) 0 (omega arith) ∙ ap (λ (x : ℕ). getD (fixedStrides held (suc m) (node p a q b)) x 0) (let e : 0 ≡ suc m - suc m = omega arith in e)
+    padded-read LEVELS (fixedStrides plain (suc m) (node p a q b)) 0 (omega arith)
+    ∙ ap (λ (x : ℕ). getD (fixedStrides plain (suc m) (node p a q b)) x 0) (let e : 0 ≡ suc m - suc m = omega arith in e)
 first-stride variable (suc m) none h = refl
 first-stride variable (suc m) (node p a q b) h = refl
 
--- ---- the builder may be called
+-- ---- the rows of a plan: its strides, whichever follow the tie rule, are those that the recurrences find wherever a block begins
 
-module _ (kind : Kind) {W k : ℕ} {vs ls hs scratch : List ℕ} (g : PlanIn W k vs ls hs scratch) where
-  pub count-least : rowCount (chosenBy held kind k (tableTrie W vs ls hs)) k (tableTrie W vs ls hs) ≡ leastBy plain kind k (tableTrie W vs ls hs)
-  count-least =
-      count-cost (chosenBy held kind k (tableTrie W vs ls hs)) (tableTrie W vs ls hs) k
-      ∙ chosen-capped COST-CAP kind k (tableTrie W vs ls hs) (g .levels .0) (below-cap W k vs ls hs scratch g kind)
+module _ {kind : Kind} {W k : ℕ} {vs ls hs : List ℕ} {cost root : ℕ} {strides plan rows : List ℕ} (g : PlanFor kind W k vs ls hs cost strides plan root rows) where
+  abbrev trie : Trie
+  trie = tableTrie W vs ls hs
 
-  pub may-lay : {cost root : ℕ} {strides plan rows : List ℕ} (lent : Lists) → Planned kind W k vs ls hs cost strides plan root rows
-      → (ltb (shortest lent) cost || ltb ELEMENTS cost) ≡ false → LayAsks (chosenBy held kind k (tableTrie W vs ls hs)) (tableTrie W vs ls hs) rows (take k plan) root W k lent
-  may-lay {cost} {plan = plan} lent p fits =
+  abbrev σ : Strides
+  σ = g .planned .readable .σ
+
+  depth-width : depth trie ≤ W
+  depth-width = trie-depth-width W (at vs) (at ls) (at hs) (length vs) (λ i h. g .table .entry i h .prefix)
+
+  plan-good : Good σ trie W 0 k
+  plan-good = follows-good kind k trie W σ (g .levels .0) depth-width (g .planned .readable .follows)
+
+  plan-agrees : Agree σ (chosenBy plain kind k trie) trie 0 k
+  plan-agrees =
+      let chosen = chosenBy plain kind k trie in
+      same-agree σ chosen trie W 0 k plan-good (follows-unique kind k trie σ chosen (g .planned .readable .follows) (chosen-follows kind k trie (g .levels .0)))
+
+  count-cost-is : rowCount σ k trie ≡ cost
+  count-cost-is =
+      count-cost σ trie k
+      ∙ cheapest-unique kind k trie (follows-cheapest kind k trie σ (g .levels .0) (g .planned .readable .follows)) (least-cheapest kind k trie (g .levels .0))
+      ∙ sym (g .planned .least)
+
+  -- ---- the builder may be called
+
+  pub may-lay : (lent : Lists) → (ltb (shortest lent) cost || ltb ELEMENTS cost) ≡ false → LayAsks σ trie rows (take k plan) root W k lent
+  may-lay lent fits =
       let f = or-false (ltb (shortest lent) cost) (ltb ELEMENTS cost) fits in
-      let le : length (take k plan) ≡ k = length-take k plan ∙ omega (arith, p .plan-long, g .levels .1) in
+      let le : length (take k plan) ≡ k = length-take k plan ∙ omega (arith, g .planned .readable .long, g .levels .1) in
       record {
         trunk = record {
-          stands = p .stands;
-          good = chosen-good held kind k (tableTrie W vs ls hs) W (g .levels .0) (plan-depth-width W k vs ls hs scratch g);
+          stands = g .planned .readable .stands;
+          good = plan-good;
           narrow = g .table .width;
           levels = omega (arith, le, g .levels);
           planned = omega (arith, le, g .levels);
         };
         room = record {
-          fits = omega (arith, count-least, p .least, ltb-false (shortest lent) cost (f .0));
-          few = omega (arith, count-least, p .least, ltb-false ELEMENTS cost (f .1));
+          fits = omega (arith, count-cost-is, ltb-false (shortest lent) cost (f .0));
+          few = omega (arith, count-cost-is, ltb-false ELEMENTS cost (f .1));
         };
       }
 
   -- the root's stride in the record is that of the root's block
-  pub root-named : (strides : List ℕ) → strides ≡ padded LEVELS (stridesBy plain kind k (tableTrie W vs ls hs))
-      → getD strides 0 0 ≡ strideOf (chosenBy held kind k (tableTrie W vs ls hs)) k (tableTrie W vs ls hs)
-  root-named strides e =
-      ap (λ (ss : List ℕ). getD ss 0 0) (e ∙ ap (padded LEVELS) (sym (strides-capped COST-CAP kind k (tableTrie W vs ls hs) (g .levels .0) (below-cap W k vs ls hs scratch g kind))))
-      ∙ first-stride kind k (tableTrie W vs ls hs) (g .levels .0)
+  root-named : getD strides 0 0 ≡ strideOf σ k trie
+  root-named =
+      ap (λ (ss : List ℕ). getD ss 0 0) (g .planned .named) ∙ first-stride kind k trie (g .levels .0)
+      ∙ sym (stride-same σ (chosenBy plain kind k trie) trie k plan-agrees)
 
-  -- ---- the answers
+  -- ---- accepted: what `lay` gave, with the record's fields
 
-  -- accepted: what `lay` gave, with the record's fields
-  pub accepted-laid : {cost root : ℕ} {strides plan rows : List ℕ} {lent lent′ : Lists} {e : ℕ} (rec : Record) → Planned kind W k vs ls hs cost strides plan root rows
-      → LayAsks (chosenBy held kind k (tableTrie W vs ls hs)) (tableTrie W vs ls hs) rows (take k plan) root W k lent
-      → LayGives (chosenBy held kind k (tableTrie W vs ls hs)) (tableTrie W vs ls hs) k lent e lent′ → shortest lent′ ≡ shortest lent
-      → rec .width ≡ W → rec .levels ≡ k → rec .elements ≡ cost → rec .floor ≡ tableFloor W vs ls hs → rec .strides ≡ strides
-      → Laid WIDTH W vs ls hs (chosenBy held kind k (tableTrie W vs ls hs)) k rec lent′
-  accepted-laid rec p asks gives s ew ek ee ef es = record {
-    table = g .table;
-    width = ew;
-    levels = ek;
-    floor = ef;
-    built = lays-built rec asks gives s (g .table .some-width) (g .levels .0) ew ek (ee ∙ p .least ∙ sym count-least ∙ sym (gives .count)) (root-named (rec .strides) (es ∙ p .named));
-  }
-
-  -- the cap never bites: the strides found with it are those found without, wherever a block begins
-  plain-laid : {rec : Record} {rows : Lists} → Laid WIDTH W vs ls hs (chosenBy held kind k (tableTrie W vs ls hs)) k rec rows
-      → Laid WIDTH W vs ls hs (chosenBy plain kind k (tableTrie W vs ls hs)) k rec rows
-  plain-laid =
-      let t = tableTrie W vs ls hs in
-      let some = g .levels .0 in
-      let d = plan-depth-width W k vs ls hs scratch g in
-      let good = chosen-good held kind k t W some d in
-      let follows = follows-capped COST-CAP kind k t some (below-cap W k vs ls hs scratch g kind) in
-      let one = follows-unique kind k t (chosenBy held kind k t) (chosenBy plain kind k t) follows (chosen-follows kind k t some) in
-      laid-agree (same-agree (chosenBy held kind k t) (chosenBy plain kind k t) t W 0 k good one) (chosen-good plain kind k t W some d)
+  pub accepted-laid : {lent lent′ : Lists} {e : ℕ} (rec : Record) → LayAsks σ trie rows (take k plan) root W k lent → LayGives σ trie k lent e lent′
+      → shortest lent′ ≡ shortest lent → rec .width ≡ W → rec .levels ≡ k → rec .elements ≡ cost → rec .floor ≡ tableFloor W vs ls hs → rec .strides ≡ strides
+      → Laid WIDTH W vs ls hs (chosenBy plain kind k trie) k rec lent′
+  accepted-laid rec asks gives s ew ek ee ef es =
+      laid-agree plan-agrees (chosen-good plain kind k trie W (g .levels .0) depth-width)
+      (record {
+        table = g .table;
+        width = ew;
+        levels = ek;
+        floor = ef;
+        built = lays-built rec asks gives s (g .table .some-width) (g .levels .0) ew ek (ee ∙ sym count-cost-is ∙ sym (gives .count))
+            (ap (λ (ss : List ℕ). getD ss 0 0) es ∙ root-named);
+      })
 
 -- ---- the three answers
 
@@ -200,13 +204,13 @@ nothing-written kind W k vs ls hs lent e z = record {
   keeps = record { hops = refl; links = refl; strides = refl; later = λ a. absurd (refused-not-accepted (sym e ∙ a)); refused = λ ne. (z, refl) };
 }
 
-module _ (kind : Kind) {W k : ℕ} {vs ls hs scratch : List ℕ} (g : PlanIn W k vs ls hs scratch) (lent : Lists) {cost root : ℕ} {strides plan rows : List ℕ} {out : Outcome} {rec : Record}
-    (p : Planned kind W k vs ls hs cost strides plan root rows) where
+module _ {kind : Kind} {W k : ℕ} {vs ls hs : List ℕ} {cost root : ℕ} {strides plan rows : List ℕ} (g : PlanFor kind W k vs ls hs cost strides plan root rows)
+    (lent : Lists) {out : Outcome} {rec : Record} where
   -- refused by 7
   pub crowded-is : (ltb (shortest lent) cost || ltb ELEMENTS cost) ≡ true → out ≡ Refused 7 cost → NoRecord rec → RowsBuilt kind W k vs ls hs lent out rec lent
   unfolding outcome
   crowded-is f e z = record {
-    tests = e ∙ sym (rw (sym (p .least)) (outcome-fails (roomTest cost (shortest lent)) [] f));
+    tests = e ∙ sym (rw (sym (g .planned .least)) (outcome-fails (roomTest cost (shortest lent)) [] f));
     written = nothing-written kind W k vs ls hs lent e z;
   }
 
@@ -217,41 +221,50 @@ module _ (kind : Kind) {W k : ℕ} {vs ls hs scratch : List ℕ} (g : PlanIn W k
       → out ≡ Accepted → RowsBuilt kind W k vs ls hs lent out rec lent′
   unfolding outcome
   built-is lent′ {e} f lays sh sl ss ew ek ee ef es o =
-      let asks = may-lay kind g lent p f in
-      let gives = lays (chosenBy held kind k (tableTrie W vs ls hs)) (tableTrie W vs ls hs) asks in
+      let asks = may-lay g lent f in
+      let gives = lays _ _ asks in
       let same : shortest lent′ ≡ shortest lent = omega arith in
-      let count : cost ≡ e = p .least ∙ sym (count-least kind g) ∙ sym (gives .count) in
+      let count : cost ≡ e = sym (count-cost-is g) ∙ sym (gives .count) in
       record {
-        tests = o ∙ sym (rw (sym (p .least)) (outcome-passes (roomTest cost (shortest lent)) [] f));
+        tests = o ∙ sym (rw (sym (g .planned .least)) (outcome-passes (roomTest cost (shortest lent)) [] f));
         written = record {
-          laid = λ a. plain-laid kind g (accepted-laid kind g rec p asks gives same ew ek ee ef es);
-          named = λ a. es ∙ p .named;
+          laid = λ a. accepted-laid g rec asks gives same ew ek ee ef es;
+          named = λ a. es ∙ g .planned .named;
           keeps = record { hops = sh; links = sl; strides = ss; later = λ a i h. gives .after i (omega (arith, count, ee)); refused = λ ne. absurd (ne o) };
         };
       }
 
--- refused by 1 to 6
-pub early-is : (kind : Kind) (W k : ℕ) (vs ls hs scratch : List ℕ) (lent : Lists) {out res : Outcome} {n d : ℕ} {rec : Record} → res ≡ outcome (chooseTests W k vs ls hs (length scratch))
-    → res ≡ Refused n d → out ≡ Refused n d → NoRecord rec → BuildIs kind W k vs ls hs scratch lent out rec scratch lent
-unfolding ifAccepted
-early-is kind W k vs ls hs scratch lent e f o z =
-    let t = sym e ∙ f in
-    record {
-      tests = o ∙ sym (early W k vs ls hs (length scratch) (shortest lent) (leastBy plain kind k (tableTrie W vs ls hs)) t);
-      after = rw t refl;
-      written = nothing-written kind W k vs ls hs lent o z;
-    }
+module _ (kind : Kind) (W k : ℕ) (vs ls hs scratch : List ℕ) {planned : Outcome} {cost root : ℕ} {strides plan rows : List ℕ}
+    (p : PlanIs kind W k vs ls hs scratch planned cost strides plan root rows) where
+  -- an accepted plan is one for this table
+  pub plan-for : planned ≡ Accepted → PlanFor kind W k vs ls hs cost strides plan root rows
+  plan-for e =
+      let a = sym (p .tests) ∙ e in
+      record { table = accepted-tests-table W k vs ls hs (length scratch) a; levels = accepted-levels W k vs ls hs (length scratch) a; planned = p .planned e }
 
--- past them
-pub past-is : (kind : Kind) (W k : ℕ) (vs ls hs scratch : List ℕ) (lent : Lists) {out : Outcome} {rec : Record} {scratch′ : List ℕ} {lent′ : Lists}
-    → outcome (chooseTests W k vs ls hs (length scratch)) ≡ Accepted → RowsBuilt kind W k vs ls hs lent out rec lent′ → scratch′ ≡ replicate (length scratch) 0
-    → BuildIs kind W k vs ls hs scratch lent out rec scratch′ lent′
-unfolding ifAccepted
-past-is kind W k vs ls hs scratch lent e b z = record {
-  tests = b .tests ∙ sym (late W k vs ls hs (length scratch) (shortest lent) (leastBy plain kind k (tableTrie W vs ls hs)) e);
-  after = rw e z;
-  written = b .written;
-}
+  module _ (lent : Lists) {out : Outcome} {rec : Record} where
+    -- refused by 1 to 6
+    pub early-is : {n d : ℕ} → planned ≡ Refused n d → out ≡ Refused n d → NoRecord rec → BuildIs kind W k vs ls hs scratch lent out rec rows lent
+    unfolding ifAccepted
+    early-is f o z =
+        let t = sym (p .tests) ∙ f in
+        record {
+          tests = o ∙ sym (early W k vs ls hs (length scratch) (shortest lent) (leastBy plain kind k (tableTrie W vs ls hs)) t);
+          after = p .refused (λ a. refused-not-accepted (sym f ∙ a)) .1 ∙ rw t refl;
+          written = nothing-written kind W k vs ls hs lent o z;
+        }
+
+    -- past them
+    pub past-is : {scratch′ : List ℕ} {lent′ : Lists} → planned ≡ Accepted → RowsBuilt kind W k vs ls hs lent out rec lent′ → scratch′ ≡ replicate (length scratch) 0
+        → BuildIs kind W k vs ls hs scratch lent out rec scratch′ lent′
+    unfolding ifAccepted
+    past-is f b z =
+        let t = sym (p .tests) ∙ f in
+        record {
+          tests = b .tests ∙ sym (late W k vs ls hs (length scratch) (shortest lent) (leastBy plain kind k (tableTrie W vs ls hs)) t);
+          after = rw t z;
+          written = b .written;
+        }
 
 -- ---- and what it means
 

@@ -41,11 +41,10 @@ use Rattle.walk.specs.Rows.{Lists, shortest, rowAt}
 use Rattle.walk.specs.Answers.{numberOf, hopOf, readsOf}
 use Rattle.walk.specs.Lookup.{pathRows, lookupOf}
 use Rattle.walk.specs.Meaning.{OnPath, Tested, Looked}
-use Rattle.tries.specs.Chooser.{padded}
 use Rattle.layout.specs.Blocks.{linkTo, strideOf, blockRow, rowsAlong, Begun, blocksAlong, blockCount}
 use Rattle.layout.specs.PathBlocks.{nodeOn, BlockAt, rowPath}
 use Rattle.layout.specs.Laid.{tableTrie}
-use Rattle.tries.specs.Chooser.{chooseTests, Chooses}
+use Rattle.choosers.specs.Chooser.{padded, chooseTests, Chooses}
 use Rattle.tries.specs.Build.{roomTest, buildTests, NoRecord, Builds}
 use Rattle.walk.proofs.Unique.{tested-unique, looked-unique}
 use Rattle.walk.proofs.Looked.{looked}
@@ -54,7 +53,7 @@ use Rattle.walk.proofs.Reading.{path-rows, reads-path, reads-most, lookup-local
 use Rattle.layout.proofs.PathBlocks.{blocks-are, blocks-counted}
 use Rattle.layout.proofs.RowRule.{row-rule}
 use Rattle.layout.proofs.Laid.{accepted, laid-longest, no-route, rows-exactly, reads-blocks, reads-few, rows-alone, elements-cost, one-answer}
-use Rattle.tries.proofs.ChooseTests.{numbered-choose}
+use Rattle.choosers.proofs.ChooseTests.{numbered-choose}
 use Rattle.tries.proofs.BuildSteps.{early, late}
 
 -- ==== demand 1: bad input is refused by number, in a fixed order; the numbers say what is returned and what each list then holds

@@ -15,7 +15,7 @@ use Rattle.strides.proofs.Paths.{bit-mod, mark-same, sub-same, sub-none, mark-n
 use Rattle.walk.specs.Limits.{WIDTH, LEVELS}
 use Rattle.tries.specs.Limits.{ELEMENTS}
 use Rattle.walk.specs.Rows.{Lists, lists, shortest, rowAt}
-use Rattle.tries.specs.Scratch.{ROW, ask, strideAt, MARKS}
+use Rattle.choosers.specs.Scratch.{ROW, ask, strideAt, MARKS}
 use Rattle.layout.specs.Blocks.{Strides, wide, leftOf, linkTo, rowBelow}
 use Rattle.tries.specs.Filling.{HasRoom, Spread, Bare, FillAsks, FillGives}
 use Rattle.layout.proofs.Blocks.{wide-sides, left-same}

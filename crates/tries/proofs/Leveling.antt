@@ -11,7 +11,7 @@ use Rattle.strides.specs.Trie.{Trie, none, left, right, depth}
 use Rattle.walk.specs.Limits.{WIDTH, LEVELS}
 use Rattle.tries.specs.Limits.{ELEMENTS}
 use Rattle.walk.specs.Rows.{Row, Lists, shortest, rowAt}
-use Rattle.tries.specs.Scratch.{ROW, DEPTH, ask, strideAt}
+use Rattle.choosers.specs.Scratch.{ROW, DEPTH, ask, strideAt}
 use Rattle.layout.specs.Blocks.{Strides, wide, rowBelow, listOf, blockRows, levelRows, firstRow, levelsRows, rowsOf, rowCount, Hold}
 use Rattle.tries.specs.Filling.{FillAsks, FillGives, LevelAsks, LevelGives, LayAsks, LayGives}
 use Rattle.layout.proofs.Blocks.{hold-append, hold-all, hold-kept, level-length, wide-sides, level-sides, wide-own, level-own, wide-below, level-below}

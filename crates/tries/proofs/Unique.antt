@@ -22,11 +22,10 @@ use Rattle.walk.specs.Rows.{Lists, shortest, rowAt}
 use Rattle.layout.specs.Blocks.{Strides, rowsOf, rowCount, Hold, Agree}
 use Rattle.layout.specs.Laid.{tableTrie, Laid}
 use Rattle.tries.specs.Filling.{LayGives}
-use Rattle.tries.specs.Chooser.{padded}
-use Rattle.tries.specs.Chooser.{chooseTests}
+use Rattle.choosers.specs.Chooser.{padded, chooseTests}
 use Rattle.tries.specs.Build.{buildTests, NoRecord, Keeps, Builds}
 use Rattle.layout.proofs.Agreeing.{same-agree, good-agree, rows-same, count-same}
-use Rattle.tries.proofs.Choosing.{accepted-or}
+use Rattle.choosers.proofs.Choosing.{accepted-or}
 use Rattle.tries.proofs.Laying.{lay-unique}
 
 record-same : (r s : Record) → r .width ≡ s .width → r .levels ≡ s .levels → r .elements ≡ s .elements → r .floor ≡ s .floor → r .strides ≡ s .strides → r ≡ s

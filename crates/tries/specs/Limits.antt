@@ -1,32 +1,10 @@
--- The limits of the choosers and the build (01, "The table" and refusal 7), under the names that the code gives them. Those of a
--- lookup, which hold here too, are `walk`'s.
+-- The limits of the build (01, refusal 7), under the names that the code gives them.
 use Prim.Native.Nat.{ℕ, _^_}
-use Rattle.table.specs.Limits.{entryLimit}
-
--- the most entries of a table
-abbrev pub ENTRIES : ℕ
-ENTRIES = entryLimit
 
 -- the most element rows
 abbrev pub ELEMENTS : ℕ
 ELEMENTS = 16777216
 
--- a stride is held in a byte: it is below this
-abbrev pub BYTE : ℕ
-BYTE = 256
-
 -- a link is held in 32 bits: it is below this
 abbrev pub LINKS : ℕ
 LINKS = 2 ^ 32
-
--- the bits of a word: no entry has more
-abbrev pub WORD : ℕ
-WORD = 64
-
--- a count below this can grow in a word: no list has as many places
-abbrev pub GROWS : ℕ
-GROWS = 2 ^ 60
-
--- costs are held here: above what any choice for an address of the widest width costs, so it never bites
-abbrev pub COST-CAP : ℕ
-COST-CAP = 8589934592

@@ -6,13 +6,14 @@ ghost use Prim.Native.Nat.{_+_, _*_, _^_, _<_, _≤_};
 ghost use lib.ListN.{length, set};
 ghost use Rattle.table.specs.Longest.{newer};
 ghost use Rattle.walk.specs.Limits.{WIDTH};
-ghost use Rattle.tries.specs.Limits.{LINKS, BYTE};
+ghost use Rattle.choosers.specs.Limits.{BYTE};
+ghost use Rattle.tries.specs.Limits.{LINKS};
 ghost use Rattle.walk.specs.Rows.{lists, shortest};
-ghost use Rattle.tries.specs.Scratch.{ROW, MARKS, ask};
+ghost use Rattle.choosers.specs.Scratch.{ROW, MARKS, ask};
 ghost use Rattle.tries.specs.Filling.{Spread, Bare, CanFill, Fills, CanBlock, WritesBlock, CanLevel, WritesLevel, CanLay, Lays};
-use crate::scratch::DEPTH;
 use crate::scratch::asked;
 use crate::scratch::stride_at;
+use choosers::DEPTH;
 
 fn power(n: usize) -> usize
     requires { ⌜ n ≤ WIDTH ⌝ }

@@ -7,16 +7,16 @@ ghost use lib.Dec.{ltb};
 ghost use Rattle.table.specs.Table.{Table};
 ghost use Rattle.table.specs.declared.entry.Outcome.the-variants.{Refused};
 ghost use Rattle.tries.specs.Limits.{ELEMENTS};
-ghost use Rattle.tries.specs.Kinds.{kindOf};
+ghost use Rattle.choosers.specs.Kinds.{kindOf};
 ghost use Rattle.walk.specs.Rows.{lists};
 ghost use Rattle.layout.specs.Laid.{tableFloor};
-ghost use Rattle.tries.specs.Plans.{PlanIn};
-ghost use Rattle.tries.specs.Build.{NoRecord, RowsBuilt, BuildIs, Builds};
+ghost use Rattle.tries.specs.Filling.{CanBuild};
+ghost use Rattle.tries.specs.Build.{NoRecord, RowsDone, BuildIs, Builds};
 use crate::blocks::lay;
-use crate::chooser::Kind;
-use crate::chooser::choose_outcome;
-use crate::chooser::planned;
 use crate::limits::ELEMENTS;
+use choosers::Kind;
+use choosers::Plan;
+use choosers::plan_choice;
 use table::Outcome;
 use table::smaller;
 use table::zero;
@@ -69,26 +69,24 @@ fn floor_hop(lens: &[u8], hops: &[u16]) -> u16
     if lens[0] == 0 { hops[0] } else { 0 }
 }
 
-// Past test 6: plans the strides in scratch, then refuses for room (7) or writes the rows. Scratch is left as the plan made it.
+// Past test 6, with the plan in scratch: refuses for room (7) or writes the rows.
 fn build_rows(
-    kind: Kind,
+    p: Plan,
     width: u32,
     levels: u32,
-    vals: &[u32],
     lens: &[u8],
     marks: &[u16],
-    scratch: &mut [u64],
+    scratch: &[u64],
     hops: &mut [u16],
     links: &mut [u32],
     strides: &mut [u8],
 ) -> Built
-    requires { ⌜ PlanIn width levels (now vals) (now lens) (now marks) (now scratch) ⌝ }
+    requires { ⌜ CanBuild width levels (now lens) (now marks) (p .cost) (p .strides) (p .plan) (p .root) (now scratch) ⌝ }
     ensures { λ r. ⌜
-        RowsBuilt (kindOf kind) width levels (now (vals .entry)) (now (lens .entry)) (now (marks .entry))
+        RowsDone width levels (now (lens .entry)) (now (marks .entry)) (p .cost) (p .strides) (p .plan) (p .root) (now (scratch .entry))
         (lists (now (hops .entry)) (now (links .entry)) (now (strides .entry))) (r .outcome) (r .record)
         (lists (now (hops .exit)) (now (links .exit)) (now (strides .exit))) ⌝ }
 {
-    let p = planned(kind, width, levels, vals, lens, marks, scratch);
     let e = p.cost;
     if is_crowded(e, hops.len(), links.len(), strides.len()) {
         return refused(7, e);
@@ -141,22 +139,12 @@ pub fn build(
         (lists (now (hops .entry)) (now (links .entry)) (now (strides .entry))) (r .outcome) (r .record) (now (scratch .exit))
         (lists (now (hops .exit)) (now (links .exit)) (now (strides .exit))) ⌝ }
 {
-    let outcome = choose_outcome(width, levels, value, length, hop, scratch.len());
+    let p = plan_choice(kind, width, levels, value, length, hop, scratch);
+    let outcome = p.outcome;
     if let Outcome::Refused { number, detail } = outcome {
         return refused(number, detail);
     }
-    let built = build_rows(
-        kind,
-        width,
-        levels,
-        value,
-        length,
-        hop,
-        scratch,
-        hops,
-        links,
-        strides,
-    );
+    let built = build_rows(p, width, levels, length, hop, scratch, hops, links, strides);
     zero(scratch);
     built
 }

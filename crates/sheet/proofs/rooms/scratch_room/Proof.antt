@@ -2,7 +2,7 @@
 use mathlib.Core.Path.{sym}
 use Prim.Native.Nat.{ℕ, _*_}
 use lib.ListN.{length-replicate}
-use Rattle.tries.specs.Scratch.{ROW}
+use Rattle.choosers.specs.Scratch.{ROW}
 use Rattle.sheet.specs.Limits.{LENT-ROWS}
 use Rattle.sheet.proofs.rooms.scratch_room.Statement.{statement}
 use Rattle.sheet.proofs.rooms.scratch_room.Tie as tie

@@ -8,7 +8,7 @@ use Rattle.sheet.proofs.Writing.{wrote-is}
 use Rattle.sheet.proofs.Solutions.{solved-refused, solved-accepted}
 use Rattle.walk.specs.Rows.{shortest}
 use Rattle.sheet.specs.Limits.{LENT-ROWS, LENT-ELEMENTS}
-use Rattle.tries.specs.Scratch.{ROW}
+use Rattle.choosers.specs.Scratch.{ROW}
 use borrow.Author.Needs.{needs}
 use Rattle.sheet.proofs.solving.solve.Statement.{statement}
 use Rattle.sheet.proofs.solving.solve.Tie as tie

@@ -1,5 +1,5 @@
 use borrow.Author.Tests.{eq-eqb, ne-eqb}
-use Rattle.tries.specs.Scratch.{ask}
+use Rattle.choosers.specs.Scratch.{ask}
 use borrow.Author.Needs.{needs}
 use Rattle.tries.proofs.scratch.asked.Statement.{statement}
 use Rattle.tries.proofs.scratch.asked.Tie as tie

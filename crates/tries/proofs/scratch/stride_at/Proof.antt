@@ -2,7 +2,7 @@ use Prim.Native.Nat.{_-_}
 use native.Mathlib.Omega.{arith}
 use lib.ListN.{length}
 use borrow.Author.Tests.{eq-eqb, ne-eqb}
-use Rattle.tries.specs.Scratch.{strideAt}
+use Rattle.choosers.specs.Scratch.{strideAt}
 use borrow.Author.Needs.{needs}
 use Rattle.tries.proofs.scratch.stride_at.Statement.{statement}
 use Rattle.tries.proofs.scratch.stride_at.Tie as tie

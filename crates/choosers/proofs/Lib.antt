@@ -1,0 +1,14 @@
+pub mod Frames
+pub mod Shapes
+pub mod Inserting
+pub mod LevelCounts
+pub mod Making
+pub mod Counts
+pub mod Gathering
+pub mod Pricing
+pub mod Settling
+pub mod FixedChoice
+pub mod ChooseTests
+pub mod PlanRows
+pub mod Plans
+pub mod Choosing

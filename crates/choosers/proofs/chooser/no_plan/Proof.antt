@@ -1,0 +1,11 @@
+use mathlib.Core.Path.{refl}
+use Rattle.choosers.specs.Chooser.{padded}
+use Rattle.choosers.proofs.chooser.no_plan.Statement.{statement}
+use Rattle.choosers.proofs.chooser.no_plan.Tie as tie
+
+returns : tie.Need-returns
+unfolding padded
+returns c = (refl, record { no-cost = refl; no-strides = refl; no-plan = refl; no-root = refl })
+
+pub no-plan-spec : {M : Type 1} → statement M
+no-plan-spec = tie.close (tie.spec returns)

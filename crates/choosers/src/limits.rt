@@ -1,0 +1,12 @@
+// The limits of the choosers, named once (`specs/Limits.antt` has the same ones for the promises). The widest address is the table's,
+// the most levels are the lookup's.
+use walk::LEVELS;
+
+// The most levels, as a number of places.
+pub(crate) const SLOTS: usize = LEVELS as usize;
+
+// A stride is held in a byte: it is below this.
+pub(crate) const BYTE: usize = 256;
+
+// Costs are held here: above what any choice for the widest address costs, so it never bites.
+pub(crate) const COST_CAP: u64 = 8589934592;

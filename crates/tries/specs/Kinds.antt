@@ -1,8 +1,0 @@
--- The kinds of stride choice: for each case of the code's enum, the kind of the definitions.
-use Rattle.strides.specs.Cheapest.{Kind, fixed, variable}
-use Rattle.tries.specs.declared.chooser.Kind.the-variants.{Fixed, Variable}
-use Rattle.tries.specs.declared.chooser.Kind as code
-
-abbrev pub kindOf : code.Kind → Kind
-kindOf Fixed = fixed
-kindOf Variable = variable
