@@ -46,9 +46,9 @@ plan-accepted kind W k vs ls hs scratch e p = record {
 levels-some : (W k : ℕ) (vs ls hs scratch : List ℕ) {out : Outcome} → out ≡ outcome (chooseTests W k vs ls hs (length scratch)) → out ≡ Accepted → 1 ≤ k
 levels-some W k vs ls hs scratch t e = accepted-levels W k vs ls hs (length scratch) (sym t ∙ e) .0
 
-pub plan-means : (kind : Kind) (W k : ℕ) (vs ls hs scratch : List ℕ) {out : Outcome} {cost root : ℕ} {strides plan scratch′ : List ℕ}
+pub plan-means : {kind : Kind} {W k : ℕ} {vs ls hs scratch : List ℕ} {out : Outcome} {cost root : ℕ} {strides plan scratch′ : List ℕ}
     → PlanIs kind W k vs ls hs scratch out cost strides plan root scratch′ → Plans kind W k vs ls hs scratch out cost strides plan root scratch′
-plan-means kind W k vs ls hs scratch c =
+plan-means {kind} {W} {k} {vs} {ls} {hs} {scratch} c =
     let t = tableTrie W vs ls hs in
     let tests = chooseTests W k vs ls hs (length scratch) in
     let some = levels-some W k vs ls hs scratch (c .tests) in
@@ -62,22 +62,22 @@ plan-means kind W k vs ls hs scratch c =
 
 -- ---- a chooser: the exact answer
 
-pub refused-is : (kind : Kind) (W k : ℕ) (vs ls hs scratch : List ℕ) {out : Outcome} {n d cost root : ℕ} {strides plan scratch′ : List ℕ}
+pub refused-is : {kind : Kind} {W k : ℕ} {vs ls hs scratch : List ℕ} {out : Outcome} {n d cost root : ℕ} {strides plan scratch′ : List ℕ}
     → PlanIs kind W k vs ls hs scratch out cost strides plan root scratch′ → out ≡ Refused n d
     → ChosenIs kind W k vs ls hs scratch (Refused n d) 0 (replicate LEVELS 0) scratch′
 unfolding ifAccepted padded
-refused-is kind W k vs ls hs scratch p f = record {
+refused-is p f = record {
   tests = sym f ∙ p .tests;
   costs = refl;
   named = refl;
   after = p .refused (λ a. refused-not-accepted (sym f ∙ a)) .1;
 }
 
-pub chosen-is : (kind : Kind) (W k : ℕ) (vs ls hs scratch : List ℕ) {out : Outcome} {cost root : ℕ} {strides plan rows rows′ : List ℕ}
+pub chosen-is : {kind : Kind} {W k : ℕ} {vs ls hs scratch : List ℕ} {out : Outcome} {cost root : ℕ} {strides plan rows rows′ : List ℕ}
     → PlanIs kind W k vs ls hs scratch out cost strides plan root rows → out ≡ Accepted → rows′ ≡ replicate (length scratch) 0
     → ChosenIs kind W k vs ls hs scratch Accepted cost strides rows′
 unfolding ifAccepted
-chosen-is kind W k vs ls hs scratch p e z = record { tests = sym e ∙ p .tests; costs = p .planned e .least; named = p .planned e .named; after = z }
+chosen-is p e z = record { tests = sym e ∙ p .tests; costs = p .planned e .least; named = p .planned e .named; after = z }
 
 -- ---- and what it means
 
@@ -97,14 +97,17 @@ refused-value {o = Refused n d} ne x y = refl
 
 pub chosen-means : (kind : Kind) (W k : ℕ) (vs ls hs scratch : List ℕ) {out : Outcome} {cost : ℕ} {strides scratch′ : List ℕ}
     → ChosenIs kind W k vs ls hs scratch out cost strides scratch′ → Chooses kind W k vs ls hs scratch out cost strides scratch′
-unfolding ifAccepted
-chosen-means kind W k vs ls hs scratch {out} {cost} {strides} {scratch′} c = record {
-  tested = subst (Gives (chooseTests W k vs ls hs (length scratch))) (sym (c .tests)) (outcome-gives (chooseTests W k vs ls hs (length scratch)));
-  cheapest = λ e. subst (Cheapest kind k (tableTrie W vs ls hs)) (sym (c .costs ∙ accepted-value e _ _)) (least-cheapest kind k (tableTrie W vs ls hs) (levels-some W k vs ls hs scratch (c .tests) e));
-  named = λ e. (stridesBy plain kind k (tableTrie W vs ls hs), strides-named kind k (tableTrie W vs ls hs) (levels-some W k vs ls hs scratch (c .tests) e), c .named ∙ ap (padded LEVELS) (accepted-value e _ _));
-  zeroed = λ e. c .after ∙ accepted-value e _ _;
-  refused = λ ne. (c .costs ∙ refused-value ne _ _, c .named ∙ ap (padded LEVELS) (refused-value ne _ _), c .after ∙ refused-value ne _ _);
-}
+chosen-means kind W k vs ls hs scratch c =
+    let t = tableTrie W vs ls hs in
+    let tests = chooseTests W k vs ls hs (length scratch) in
+    let some = levels-some W k vs ls hs scratch (c .tests) in
+    record {
+      tested = subst (Gives tests) (sym (c .tests)) (outcome-gives tests);
+      cheapest = λ e. subst (Cheapest kind k t) (sym (c .costs ∙ accepted-value e _ _)) (least-cheapest kind k t (some e));
+      named = λ e. (stridesBy plain kind k t, strides-named kind k t (some e), c .named ∙ ap (padded LEVELS) (accepted-value e _ _));
+      zeroed = λ e. c .after ∙ accepted-value e _ _;
+      refused = λ ne. (c .costs ∙ refused-value ne _ _, c .named ∙ ap (padded LEVELS) (refused-value ne _ _), c .after ∙ refused-value ne _ _);
+    }
 
 -- ---- what it means leaves one answer
 

@@ -234,7 +234,7 @@ module _ {kind : Kind} {W k : ℕ} {vs ls hs : List ℕ} {cost root : ℕ} {stri
         };
       }
 
-module _ (kind : Kind) (W k : ℕ) (vs ls hs scratch : List ℕ) {planned : Outcome} {cost root : ℕ} {strides plan rows : List ℕ}
+module _ {kind : Kind} {W k : ℕ} {vs ls hs scratch : List ℕ} {planned : Outcome} {cost root : ℕ} {strides plan rows : List ℕ}
     (p : PlanIs kind W k vs ls hs scratch planned cost strides plan root rows) where
   -- an accepted plan is one for this table
   pub plan-for : planned ≡ Accepted → PlanFor kind W k vs ls hs cost strides plan root rows

@@ -17,10 +17,7 @@ same-length : tie.Need-same-length
 same-length c = search needs
 
 returns : tie.Need-returns
-returns c =
-    let S = c .before .before .before .before .before .before .before .before .before .before .before .before in
-    refused-is _ (S .args .width) (S .args .levels) (S .args .value .now) (S .args .length .now) (S .args .hop .now) (S .args .scratch .now) (c .before .before .before .before .before .before .plan-choice .ensures .0)
-    (c .before .outcome .given .1)
+returns c = refused-is (c .before .before .before .before .before .before .plan-choice .ensures .0) (c .before .outcome .given .1)
 
 enum-told : tie.Need-enum-told
 enum-told c = search needs
@@ -33,11 +30,11 @@ same-length-2 c = search needs
 
 returns-2 : tie.Need-returns-2
 returns-2 c =
-    let S = c .before .before .before .before .before .before .before .before .before .before .before .before .before .before .before in
-    let P = c .before .before .before .before .before .before .before .before .before .plan-choice in
+    let c9 = c .before .before .before .before .before .before .before .before .before in
+    let S = c9 .before .before .before .before .before .before in
+    let P = c9 .plan-choice in
     let e : length (P .last .1 .1 .1 .1 .1 .1 .0) ≡ length (S .args .scratch .now) = omega (arith, P .kept) in
-    chosen-is _ (S .args .width) (S .args .levels) (S .args .value .now) (S .args .length .now) (S .args .hop .now) (S .args .scratch .now)
-    (P .ensures .0) (c .before .before .before .before .enum-told .given .1) (c .before .before .zero .ensures ∙ ap (λ (n : ℕ). replicate n 0) e)
+    chosen-is (P .ensures .0) (c .before .before .before .before .enum-told .given .1) (c .before .before .zero .ensures ∙ ap (λ (n : ℕ). replicate n 0) e)
 
 pub choose-spec : {M : Type 1} → statement M
 choose-spec =

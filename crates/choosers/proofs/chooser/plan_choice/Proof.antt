@@ -20,7 +20,7 @@ returns c =
     let S = c .before .before .before .before .before .before .before .before .before in
     let b = plan-refused _ (S .args .width) (S .args .levels) (S .args .value .now) (S .args .length .now) (S .args .hop .now) (S .args .scratch .now)
     (c .before .before .before .before .choose-outcome .ensures) (c .before .before .outcome .given .1) (c .no-plan .ensures .0) (c .no-plan .ensures .1) in
-    (b, plan-means _ _ _ _ _ _ _ b)
+    (b, plan-means b)
 
 enum-told : tie.Need-enum-told
 enum-told c = search needs
@@ -39,7 +39,7 @@ returns-2 c =
     let S = c .before .before .before .before .before .before .before .before .before .before .before in
     let b = plan-accepted _ (S .args .width) (S .args .levels) (S .args .value .now) (S .args .length .now) (S .args .hop .now) (S .args .scratch .now)
     (sym (c .before .before .before .before .before .before .choose-outcome .ensures) ∙ c .before .before .before .before .enum-told .given .1) (c .before .before .planned .ensures) in
-    (b, plan-means _ _ _ _ _ _ _ b)
+    (b, plan-means b)
 
 pub plan-choice-spec : {M : Type 1} → statement M
 plan-choice-spec =

@@ -27,7 +27,8 @@ fixed-choice-requires c κs =
     let S = c .before .before .before .before .before .before .before .before .before .before .before .before .before .before .before .before in
     let M = c .before .before .before .before .before .make-rows in (
       _,
-      fixed-in (S .args .width) (S .args .levels) (S .args .vals .now) (S .args .lens .now) (S .args .hops .now) (S .args .scratch .now) (S .pre) (M .result) (M .last .0) (M .last .1 .0) (M .ensures)
+      fixed-in (S .args .width) (S .args .levels) (S .args .vals .now) (S .args .lens .now) (S .args .hops .now) (S .args .scratch .now) (S .pre)
+          (M .result) (M .last .0) (M .last .1 .0) (M .ensures)
           (omega (arith, M .kept)) (c .before .longest-length .result) (c .before .longest-length .ensures),
     )
 
@@ -38,7 +39,8 @@ returns : tie.Need-returns
 returns c =
     let S = c .before .before .before .before .before .before .before .before .before .before .before .before .before .before .before .before .before .before in
     let M = c .before .before .before .before .before .before .before .make-rows in
-    let made = plan-fixed (S .args .width) (S .args .levels) (S .args .vals .now) (S .args .lens .now) (S .args .hops .now) (S .args .scratch .now) (S .pre) (M .result) (M .last .0) (M .last .1 .0) (M .ensures)
+    let made = plan-fixed (S .args .width) (S .args .levels) (S .args .vals .now) (S .args .lens .now) (S .args .hops .now) (S .args .scratch .now) (S .pre)
+    (M .result) (M .last .0) (M .last .1 .0) (M .ensures)
     (omega (arith, M .kept)) (c .before .before .before .longest-length .result) _ _ (c .before .before .before .longest-length .ensures) (c .before .fixed-choice .ensures) in
     record { accepted = refl; made = made }
 
