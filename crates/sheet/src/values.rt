@@ -1,6 +1,7 @@
 // The entries' bits as values of the table: the width's leading bits, all bits after them 0.
 ghost use mathlib.Core.Path.{_≡_};
 ghost use Prim.Native.Nat.{_^_, _<_};
+ghost use lib.ListN.{take};
 ghost use Rattle.sheet.specs.Lent.{LentEntries};
 ghost use Rattle.sheet.specs.Values.{valueOf, valuesOf};
 
@@ -16,13 +17,13 @@ fn placed(width: u32, bits: u32, len: u8) -> u32
     ((bits as u64) << (width - l)) as u32
 }
 
-// Puts each entry's value in the place of its bits.
-pub(crate) fn place_values(width: u32, vals: &mut [u32], lens: &[u8])
-    requires { ⌜ LentEntries (now vals) (now lens) ⌝ }
-    ensures { λ _. ⌜ now (vals .exit) ≡ valuesOf width (now (vals .entry)) (now (lens .entry)) ⌝ }
+// Puts the first n entries' values in the place of their bits.
+pub(crate) fn place_values(width: u32, n: usize, vals: &mut [u32], lens: &[u8])
+    requires { ⌜ LentEntries n (now vals) (now lens) ⌝ }
+    ensures { λ _. ⌜ take n (now (vals .exit)) ≡ valuesOf width (take n (now (vals .entry))) (take n (now (lens .entry))) ⌝ }
 {
     let mut i = 0;
-    while i < vals.len() {
+    while i < n {
         vals[i] = placed(width, vals[i], lens[i]);
         i += 1;
     }
