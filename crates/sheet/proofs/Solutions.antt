@@ -6,7 +6,6 @@ use Prim.Native.Nat.{ℕ, _-_, _*_}
 use native.Mathlib.Omega.{arith}
 use native.Mathlib.Nat.{sub-zero}
 use lib.ListN.{length, take}
-use lib.Seq.{length-take-le, getD-take}
 use Rattle.table.specs.declared.entry.Outcome.{Outcome}
 use Rattle.table.specs.declared.entry.Outcome.the-variants.{Accepted, Refused}
 use Rattle.strides.specs.Cheapest.{Kind}
@@ -24,7 +23,7 @@ use Rattle.reading.specs.Sheet.{Sheet}
 use Rattle.reading.specs.Contents.{sheetIn, GoodContents}
 use Rattle.reading.specs.Text.{good}
 use Rattle.sheet.specs.Limits.{LENT-ROWS, LENT-ELEMENTS}
-use Rattle.sheet.specs.Lent.{LentEntries, LentQueries, SheetBuilt}
+use Rattle.sheet.specs.Lent.{LentQueries, SheetBuilt}
 use Rattle.sheet.specs.Printing.{refusalLines}
 use Rattle.sheet.specs.Answers.{answersReport, hopFor, readsFor, lookedUp}
 use Rattle.sheet.specs.Solved.{chosen, buildOutcome, longestHop, blocksRead, reportBy, tableReport, reportFor, solved}
@@ -79,37 +78,24 @@ module _ (sh : Sheet) {lent rows : Lists} {out : Outcome} {rec : Record} (room :
   sheet-accepted is q =
       built-accepted (kindOf (sh .kind)) (sh .width) (sh .levels) values (sh .lengths) (sh .hops) (b .words) room (b .build) is (sh .addresses) (sh .places) q
 
--- ---- the lists in the contents of a good text
+-- ---- the contents of a good text
 
-module _ (r : Contents) (fine : GoodContents r) where
-  pub entries-lent : LentEntries (r .entries) (r .bits) (r .lens)
-  unfolding sheetIn
-  entries-lent =
-      let n = r .entries in
-      let e = length-take-le n (r .bits) (omega (arith, fine .bits, fine .entries-few)) in
-      record {
-        values = omega (arith, fine .bits, fine .entries-few);
-        lengths = omega (arith, fine .lens, fine .entries-few);
-        spelled =
-            λ i h. rw (getD-take n (r .bits) i 0 h, getD-take n (r .lens) i 0 h) at (fine .sound .entry i (omega arith) .1);
-      }
+-- the build of their entries: vs begins with the values
+pub sheet-built : (r : Contents) (vs : List ℕ) {scratch scratch′ : List ℕ} {lent rows : Lists} {out : Outcome} {rec : Record}
+    → length scratch ≡ LENT-ROWS * ROW → take (r .entries) vs ≡ valuesOf (r .width) (sheetIn r .bits) (sheetIn r .lengths)
+    → BuildIs (kindOf (r .kind)) (r .width) (r .levels) (take (r .entries - 0) vs) (take (r .entries - 0) (r .lens)) (take (r .entries - 0) (r .hops))
+    scratch lent out rec scratch′ rows
+    → SheetBuilt (sheetIn r) lent out rec rows
+unfolding sheetIn
+sheet-built r vs {scratch = scratch} {scratch′ = scratch′} words placed b =
+    record { scratch = scratch; scratch′ = scratch′; words = words; build = rw (sub-zero, placed) at b }
 
-  -- the build of their entries, vs with the values that were placed
-  pub sheet-built : (vs : List ℕ) {scratch scratch′ : List ℕ} {lent rows : Lists} {out : Outcome} {rec : Record}
-      → length scratch ≡ LENT-ROWS * ROW → take (r .entries) vs ≡ valuesOf (r .width) (take (r .entries) (r .bits)) (take (r .entries) (r .lens))
-      → BuildIs (kindOf (r .kind)) (r .width) (r .levels) (take (r .entries - 0) vs) (take (r .entries - 0) (r .lens)) (take (r .entries - 0) (r .hops))
-      scratch lent out rec scratch′ rows
-      → SheetBuilt (sheetIn r) lent out rec rows
-  unfolding sheetIn
-  sheet-built vs {scratch = scratch} {scratch′ = scratch′} words placed b =
-      record { scratch = scratch; scratch′ = scratch′; words = words; build = rw (sub-zero, placed) at b }
-
-  pub queries-lent : LentQueries (sheetIn r .addresses) (sheetIn r .places)
-  queries-lent =
-      let sound = fine .sound in
-      record {
-        counts = sym (sound .as-many-places);
-        few = omega (arith, sound .as-many-places, sound .queries-few);
-        short = λ i h. sound .query i (omega (arith, sound .as-many-places)) .1;
-        spelled = λ i h. sound .query i (omega (arith, sound .as-many-places)) .2;
-      }
+pub queries-lent : (r : Contents) → GoodContents r → LentQueries (sheetIn r .addresses) (sheetIn r .places)
+queries-lent r fine =
+    let sound = fine .sound in
+    record {
+      counts = sym (sound .as-many-places);
+      few = omega (arith, sound .as-many-places, sound .queries-few);
+      short = λ i h. sound .query i (omega (arith, sound .as-many-places)) .1;
+      spelled = λ i h. sound .query i (omega (arith, sound .as-many-places)) .2;
+    }

@@ -15,12 +15,6 @@ use Rattle.reading.specs.Sheet.{Sheet}
 use Rattle.sheet.specs.Limits.{LENT-ROWS}
 use Rattle.sheet.specs.Values.{valuesOf}
 
--- n entries: so many bits as the lengths say spell the numbers in the first list
-pub record LentEntries (n : ℕ) (vs ls : List ℕ) : Type 0 where
-  pub values : n ≤ length vs
-  pub lengths : n ≤ length ls
-  pub spelled : (i : ℕ) → i < n → at vs i < 2 ^ at ls i
-
 -- queries: an address and its count of digits each, which spell it
 pub record LentQueries (xs ds : List ℕ) : Type 0 where
   pub counts : length xs ≡ length ds

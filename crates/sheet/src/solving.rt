@@ -16,7 +16,7 @@ use crate::rooms::hop_room;
 use crate::rooms::link_room;
 use crate::rooms::scratch_room;
 use crate::rooms::stride_room;
-use crate::values::place_values;
+use crate::values::sheet_values;
 use reading::Contents;
 use table::Outcome;
 use tries::Built;
@@ -29,10 +29,9 @@ fn build_sheet(got: Contents, hop: &mut [u16], link: &mut [u32], stride: &mut [u
 {
     let n = got.entries;
     let kind = got.kind;
-    let mut vals = got.bits;
+    let vals = sheet_values(got);
     let lens = got.lens;
     let hops = got.hops;
-    place_values(got.width, n, &mut vals, &lens);
     let mut scratch = scratch_room();
     tries::build(
         kind,

@@ -1,18 +1,12 @@
--- The entries' values are placed, then built over scratch of the size that is lent.
+-- The entries' values, then the build over scratch of the size that is lent.
 use mathlib.Core.Path.{sym}
-use Rattle.sheet.proofs.Solutions.{entries-lent, sheet-built}
+use Rattle.sheet.proofs.Solutions.{sheet-built}
 use borrow.Author.Needs.{needs}
 use Rattle.sheet.proofs.solving.build_sheet.Statement.{statement}
 use Rattle.sheet.proofs.solving.build_sheet.Tie as tie
 
-slice-aggregate-place-values : tie.Need-slice-aggregate-place-values
-slice-aggregate-place-values c = search needs
-
-slice-aggregate-place-values-2 : tie.Need-slice-aggregate-place-values-2
-slice-aggregate-place-values-2 c = search needs
-
-place-values-requires : tie.Need-place-values-requires
-place-values-requires c κs = entries-lent _ (c .before .before .before .before .before .before .before .before .pre)
+sheet-values-requires : tie.Need-sheet-values-requires
+sheet-values-requires c κs = search needs
 
 scratch-room-requires : tie.Need-scratch-room-requires
 scratch-room-requires c κs = search needs
@@ -60,15 +54,13 @@ same-length-3 : tie.Need-same-length-3
 same-length-3 c = search needs
 
 returns : tie.Need-returns
-returns c = sheet-built _ (c .before .before .before .before .before .before .before .before .before .before .before .before .before .before .before .before .before .before .before .before .before .before .before .before .before .before .before .before .before .pre) _ (sym (c .before .before .before .before .before .before .before .before .before .before .before .before .before .before .before .before .before .before .scratch-room .ensures)) (c .before .before .before .before .before .before .before .before .before .before .before .before .before .before .before .before .before .before .before .before .place-values .ensures) (c .before .before .before .before .before .before .before .build .ensures .0)
+returns c = sheet-built _ _ (sym (c .before .before .before .before .before .before .before .before .before .before .before .before .before .before .before .before .before .before .scratch-room .ensures)) (c .before .before .before .before .before .before .before .before .before .before .before .before .before .before .before .before .before .before .before .before .before .sheet-values .ensures .1) (c .before .before .before .before .before .before .before .build .ensures .0)
 
 pub build-sheet-spec : {M : Type 1} → statement M
 build-sheet-spec =
     tie.close
     (tie.spec
-    slice-aggregate-place-values
-    slice-aggregate-place-values-2
-    place-values-requires
+    sheet-values-requires
     scratch-room-requires
     sub-build
     part-build-start
