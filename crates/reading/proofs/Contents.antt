@@ -1,7 +1,7 @@
 -- What the call that reads a text hands back has its meaning, and the meaning leaves one answer. For the crates above: whether a text is
 -- good, and the sheet that it says, can be read from the contents.
 use mathlib.Core.Path.{_≡_, refl, sym, ap, subst, _∙_}
-use mathlib.Core.List.{List, []}
+use mathlib.Core.List.{List}
 use mathlib.Core.Logic.{inl, inr}
 use Prim.Native.Nat.{ℕ, _≤_}
 use native.Mathlib.Omega.{arith}
@@ -14,7 +14,7 @@ use Rattle.reading.specs.declared.parsing.Parsed.{Parsed}
 use Rattle.reading.specs.declared.parsing.Contents.{Contents}
 use Rattle.reading.specs.Limits.{COUNT}
 use Rattle.reading.specs.Sheet.{Sheet}
-use Rattle.reading.specs.Spelling.{sheetText, Sound}
+use Rattle.reading.specs.Spelling.{Sound}
 use Rattle.reading.specs.Contents.{sheetContents, badContents, TextHolds, sheetIn, GoodContents}
 use Rattle.reading.specs.Text.{Text, good, bad, textOf, contentsOf, parsedContents}
 use Rattle.reading.proofs.Sound.{sheet-of-text}

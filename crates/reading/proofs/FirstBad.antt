@@ -24,7 +24,8 @@ use Rattle.reading.specs.Numerals.{lineOf, bitsLineOf, joined}
 use Rattle.reading.specs.FirstBad.{lineCount, firstLines, Opens, FirstBad}
 use Rattle.reading.proofs.ReadBack.{Ahead, number-read, bits-read, kind-read}
 use Rattle.reading.proofs.Sound.{eight, spelled-is-read, spelled-is-good}
-use Rattle.reading.proofs.FirstLines.{count-append, restLines, first-rest, first-count, first-short, first-fewer, Complete, complete-then, OneLine, number-line-one, bits-line-one, kind-line-one}
+use Rattle.reading.proofs.FirstLines.{count-append, restLines, first-rest, first-count, first-short, first-fewer, Complete, complete-then}
+use Rattle.reading.proofs.FirstLines.{OneLine, number-line-one, bits-line-one, kind-line-one}
 use Rattle.reading.proofs.Following.{Turn, number-turn, bits-turn, kind-turn, turn-more, lines-read, good-is-sound, good-is-spelled}
 
 -- ---- one first bad line

@@ -14,7 +14,7 @@ use Rattle.reading.specs.Keys.{widthKey, levelsKey, entriesKey, bitsKey,
 use Rattle.reading.specs.Lines.{keyAt, countAt, digitsAt, close, bitsLine}
 use Rattle.reading.specs.Entries.{entryFrom, addressFrom, afterEntries, afterQueries, entryBits, entryLength, entryHop, queryAddress, queryPlaces}
 use Rattle.reading.specs.Sheet.{Sheet}
-use Rattle.reading.specs.Text.{kindNamed, good, bad, textStart, widthItem, kindItem, levelsItem, entriesItem, queriesItem, lastSpot, sheetOf, textOf}
+use Rattle.reading.specs.Text.{kindNamed, good, textStart, widthItem, kindItem, levelsItem, entriesItem, queriesItem, lastSpot, sheetOf, textOf}
 use Rattle.reading.specs.Spelling.{kindText, entryText, queryText, sheetText, Sound}
 use Rattle.reading.specs.Numerals.{decimalLength, lineOf, joined}
 use Rattle.reading.proofs.Steps.{both, number-is, bits-is}

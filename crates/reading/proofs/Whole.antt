@@ -1,8 +1,8 @@
 -- Laws of the whole text: its single lines, and what the call that reads it hands back, in the code's own terms.
-use mathlib.Core.Path.{_≡_, refl, sym, ap, subst, _∙_}
+use mathlib.Core.Path.{_≡_, refl, ap, subst, _∙_}
 use mathlib.Core.List.{List, []}
 use mathlib.Core.Bool.{Bool, true, false, _&&_, cond}
-use Prim.Native.Nat.{ℕ, zero, suc, _+_, _*_, _≤_, _<_}
+use Prim.Native.Nat.{ℕ, zero, suc, _+_, _*_, _≤_}
 use native.Mathlib.Omega.{arith}
 use lib.ListN.{length}
 use lib.Dec.{eqb}
@@ -14,12 +14,13 @@ use Rattle.reading.specs.declared.lines.Item.{Item}
 use Rattle.reading.specs.declared.parsing.Head.{Head}
 use Rattle.reading.specs.declared.parsing.Parsed.{Parsed}
 use Rattle.reading.specs.Limits.{COUNT, NUMBER-DIGITS, NUMBER, LINES, WIDTH-BYTES, KIND-BYTES, LEVELS-BYTES, COUNT-BYTES, ENTRY-BYTES, OPENING-BYTES, LONGEST}
-use Rattle.reading.specs.Keys.{widthKey, levelsKey, entriesKey, queriesKey, addressKey}
+use Rattle.reading.specs.Keys.{widthKey, levelsKey, entriesKey, queriesKey}
 use Rattle.reading.specs.Lines.{numberLine, kindLine}
-use Rattle.reading.specs.Entries.{afterEntries, entryBits, entryLength, entryHop, queryAddress, queryPlaces, HoldsEntries, HoldsQueries}
-use Rattle.reading.specs.Text.{kindNamed, good, bad, textStart, widthItem, kindItem, levelsItem, entriesItem, queriesItem, lastSpot, sheetOf, headOf, textOf, contentsOf, concluded, parsedContents}
+use Rattle.reading.specs.Entries.{afterEntries, entryBits, queryAddress, HoldsEntries, HoldsQueries}
+use Rattle.reading.specs.Text.{kindNamed, good, bad, textStart, widthItem, kindItem, levelsItem, entriesItem, queriesItem, lastSpot, sheetOf}
+use Rattle.reading.specs.Text.{headOf, textOf, contentsOf, concluded, parsedContents}
 use Rattle.reading.specs.Contents.{sheetContents}
-use Rattle.reading.proofs.Steps.{Line, Step, step-then, step-widen, UpTo, number-is, bits-is, kind-is}
+use Rattle.reading.proofs.Steps.{Line, Step, step-then, step-widen, UpTo, number-is, kind-is}
 use Rattle.table.proofs.Lists.{listed-length}
 use Rattle.reading.proofs.Listing.{entries-step, queries-step, begins-blank}
 

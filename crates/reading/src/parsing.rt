@@ -2,7 +2,6 @@
 // any text is read.
 ghost use mathlib.Core.Path.{_≡_};
 ghost use mathlib.Core.List.{[]};
-ghost use lib.ListN.{length};
 ghost use Rattle.tries.specs.Chooser.{padded};
 ghost use Rattle.reading.specs.Limits.{COUNT};
 ghost use Rattle.reading.specs.Contents.{badContents, TextHolds};
@@ -26,8 +25,8 @@ pub(crate) struct Head {
     pub(crate) spot: Spot,
 }
 
-// What a text holds: line 0 and its sheet, so many entries and queries at the starts of the lists, 0 in the places after them; or its first
-// bad line, and all else 0.
+// What a text holds: line 0 and its sheet, or its first bad line and all else 0. The lists begin with the entries (bits as a number, how
+// many bits, hop) and the queries (address, how many digits), and the places after them are 0.
 pub struct Contents {
     pub line: u32,
     pub width: u32,

@@ -1,5 +1,5 @@
 -- Laws of what is printed: one run of bytes after another, and how long a line can be.
-use mathlib.Core.Path.{_≡_, refl, sym, ap, subst, _∙_}
+use mathlib.Core.Path.{_≡_, refl, ap, subst, _∙_}
 use mathlib.Core.List.{List, [], _∷_, _++_}
 use mathlib.Core.Bool.{Bool, true, false, cond}
 use Prim.Native.Nat.{ℕ, zero, suc, pred, _+_, _-_, _*_, _/_, _%_, _^_, _≤_, _<_}
@@ -11,8 +11,8 @@ use native.Mathlib.Nat.{add-zero, suc-mul, pow-le-pow-right, mod-lt, le-refl}
 use lib.ListN.{length, getD, drop, set, length-append, drop-of-length-le}
 use lib.Seq.{length-sets, set-comm, drop-cons}
 use lib.Dec.{ltb, lit<, lit≤}
-use borrow.Author.Tests.{lt-ltb, le-ltb}
-use Rattle.io.specs.Digits.{digits, glyph, Fewest}
+use borrow.Author.Tests.{lt-ltb}
+use Rattle.io.specs.Digits.{Fewest}
 use Rattle.reading.specs.Limits.{BITS, LF, ZERO-DIGIT, DECIMAL-DIGITS}
 use Rattle.reading.specs.Keys.{addressKey, hopKey}
 use Rattle.reading.specs.Numerals.{decimalLengthFrom, decimalLength, decimal, binary, lineOf, bitsLineOf, joined}

@@ -1,4 +1,4 @@
--- What is known of the lists that are lent on, and of the build over what the program lends.
+-- What is known of the queries that are lent on, and of the build over what the program lends.
 use mathlib.Core.Path.{_≡_}
 use mathlib.Core.List.{List}
 use Prim.Native.Nat.{ℕ, _*_, _^_, _≤_, _<_}

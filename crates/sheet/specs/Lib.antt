@@ -9,5 +9,5 @@ pub mod Answers
 pub mod Solved
 pub mod Tablet
 pub mod Meaning
--- What only the code and the proofs need: what is known of the lists that a good text filled.
+-- What only the code and the proofs need: what is known of the queries that are lent on, and of the build over what the program lends.
 pub mod Lent

@@ -1,6 +1,5 @@
 // A good sheet, solved (01, "The tablet program"): the build over what the program lends, then its refusal, or the report of its
 // answers.
-ghost use mathlib.Core.Path.{_≡_};
 ghost use Prim.Native.Nat.{_≤_};
 ghost use lib.ListN.{length};
 ghost use Rattle.walk.specs.Rows.{lists};

@@ -20,7 +20,9 @@ same-length : tie.Need-same-length
 same-length c = search needs
 
 returns : tie.Need-returns
-returns c = wrote-is (report-bad _ (c .before .before .before .before .before .before .before .read .ensures .0) (c .before .before .before .before .before .if1 .taken)) (c .before .before .put-refusal .ensures)
+returns c =
+    let i = c .before .before .before .before .before in
+    wrote-is (report-bad _ (i .before .before .read .ensures .0) (i .if1 .taken)) (c .before .before .put-refusal .ensures)
 
 solve-requires : tie.Need-solve-requires
 solve-requires c κs = (omega (arith, c .before .before .before .before .before .before .pre), good-contents _ (c .before .before .before .read .ensures .0) (c .before .if1 .left))
@@ -29,7 +31,9 @@ same-length-2 : tie.Need-same-length-2
 same-length-2 c = search needs
 
 returns-2 : tie.Need-returns-2
-returns-2 c = wrote-is (report-good _ (c .before .before .before .before .before .before .read .ensures .0) (c .before .before .before .before .if1 .left)) (c .before .before .solve .ensures)
+returns-2 c =
+    let i = c .before .before .before .before in
+    wrote-is (report-good _ (i .before .before .read .ensures .0) (i .if1 .left)) (c .before .before .solve .ensures)
 
 pub put-run-spec : {M : Type 1} → statement M
 put-run-spec =

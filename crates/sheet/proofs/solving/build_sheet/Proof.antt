@@ -54,7 +54,11 @@ same-length-3 : tie.Need-same-length-3
 same-length-3 c = search needs
 
 returns : tie.Need-returns
-returns c = sheet-built _ _ (sym (c .before .before .before .before .before .before .before .before .before .before .before .before .before .before .before .before .before .before .scratch-room .ensures)) (c .before .before .before .before .before .before .before .before .before .before .before .before .before .before .before .before .before .before .before .before .before .sheet-values .ensures .1) (c .before .before .before .before .before .before .before .build .ensures .0)
+returns c =
+    let b = c .before .before .before .before .before .before .before in
+    let s = b .before .before .before .before .before .before .before .before .before .before .before in
+    let v = s .before .before .before in
+    sheet-built _ _ (sym (s .scratch-room .ensures)) (v .sheet-values .ensures .1) (b .build .ensures .0)
 
 pub build-sheet-spec : {M : Type 1} → statement M
 build-sheet-spec =

@@ -82,7 +82,8 @@ part-put-report-end-2 c = search needs
 put-report-requires : tie.Need-put-report-requires
 unfolding sheetIn
 put-report-requires c κs =
-    let a = c .before .before .before .before .before .before .before .before .before .before .before .before .before .before .before .before .before .before .before .before .before .before .before .before in
+    let b = c .before .before .before .before .before .before .before .before .before .before .before .before .before .before .before .before in
+    let a = b .before .before .before .before .before .before .before .before in
     (omega (arith, a .pre .0), rw sub-zero (queries-lent _ (a .pre .1)))
 
 same-length : tie.Need-same-length
@@ -99,9 +100,11 @@ same-length-2 c = search needs
 returns-2 : tie.Need-returns-2
 unfolding sheetIn
 returns-2 c =
-    let b = c .before .before .before .before .before .before .before .before .before .before .before .before .before .before .before .before .before .before .before in
+    let told = c .before .before .before .before .before .before .before .before .before .before .before in
+    let b = told .before .before .before .before .before .before .before .before in
+    let a = b .before .before .before .before .before .before .before .before in
     let w = c .before .before .put-report .ensures in
-    wrote-is (sheet-accepted _ (room b) (b .build-sheet .ensures) (c .before .before .before .before .before .before .before .before .before .before .before .enum-told .given .1) (queries-lent _ (c .before .before .before .before .before .before .before .before .before .before .before .before .before .before .before .before .before .before .before .before .before .before .before .before .before .before .before .pre .1))) (rw sub-zero at w)
+    wrote-is (sheet-accepted _ (room b) (b .build-sheet .ensures) (told .enum-told .given .1) (queries-lent _ (a .pre .1))) (rw sub-zero at w)
 
 pub solve-spec : {M : Type 1} → statement M
 solve-spec =

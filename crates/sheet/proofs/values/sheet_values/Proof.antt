@@ -1,7 +1,8 @@
 -- The first i places hold values, the others bits yet.
 use mathlib.Core.Path.{_≡_, sym, _∙_}
-use Prim.Native.Nat.{_-_, _≤_}
+use Prim.Native.Nat.{_-_, _≤_, _<_}
 use native.Mathlib.Omega.{arith}
+use lib.ListN.{length}
 use Rattle.reading.specs.Contents.{sheetIn}
 use Rattle.reading.specs.Entries.{Begins}
 use Rattle.reading.proofs.Listing.{begins-none}
@@ -48,10 +49,10 @@ loop-less c = search needs
 loop-again : tie.Need-loop-again Inv-loop μ-loop
 loop-again c =
     let l = c .before .before in
-    let r = l .before .before .before .args .got in (
-      omega arith,
-      placed-more (r .width) (r .bits) (r .lens) _ (l .loop .i) (omega (arith, l .loop .inv .1 .same, l .before .before .before .pre .bits, l .before .before .before .pre .entries-few)) (c .placed .ensures) (l .loop .inv .1),
-    )
+    let a = l .before .before .before in
+    let r = a .args .got in
+    let inside : l .loop .i < length (l .loop .vals) = omega (arith, l .loop .inv .1 .same, a .pre .bits, a .pre .entries-few) in
+    (omega arith, placed-more (r .width) (r .bits) (r .lens) _ (l .loop .i) inside (c .placed .ensures) (l .loop .inv .1))
 
 returns : tie.Need-returns Inv-loop μ-loop
 unfolding sheetIn
