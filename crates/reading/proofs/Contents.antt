@@ -51,8 +51,8 @@ module _ (s vs ls hs xs ds : List ℕ) {t : Parsed} (read : parsedContents t vs 
 
 -- ---- for the callers: r is what the call handed back
 
-filled-start : (xs : List ℕ) (n : ℕ) → n ≤ COUNT → length xs ≡ n → take n (padded COUNT xs) ≡ xs
-filled-start xs n h e =
+padded-start : (xs : List ℕ) (n : ℕ) → n ≤ COUNT → length xs ≡ n → take n (padded COUNT xs) ≡ xs
+padded-start xs n h e =
     let l : length (take n (padded COUNT xs)) ≡ n = length-take-le n (padded COUNT xs) (omega (arith, padded-length COUNT xs)) in
     ext-getD 0 (take n (padded COUNT xs)) xs (l ∙ sym e) (λ i k. getD-take n (padded COUNT xs) i 0 (omega arith) ∙ padded-read COUNT xs i (omega arith))
 
@@ -62,11 +62,11 @@ sheet-in sh sound =
     let n = length (sh .bits) in
     let m = length (sh .addresses) in
     rw (
-      filled-start (sh .bits) n (sound .entries-few) refl,
-      filled-start (sh .lengths) n (sound .entries-few) (sound .as-many-lengths),
-      filled-start (sh .hops) n (sound .entries-few) (sound .as-many-hops),
-      filled-start (sh .addresses) m (sound .queries-few) refl,
-      filled-start (sh .places) m (sound .queries-few) (sound .as-many-places),
+      padded-start (sh .bits) n (sound .entries-few) refl,
+      padded-start (sh .lengths) n (sound .entries-few) (sound .as-many-lengths),
+      padded-start (sh .hops) n (sound .entries-few) (sound .as-many-hops),
+      padded-start (sh .addresses) m (sound .queries-few) refl,
+      padded-start (sh .places) m (sound .queries-few) (sound .as-many-places),
     )
 
 module _ (s : List ℕ) {r : Contents} (read : r ≡ contentsOf (textOf s)) where

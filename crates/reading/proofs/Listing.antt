@@ -17,7 +17,7 @@ use Rattle.reading.specs.Limits.{COUNT, BITS, NUMBER-DIGITS, HOP, ENTRY-
 use Rattle.reading.specs.Keys.{bitsKey, hopKey, addressKey}
 use Rattle.reading.specs.Lines.{bitsLine}
 use Rattle.table.specs.Lists.{listed}
-use Rattle.reading.specs.Entries.{entryFrom, addressFrom, afterEntries, afterQueries, entryBits, entryLength, entryHop, queryAddress, queryPlaces, Begins, HoldsEntries, HoldsQueries}
+use Rattle.reading.specs.Entries.{entryFrom, addressFrom, afterEntries, afterQueries, entryBits, entryLength, entryHop, queryAddress, queryPlaces, FilledTo, HoldsEntries, HoldsQueries}
 use Rattle.tries.specs.Chooser.{padded}
 use Rattle.tries.proofs.FixedChoice.{padded-read, padded-length, padded-is}
 use Rattle.table.proofs.Lists.{listed-more, listed-length}
@@ -57,12 +57,12 @@ pub blank-length : {xs : List ℕ} → xs ≡ padded COUNT [] → length xs ≡ 
 blank-length e = ap length e ∙ padded-length COUNT []
 
 module _ (f : ℕ → ℕ) (old : List ℕ) where
-  pub begins-none : Begins f old old 0
+  pub filled-to-none : FilledTo f old old 0
   unfolding listed
-  begins-none = record { same = refl; start = refl; rest = λ j h. refl }
+  filled-to-none = record { same = refl; start = refl; rest = λ j h. refl }
 
-  pub begins-more : (xs : List ℕ) (i : ℕ) {v : ℕ} → i < length xs → v ≡ f i → Begins f old xs i → Begins f old (set xs i v) (i + 1)
-  begins-more xs i {v} h e b =
+  pub filled-to-more : (xs : List ℕ) (i : ℕ) {v : ℕ} → i < length xs → v ≡ f i → FilledTo f old xs i → FilledTo f old (set xs i v) (i + 1)
+  filled-to-more xs i {v} h e b =
       record {
         same = simp length-set (b .same);
         start = listed-more f xs i v h (b .start) e;
@@ -70,8 +70,8 @@ module _ (f : ℕ → ℕ) (old : List ℕ) where
       }
 
   -- a blank list is then what was put in, and 0 after it
-  pub begins-blank : {xs : List ℕ} (n : ℕ) → old ≡ padded COUNT [] → Begins f old xs n → xs ≡ padded COUNT (listed f n)
-  begins-blank {xs} n e b =
+  pub filled-to-blank : {xs : List ℕ} (n : ℕ) → old ≡ padded COUNT [] → FilledTo f old xs n → xs ≡ padded COUNT (listed f n)
+  filled-to-blank {xs} n e b =
       padded-is COUNT xs (listed f n) (b .same ∙ blank-length e)
       (λ x h.
       elim (decLt x n) [
@@ -92,14 +92,14 @@ entries-more s q {e} read p i vs₀ ls₀ hs₀ vs ls hs hv hl hh H =
     let f : e ≡ entryFrom s (afterEntries s p i) = read ∙ ap (entryFrom s) (H .spot) in
     record {
       spot = ap (λ (x : EntryItem). x .spot) f ∙ ap (afterEntries s p) (sym (add-one i));
-      bits = begins-more (entryBits s p) vs₀ vs i hv (ap (λ (x : EntryItem). x .bits) f) (H .bits);
-      lengths = begins-more (entryLength s p) ls₀ ls i hl (ap (λ (x : EntryItem). x .len) f) (H .lengths);
-      hops = begins-more (entryHop s p) hs₀ hs i hh (ap (λ (x : EntryItem). x .hop) f) (H .hops);
+      bits = filled-to-more (entryBits s p) vs₀ vs i hv (ap (λ (x : EntryItem). x .bits) f) (H .bits);
+      lengths = filled-to-more (entryLength s p) ls₀ ls i hl (ap (λ (x : EntryItem). x .len) f) (H .lengths);
+      hops = filled-to-more (entryHop s p) hs₀ hs i hh (ap (λ (x : EntryItem). x .hop) f) (H .hops);
     }
 
 pub entries-none : (s : List ℕ) (p : Spot) (vs ls hs : List ℕ) → HoldsEntries s p 0 vs ls hs vs ls hs p
 unfolding afterEntries
-entries-none s p vs ls hs = record { spot = refl; bits = begins-none _ vs; lengths = begins-none _ ls; hops = begins-none _ hs }
+entries-none s p vs ls hs = record { spot = refl; bits = filled-to-none _ vs; lengths = filled-to-none _ ls; hops = filled-to-none _ hs }
 
 -- ---- the loop over the queries: a is the line that was read at q
 
@@ -111,10 +111,10 @@ queries-more s q {a} read p i xs₀ ds₀ xs ds hx hd H =
     let e : a ≡ addressFrom s (afterQueries s p i) = read ∙ ap (addressFrom s) (H .spot) in
     record {
       spot = ap (λ (x : Item). x .spot) e ∙ ap (afterQueries s p) (sym (add-one i));
-      addresses = begins-more (queryAddress s p) xs₀ xs i hx (ap (λ (x : Item). x .value) e) (H .addresses);
-      places = begins-more (queryPlaces s p) ds₀ ds i hd (ap (λ (x : Item). x .count) e) (H .places);
+      addresses = filled-to-more (queryAddress s p) xs₀ xs i hx (ap (λ (x : Item). x .value) e) (H .addresses);
+      places = filled-to-more (queryPlaces s p) ds₀ ds i hd (ap (λ (x : Item). x .count) e) (H .places);
     }
 
 pub queries-none : (s : List ℕ) (p : Spot) (xs ds : List ℕ) → HoldsQueries s p 0 xs ds xs ds p
 unfolding afterQueries
-queries-none s p xs ds = record { spot = refl; addresses = begins-none _ xs; places = begins-none _ ds }
+queries-none s p xs ds = record { spot = refl; addresses = filled-to-none _ xs; places = filled-to-none _ ds }

@@ -52,8 +52,8 @@ module _ (s : List ℕ) where
     unfoldable pub queryPlaces : ℕ
     queryPlaces = addressFrom (afterQueries p i) .count
 
--- a list begins with f at 0, 1, .. below n, and goes on as it did
-pub record Begins (f : ℕ → ℕ) (old new : List ℕ) (n : ℕ) : Type 0 where
+-- a list is filled to place n: it begins with f at 0, 1, .. below n, and goes on as it did
+pub record FilledTo (f : ℕ → ℕ) (old new : List ℕ) (n : ℕ) : Type 0 where
   pub same : length new ≡ length old
   pub start : take n new ≡ listed f n
   pub rest : (j : ℕ) → n ≤ j → at new j ≡ at old j
@@ -61,12 +61,12 @@ pub record Begins (f : ℕ → ℕ) (old new : List ℕ) (n : ℕ) : Type 0 wher
 -- three lists begin with the n entries that stand from p on, and the reading stands at r after them
 pub record HoldsEntries (s : List ℕ) (p : Spot) (n : ℕ) (vs₀ ls₀ hs₀ vs ls hs : List ℕ) (r : Spot) : Type 0 where
   pub spot : r ≡ afterEntries s p n
-  pub bits : Begins (entryBits s p) vs₀ vs n
-  pub lengths : Begins (entryLength s p) ls₀ ls n
-  pub hops : Begins (entryHop s p) hs₀ hs n
+  pub bits : FilledTo (entryBits s p) vs₀ vs n
+  pub lengths : FilledTo (entryLength s p) ls₀ ls n
+  pub hops : FilledTo (entryHop s p) hs₀ hs n
 
 -- two lists begin with the n queries
 pub record HoldsQueries (s : List ℕ) (p : Spot) (n : ℕ) (xs₀ ds₀ xs ds : List ℕ) (r : Spot) : Type 0 where
   pub spot : r ≡ afterQueries s p n
-  pub addresses : Begins (queryAddress s p) xs₀ xs n
-  pub places : Begins (queryPlaces s p) ds₀ ds n
+  pub addresses : FilledTo (queryAddress s p) xs₀ xs n
+  pub places : FilledTo (queryPlaces s p) ds₀ ds n

@@ -76,6 +76,6 @@ OPENING-BYTES = WIDTH-BYTES + KIND-BYTES + LEVELS-BYTES + COUNT-BYTES
 abbrev pub LONGEST : ℕ
 LONGEST = OPENING-BYTES + COUNT-BYTES + COUNT * (ENTRY-BYTES + QUERY-BYTES)
 
--- no number of 64 bits has more decimal digits
+-- no number of 64 bits has more decimal digits: how numbers are written goes by it, and in code the report alone needs it
 abbrev pub DECIMAL-DIGITS : ℕ
 DECIMAL-DIGITS = 20

@@ -15,8 +15,8 @@ use Rattle.table.specs.Table.{at}
 use Rattle.table.proofs.Lists.{listed-same}
 use Rattle.reading.specs.declared.parsing.Contents.{Contents}
 use Rattle.reading.specs.Contents.{sheetIn, GoodContents}
-use Rattle.reading.specs.Entries.{Begins}
-use Rattle.reading.proofs.Listing.{begins-more}
+use Rattle.reading.specs.Entries.{FilledTo}
+use Rattle.reading.proofs.Listing.{filled-to-more}
 use Rattle.sheet.specs.Values.{valueOf, valuesOf}
 
 module _ (W b l : ℕ) (spells : b < 2 ^ l) (short : l ≤ W) where
@@ -53,11 +53,11 @@ module _ (W : ℕ) (vs₀ ls : List ℕ) where
   abbrev pub placedAt : ℕ → ℕ
   placedAt j = valueOf W (at vs₀ j) (at ls j)
 
-  pub placed-more : (vs : List ℕ) (i : ℕ) {v : ℕ} → i < length vs → v ≡ valueOf W (at vs i) (at ls i) → Begins placedAt vs₀ vs i
-      → Begins placedAt vs₀ (set vs i v) (i + 1)
-  placed-more vs i h e b = begins-more placedAt vs₀ vs i h (e ∙ ap (λ (x : ℕ). valueOf W x (at ls i)) (b .rest i (omega arith))) b
+  pub placed-more : (vs : List ℕ) (i : ℕ) {v : ℕ} → i < length vs → v ≡ valueOf W (at vs i) (at ls i) → FilledTo placedAt vs₀ vs i
+      → FilledTo placedAt vs₀ (set vs i v) (i + 1)
+  placed-more vs i h e b = filled-to-more placedAt vs₀ vs i h (e ∙ ap (λ (x : ℕ). valueOf W x (at ls i)) (b .rest i (omega arith))) b
 
-  pub placed-all : (vs : List ℕ) (n : ℕ) → n ≤ length vs₀ → Begins placedAt vs₀ vs n → take n vs ≡ valuesOf W (take n vs₀) (take n ls)
+  pub placed-all : (vs : List ℕ) (n : ℕ) → n ≤ length vs₀ → FilledTo placedAt vs₀ vs n → take n vs ≡ valuesOf W (take n vs₀) (take n ls)
   unfolding valuesOf
   placed-all vs n h b =
       rw (length-take-le n vs₀ h)

@@ -4,21 +4,21 @@ use Prim.Native.Nat.{_-_, _≤_, _<_}
 use native.Mathlib.Omega.{arith}
 use lib.ListN.{length}
 use Rattle.reading.specs.Contents.{sheetIn}
-use Rattle.reading.specs.Entries.{Begins}
-use Rattle.reading.proofs.Listing.{begins-none}
+use Rattle.reading.specs.Entries.{FilledTo}
+use Rattle.reading.proofs.Listing.{filled-to-none}
 use Rattle.sheet.proofs.Placing.{placedAt, placed-more, placed-all, entry-spelled}
 use borrow.Author.Needs.{needs}
 use Rattle.sheet.proofs.values.sheet_values.Statement.{statement}
 use Rattle.sheet.proofs.values.sheet_values.Tie as tie
 
 abbrev Inv-loop : tie.InvT-loop
-Inv-loop got n lens vals₀ i₀ vals i = (i ≤ n) × Begins (placedAt (got .width) vals₀ lens) vals₀ vals i
+Inv-loop got n lens vals₀ i₀ vals i = (i ≤ n) × FilledTo (placedAt (got .width) vals₀ lens) vals₀ vals i
 
 abbrev μ-loop : tie.MeasureT-loop
 μ-loop got n lens vals₀ i₀ vals i = n - i
 
 loop-holds : tie.Need-loop-holds Inv-loop μ-loop
-loop-holds c = (omega arith, begins-none _ _)
+loop-holds c = (omega arith, filled-to-none _ _)
 
 mul-placed : tie.Need-mul-placed Inv-loop μ-loop
 mul-placed c = search needs
