@@ -32,19 +32,20 @@ use Rattle.choosers.specs.Scratch.{ROW}
 use Rattle.layout.proofs.Agreeing.{same-agree, blocks-same, count-same, stride-same}
 use Rattle.choosers.proofs.ChooseTests.{accepted-levels, accepted-tests-table}
 use Rattle.tries.proofs.BuildSteps.{tests-least}
+use Rattle.reading.specs.Numerals.{joined}
+use Rattle.reading.specs.Sheet.{Sheet}
+use Rattle.reading.specs.Text.{Text, good, bad, textOf}
+use Rattle.reading.proofs.Numerals.{joined-same}
+use Rattle.reading.proofs.Sound.{sheet-of-text}
+use Rattle.reading.proofs.Following.{good-is-sound, good-is-spelled}
+use Rattle.reading.proofs.FirstBad.{bad-is-first, first-bad-unique}
 use Rattle.sheet.specs.declared.running.Report.{Report}
 use Rattle.sheet.specs.Limits.{LENT-ROWS, LENT-ELEMENTS}
-use Rattle.sheet.specs.Printing.{refusalLines, headLines, answerLines, joined}
+use Rattle.sheet.specs.Printing.{refusalLines, headLines, answerLines}
 use Rattle.sheet.specs.Answers.{wrong, firstWrong, queryLines, answersReport}
-use Rattle.sheet.specs.Sheet.{Sheet}
-use Rattle.sheet.specs.Text.{Text, good, bad, textOf}
 use Rattle.sheet.specs.Solved.{longestHop, blocksRead, reportBy, buildOutcome, chosen, tableReport, reportFor, solved}
 use Rattle.sheet.specs.Tablet.{textReport, reportOf, answerFor, leftFor, Ran}
 use Rattle.sheet.specs.Meaning.{FirstWrong, pathLines, AnsweredBy, Solves, SheetSolves, Says, Reports}
-use Rattle.sheet.proofs.Writing.{joined-same}
-use Rattle.sheet.proofs.Sound.{sheet-of-text}
-use Rattle.sheet.proofs.Following.{good-is-sound, good-is-spelled}
-use Rattle.sheet.proofs.FirstBad.{bad-is-first, first-bad-unique}
 
 -- ---- the meaning of the definition
 

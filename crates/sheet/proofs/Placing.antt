@@ -1,20 +1,23 @@
 -- Laws of an entry's bits as a value: it fits, it is a prefix of the width, and its leading bits are those of the text.
-use mathlib.Core.Path.{_≡_, refl, sym, ap, _∙_}
+use mathlib.Core.Path.{_≡_, ap, _∙_}
 use mathlib.Core.Bool.{true}
 use mathlib.Core.List.{List}
 use Prim.Native.Nat.{ℕ, _+_, _-_, _*_, _%_, _^_, _≤_, _<_}
 use native.Mathlib.Omega.{arith}
 use native.Mathlib.Nat.{mul-mod-left}
-use lib.ListN.{length, take, set, length-set}
-use lib.Seq.{getD-set-other, take-length}
+use lib.ListN.{length, take, set}
+use lib.Seq.{getD-take, length-take-le}
 use lib.Pow.{shl-exact, shl-lt, shl-shr, pow-mono}
 use borrow.Author.Tests.{lt-ltb, le-ltb}
 use Rattle.table.specs.Limits.{widthLimit}
 use Rattle.table.specs.Prefix.{start, prefixBad, IsPrefix}
 use Rattle.table.specs.Table.{at}
-use Rattle.table.specs.Lists.{listed}
+use Rattle.table.proofs.Lists.{listed-same}
+use Rattle.reading.specs.declared.parsing.Contents.{Contents}
+use Rattle.reading.specs.Contents.{sheetIn, GoodContents}
+use Rattle.reading.specs.Entries.{FilledTo}
+use Rattle.reading.proofs.Listing.{filled-to-more}
 use Rattle.sheet.specs.Values.{valueOf, valuesOf}
-use Rattle.table.proofs.Lists.{listed-more}
 
 module _ (W b l : ℕ) (spells : b < 2 ^ l) (short : l ≤ W) where
   placed-below : b * 2 ^ (W - l) < 2 ^ W
@@ -43,32 +46,29 @@ pub long-bits-fail : (W v l : ℕ) → W < l → prefixBad W v l ≡ true
 unfolding prefixBad
 long-bits-fail W v l h = rw (lt-ltb W l h)
 
--- ---- the loop that puts values in the place of bits: the first i are values, the others are bits yet
+-- ---- the loop that puts values in the place of bits: the list begins with values, the other places are bits yet
 
 module _ (W : ℕ) (vs₀ ls : List ℕ) where
   -- entry j's value
   abbrev pub placedAt : ℕ → ℕ
   placedAt j = valueOf W (at vs₀ j) (at ls j)
 
-  pub record Placed (vs : List ℕ) (i : ℕ) : Type 0 where
-    pub same : length vs ≡ length vs₀
-    pub done : take i vs ≡ listed placedAt i
-    pub left : (j : ℕ) → i ≤ j → at vs j ≡ at vs₀ j
+  pub placed-more : (vs : List ℕ) (i : ℕ) {v : ℕ} → i < length vs → v ≡ valueOf W (at vs i) (at ls i) → FilledTo placedAt vs₀ vs i
+      → FilledTo placedAt vs₀ (set vs i v) (i + 1)
+  placed-more vs i h e b = filled-to-more placedAt vs₀ vs i h (e ∙ ap (λ (x : ℕ). valueOf W x (at ls i)) (b .rest i (omega arith))) b
 
-  pub placed-none : Placed vs₀ 0
-  unfolding listed
-  placed-none = record { same = refl; done = refl; left = λ j h. refl }
-
-  pub placed-more : (vs : List ℕ) (i : ℕ) {v : ℕ} → i < length vs → v ≡ valueOf W (at vs i) (at ls i) → Placed vs i → Placed (set vs i v) (i + 1)
-  placed-more vs i {v} h e P =
-      record {
-        same = simp length-set (P .same);
-        done = listed-more placedAt vs i v h (P .done) (e ∙ ap (λ (x : ℕ). valueOf W x (at ls i)) (P .left i (omega arith)));
-        left = λ j k. getD-set-other vs i j v 0 (λ z. omega arith) ∙ P .left j (omega arith);
-      }
-
-  pub placed-all : (vs : List ℕ) (i : ℕ) → i ≤ length vs → length vs ≤ i → Placed vs i → vs ≡ valuesOf W vs₀ ls
+  pub placed-all : (vs : List ℕ) (n : ℕ) → n ≤ length vs₀ → FilledTo placedAt vs₀ vs n → take n vs ≡ valuesOf W (take n vs₀) (take n ls)
   unfolding valuesOf
-  placed-all vs i h k P =
-      let e : i ≡ length vs = omega arith in
-      sym (take-length vs) ∙ ap (λ (n : ℕ). take n vs) (sym e) ∙ P .done ∙ ap (listed placedAt) (e ∙ P .same)
+  placed-all vs n h b =
+      rw (length-take-le n vs₀ h)
+      (b .start
+      ∙ listed-same placedAt (λ i. valueOf W (at (take n vs₀) i) (at (take n ls) i)) n
+      (λ i k. rw (getD-take n vs₀ i 0 k, getD-take n ls i 0 k)))
+
+-- the bits of a good text's entries, and how many they are
+pub entry-spelled : (r : Contents) → GoodContents r → (i : ℕ) → i < r .entries → at (r .bits) i < 2 ^ at (r .lens) i
+unfolding sheetIn
+entry-spelled r fine i h =
+    let n = r .entries in
+    let e = length-take-le n (r .bits) (omega (arith, fine .bits, fine .entries-few)) in
+    rw (getD-take n (r .bits) i 0 h, getD-take n (r .lens) i 0 h) at (fine .sound .entry i (omega arith) .1)

@@ -15,10 +15,12 @@ use Rattle.walk.specs.Answers.{hopOf, readsOf}
 use Rattle.walk.specs.Lookup.{lookupOf}
 use Rattle.walk.specs.declared.record.Record.{Record}
 use Rattle.walk.specs.declared.walk.Answer.{Answer}
+use Rattle.reading.specs.Numerals.{joined}
+use Rattle.reading.proofs.Numerals.{joined-same}
 use Rattle.sheet.specs.Lent.{LentQueries}
-use Rattle.sheet.specs.Printing.{refusalLines, headLines, answerLines, joined, Wrote}
+use Rattle.sheet.specs.Printing.{refusalLines, headLines, answerLines, Wrote}
 use Rattle.sheet.specs.Answers.{wrong, firstWrong, queryLines, answersReport, hopFor, readsFor, lookedUp}
-use Rattle.sheet.proofs.Writing.{wrote-is, joined-more, joined-same}
+use Rattle.sheet.proofs.Writing.{wrote-is, joined-more}
 
 -- what an answer that was taken apart prints
 pub found-is : (v n : ℕ) {a b : Answer} → a ≡ b → answerLines v n (hopOf b) (readsOf b) ≡ answerLines v n (hopOf a) (readsOf a)

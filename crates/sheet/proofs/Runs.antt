@@ -1,4 +1,4 @@
--- Laws of the whole run, in the code's own terms: t is what reading the text handed back, with the lists that it filled.
+-- Laws of the whole run, in the code's own terms: r is what reading the text handed back.
 use mathlib.Core.Path.{_≡_, sym, ap, subst, _∙_}
 use mathlib.Core.Bool.{true, false}
 use mathlib.Core.List.{List}
@@ -6,68 +6,31 @@ use Prim.Native.Nat.{ℕ, _+_, _-_, _≤_, _<_}
 use native.Mathlib.Omega.{arith}
 use native.Mathlib.Nat.{sub-zero, zero-add}
 use lib.ListN.{length, take, drop, length-take}
-use lib.Seq.{sets-eq, take-append-seam, length-take-le, getD-take, take-all}
-use lib.Dec.{leb}
+use lib.Seq.{sets-eq, take-append-seam, length-take-le, take-all}
+use lib.Dec.{leb, lit<}
 use borrow.Author.Tests.{le-leb, lt-leb}
 use Rattle.io.specs.Counts.{Counts}
-use Rattle.table.specs.Table.{at}
-use Rattle.choosers.specs.declared.chooser.Kind.{Kind}
-use Rattle.sheet.specs.declared.parsing.Parsed.{Parsed}
+use Rattle.reading.specs.declared.parsing.Contents.{Contents}
+use Rattle.reading.specs.Contents.{sheetIn}
+use Rattle.reading.specs.Text.{good, textOf, contentsOf}
+use Rattle.reading.proofs.FirstBytes.{first-bytes}
+use Rattle.reading.proofs.Contents.{contents-bad, contents-good}
 use Rattle.sheet.specs.declared.running.Report.{Report}
-use Rattle.sheet.specs.Limits.{COUNT, PAGE}
-use Rattle.sheet.specs.Lent.{LentEntries, LentQueries}
+use Rattle.sheet.specs.Limits.{PAGE}
 use Rattle.sheet.specs.Printing.{refusalLines, written, Wrote}
-use Rattle.sheet.specs.Text.{textOf, parsedText, Small}
-use Rattle.sheet.specs.Solved.{solved}
 use Rattle.sheet.specs.Tablet.{textReport, reportOf, answerFor, leftFor, Ran, OnPage, PageRan}
 use Rattle.sheet.specs.Meaning.{PageReports}
-use Rattle.sheet.proofs.FirstBytes.{page-says}
 use Rattle.sheet.proofs.Meaning.{ran-reports, reports-unique}
 use Rattle.sheet.proofs.Writing.{wrote-length}
 
-module _ (s vs ls hs xs ds : List ℕ) {t : Parsed} (read : parsedText t vs ls hs xs ds ≡ textOf s) where
-  pub report-bad : {line : ℕ} → t ≡ Parsed.Bad line → refusalLines 11 line ≡ reportOf s
-  unfolding reportOf textReport parsedText
-  report-bad is = rw (sym read, is)
+module _ (s : List ℕ) {r : Contents} (read : r ≡ contentsOf (textOf s)) where
+  pub report-bad : (r .line ≡ 0 → ⊥) → refusalLines 11 (r .line) ≡ reportOf s
+  unfolding reportOf textReport
+  report-bad h = rw (contents-bad s read h)
 
-  pub report-good : {k : Kind} {w l n m : ℕ} → t ≡ Parsed.Whole w k l n m
-      → solved k w l (take (n - 0) vs) (take (n - 0) ls) (take (n - 0) hs) (take (m - 0) xs) (take (m - 0) ds) ≡ reportOf s
-  unfolding reportOf textReport parsedText
-  report-good {n = n} {m = m} is = rw (sub-zero n, sub-zero m, sym read, is)
-
--- ---- the lists' parts that are lent on
-
--- the first n of a list that has them
-part-length : (n : ℕ) (xs : List ℕ) → n ≤ length xs → length (take (n - 0) xs) ≡ n
-part-length n xs h = rw sub-zero (length-take-le n xs h)
-
-part-at : (n : ℕ) (xs : List ℕ) (i : ℕ) → i < n → at (take (n - 0) xs) i ≡ at xs i
-part-at n xs i h = rw sub-zero (getD-take n xs i 0 h)
-
-module _ (vs ls xs ds : List ℕ) {t : Parsed} {k : Kind} {w l n m : ℕ} (is : t ≡ Parsed.Whole w k l n m) (small : Small t vs ls xs ds) where
-  pub small-of : Small (Parsed.Whole w k l n m) vs ls xs ds
-  small-of = subst (λ (x : Parsed). Small x vs ls xs ds) is small
-
-  pub entries-lent : COUNT ≤ length vs → COUNT ≤ length ls → LentEntries (take (n - 0) vs) (take (n - 0) ls)
-  entries-lent hv hl =
-      let few = small-of .0 in
-      let ev = part-length n vs (omega arith) in
-      record {
-        lengths = part-length n ls (omega arith) ∙ sym ev;
-        few = omega arith;
-        spelled = λ i h. rw (part-at n vs i (omega arith), part-at n ls i (omega arith)) (small-of .2 i (omega arith));
-      }
-
-  pub queries-lent : COUNT ≤ length xs → COUNT ≤ length ds → LentQueries (take (m - 0) xs) (take (m - 0) ds)
-  queries-lent hx hd =
-      let few = small-of .1 in
-      let ed = part-length m ds (omega arith) in
-      record {
-        counts = part-length m xs (omega arith) ∙ sym ed;
-        few = omega arith;
-        short = λ i h. rw (part-at m ds i (omega arith)) (small-of .3 i (omega arith) .1);
-        spelled = λ i h. rw (part-at m xs i (omega arith), part-at m ds i (omega arith)) (small-of .3 i (omega arith) .0);
-      }
+  pub report-good : r .line ≡ 0 → textReport (good (sheetIn r)) ≡ reportOf s
+  unfolding reportOf
+  report-good h = rw (contents-good s read h)
 
 -- ---- the report and the room that was lent
 
@@ -114,6 +77,10 @@ wrote-counts {out′ = out′} {n = n} w h =
     (k, sym (length-take-le n out′ k))
 
 -- ---- a text that was read to a page
+
+-- no good text is longer than a page, so a text's first page says what the text says
+pub page-says : (s : List ℕ) → textOf (take PAGE s) ≡ textOf s
+page-says s = first-bytes PAGE (lit< tt) s
 
 module _ (page : List ℕ) (n : ℕ) {text out out′ : List ℕ} {r : ℕ} (is : text ≡ take n page) (put : Wrote out 0 (reportOf text) out′ r) where
   pub page-ran : PageRan page n out out′ r

@@ -2,8 +2,10 @@
 -- report says.
 use mathlib.Core.Path.{_≡_, sym, ap, _∙_}
 use mathlib.Core.List.{List}
-use Prim.Native.Nat.{ℕ, _*_}
-use lib.ListN.{length}
+use Prim.Native.Nat.{ℕ, _-_, _*_}
+use native.Mathlib.Omega.{arith}
+use native.Mathlib.Nat.{sub-zero}
+use lib.ListN.{length, take}
 use Rattle.table.specs.declared.entry.Outcome.{Outcome}
 use Rattle.table.specs.declared.entry.Outcome.the-variants.{Accepted, Refused}
 use Rattle.strides.specs.Cheapest.{Kind}
@@ -14,14 +16,18 @@ use Rattle.tries.specs.Build.{BuildIs}
 use Rattle.layout.specs.Laid.{tableTrie, Laid}
 use Rattle.choosers.specs.Scratch.{ROW}
 use Rattle.choosers.specs.Kinds.{kindOf}
-use Rattle.choosers.specs.declared.chooser.Kind as code
 use Rattle.walk.specs.declared.record.Record.{Record}
 use Rattle.layout.proofs.Laid.{hop-longest, reads-blocks}
+use Rattle.reading.specs.declared.parsing.Contents.{Contents}
+use Rattle.reading.specs.Sheet.{Sheet}
+use Rattle.reading.specs.Contents.{sheetIn, GoodContents}
+use Rattle.reading.specs.Text.{good}
 use Rattle.sheet.specs.Limits.{LENT-ROWS, LENT-ELEMENTS}
-use Rattle.sheet.specs.Lent.{LentQueries}
+use Rattle.sheet.specs.Lent.{LentQueries, SheetBuilt}
 use Rattle.sheet.specs.Printing.{refusalLines}
 use Rattle.sheet.specs.Answers.{answersReport, hopFor, readsFor, lookedUp}
 use Rattle.sheet.specs.Solved.{chosen, buildOutcome, longestHop, blocksRead, reportBy, tableReport, reportFor, solved}
+use Rattle.sheet.specs.Tablet.{textReport}
 use Rattle.sheet.specs.Values.{valuesOf}
 use Rattle.sheet.proofs.Queries.{report-same}
 
@@ -57,17 +63,39 @@ module _ (kind : Kind) (W k : ℕ) (vs ls hs : List ℕ) {rec : Record} {rows : 
     unfolding reportFor
     built-accepted is xs ds q = rw (sym outcome-is, is) (looked-up-laid (b .written .laid is) xs ds q)
 
--- ---- a sheet: vs are the values that were placed, and what was lent is what the program lends
+-- ---- a sheet that was built, into lists of LENT-ELEMENTS
 
-module _ (named : code.Kind) (W k : ℕ) (bits ls hs : List ℕ) {vs scratch scratch′ : List ℕ} {lent rows : Lists} {out : Outcome} {rec : Record}
-    (placed : vs ≡ valuesOf W bits ls) (words : length scratch ≡ LENT-ROWS * ROW) (room : shortest lent ≡ LENT-ELEMENTS)
-    (b : BuildIs (kindOf named) W k vs ls hs scratch lent out rec scratch′ rows) (xs ds : List ℕ) where
-  solved-is : reportFor (buildOutcome (kindOf named) W k vs ls hs) (tableReport (kindOf named) W k vs ls hs xs ds) ≡ solved named W k bits ls hs xs ds
-  unfolding solved
-  solved-is = rw placed
+module _ (sh : Sheet) {lent rows : Lists} {out : Outcome} {rec : Record} (room : shortest lent ≡ LENT-ELEMENTS) (b : SheetBuilt sh lent out rec rows) where
+  abbrev values : List ℕ
+  values = valuesOf (sh .width) (sh .bits) (sh .lengths)
 
-  pub solved-refused : {number detail : ℕ} → out ≡ Refused number detail → refusalLines number detail ≡ solved named W k bits ls hs xs ds
-  solved-refused is = built-refused (kindOf named) W k vs ls hs words room b is (tableReport (kindOf named) W k vs ls hs xs ds) ∙ solved-is
+  pub sheet-refused : {number detail : ℕ} → out ≡ Refused number detail → refusalLines number detail ≡ textReport (good sh)
+  unfolding textReport solved
+  sheet-refused is = built-refused (kindOf (sh .kind)) (sh .width) (sh .levels) values (sh .lengths) (sh .hops) (b .words) room (b .build) is _
 
-  pub solved-accepted : out ≡ Accepted → LentQueries xs ds → lookedUp rec rows xs ds ≡ solved named W k bits ls hs xs ds
-  solved-accepted is q = built-accepted (kindOf named) W k vs ls hs words room b is xs ds q ∙ solved-is
+  pub sheet-accepted : out ≡ Accepted → LentQueries (sh .addresses) (sh .places) → lookedUp rec rows (sh .addresses) (sh .places) ≡ textReport (good sh)
+  unfolding textReport solved
+  sheet-accepted is q =
+      built-accepted (kindOf (sh .kind)) (sh .width) (sh .levels) values (sh .lengths) (sh .hops) (b .words) room (b .build) is (sh .addresses) (sh .places) q
+
+-- ---- the contents of a good text
+
+-- the build of their entries: vs begins with the values
+pub sheet-built : (r : Contents) (vs : List ℕ) {scratch scratch′ : List ℕ} {lent rows : Lists} {out : Outcome} {rec : Record}
+    → length scratch ≡ LENT-ROWS * ROW → take (r .entries) vs ≡ valuesOf (r .width) (sheetIn r .bits) (sheetIn r .lengths)
+    → BuildIs (kindOf (r .kind)) (r .width) (r .levels) (take (r .entries - 0) vs) (take (r .entries - 0) (r .lens)) (take (r .entries - 0) (r .hops))
+    scratch lent out rec scratch′ rows
+    → SheetBuilt (sheetIn r) lent out rec rows
+unfolding sheetIn
+sheet-built r vs {scratch = scratch} {scratch′ = scratch′} words placed b =
+    record { scratch = scratch; scratch′ = scratch′; words = words; build = rw (sub-zero, placed) at b }
+
+pub queries-lent : (r : Contents) → GoodContents r → LentQueries (sheetIn r .addresses) (sheetIn r .places)
+queries-lent r fine =
+    let sound = fine .sound in
+    record {
+      counts = sym (sound .as-many-places);
+      few = omega (arith, sound .as-many-places, sound .queries-few);
+      short = λ i h. sound .query i (omega (arith, sound .as-many-places)) .1;
+      spelled = λ i h. sound .query i (omega (arith, sound .as-many-places)) .2;
+    }

@@ -1,5 +1,5 @@
 -- Laws of what is printed: one run of bytes after another, and how long a line can be.
-use mathlib.Core.Path.{_≡_, refl, sym, ap, subst, _∙_}
+use mathlib.Core.Path.{_≡_, refl, ap, subst, _∙_}
 use mathlib.Core.List.{List, [], _∷_, _++_}
 use mathlib.Core.Bool.{Bool, true, false, cond}
 use Prim.Native.Nat.{ℕ, zero, suc, pred, _+_, _-_, _*_, _/_, _%_, _^_, _≤_, _<_}
@@ -11,11 +11,15 @@ use native.Mathlib.Nat.{add-zero, suc-mul, pow-le-pow-right, mod-lt, le-refl}
 use lib.ListN.{length, getD, drop, set, length-append, drop-of-length-le}
 use lib.Seq.{length-sets, set-comm, drop-cons}
 use lib.Dec.{ltb, lit<, lit≤}
-use borrow.Author.Tests.{lt-ltb, le-ltb}
-use Rattle.io.specs.Digits.{digits, glyph, Fewest}
-use Rattle.sheet.specs.Limits.{BITS, REFUSAL-BYTES, HEAD-BYTES, ANSWER-BYTES, LF, ZERO-DIGIT, DECIMAL-DIGITS, DECIMAL-BYTES, ADDRESS-BYTES}
-use Rattle.sheet.specs.Keys.{addressKey, hopKey, refusalKey, detailKey, elementsKey, rootKey, readsKey}
-use Rattle.sheet.specs.Printing.{decimalLengthFrom, decimalLength, decimal, binary, lineOf, bitsLineOf, addressLine, refusalLines, headLines, answerLines, joined, written, Wrote}
+use borrow.Author.Tests.{lt-ltb}
+use Rattle.io.specs.Digits.{Fewest}
+use Rattle.reading.specs.Limits.{BITS, LF, ZERO-DIGIT, DECIMAL-DIGITS}
+use Rattle.reading.specs.Keys.{addressKey, hopKey}
+use Rattle.reading.specs.Numerals.{decimalLengthFrom, decimalLength, decimal, binary, lineOf, bitsLineOf, joined}
+use Rattle.reading.proofs.Numerals.{length-digits}
+use Rattle.sheet.specs.Limits.{REFUSAL-BYTES, HEAD-BYTES, ANSWER-BYTES, DECIMAL-BYTES, ADDRESS-BYTES}
+use Rattle.sheet.specs.Keys.{refusalKey, detailKey, elementsKey, rootKey, readsKey}
+use Rattle.sheet.specs.Printing.{addressLine, refusalLines, headLines, answerLines, written, Wrote}
 
 -- ---- one run of bytes after another
 
@@ -72,20 +76,6 @@ put-end out src p i h = rw (drop-of-length-le src h)
 
 -- ---- decimal
 
-pub fewest-length : (n k : ℕ) → Fewest 10 1 n k → k ≤ DECIMAL-DIGITS → decimalLength n ≡ k
-unfolding decimalLength decimalLengthFrom
-fewest-length n k w h = go (pred DECIMAL-DIGITS) 1 (lit≤ tt) (w .0) (omega arith)
-  where
-    go : (f i : ℕ) → 1 ≤ i → i ≤ k → k ≤ i + f → decimalLengthFrom f i n ≡ k
-    go zero i o a b = omega arith
-    go (suc f) i o a b =
-        elim (decLe k i) [
-          | yes p ↦ let e : i ≡ k = omega arith in rw (e, lt-ltb n (10 ^ k) (w .1))
-          | no p ↦
-              let m : 10 ^ i ≤ n = omega (arith, pow-le-pow-right {n = 10} (lit≤ tt) {i = i} {j = k - 1} (omega arith), w .2 (omega arith)) in
-              rw (le-ltb n (10 ^ i) m) (go f (suc i) (omega arith) (omega arith) (omega arith))
-        ]
-
 -- a number of 64 bits takes at most DECIMAL-DIGITS
 pub fewest-few : (n k : ℕ) → n < 2 ^ 64 → Fewest 10 1 n k → k ≤ DECIMAL-DIGITS
 fewest-few n k h w =
@@ -93,10 +83,6 @@ fewest-few n k h w =
       | yes p ↦ p
       | no p ↦ absurd (omega (arith, pow-le-pow-right {n = 10} (lit≤ tt) {i = DECIMAL-DIGITS} {j = k - 1} (omega arith), w .2 (omega arith)))
     ]
-
-pub fewest-decimal : (n k : ℕ) → Fewest 10 1 n k → k ≤ DECIMAL-DIGITS → digits 10 k n ≡ decimal n
-unfolding decimal
-fewest-decimal n k w h = ap (λ (x : ℕ). digits 10 x n) (sym (fewest-length n k w h))
 
 -- ---- binary digits, stored from the last to the first
 
@@ -115,11 +101,6 @@ written-snoc out p xs a = written-append out p xs (a ∷ [])
 binary-more : (j v : ℕ) → binary (suc j) v ≡ binary j (v / 2) ++ ((ZERO-DIGIT + v % 2) ∷ [])
 unfolding binary
 binary-more j v = rw (lt-ltb (v % 2) 10 (omega (arith, mod-lt v {m = 2} (lit< tt))))
-
-pub length-digits : (b k n : ℕ) → length (digits b k n) ≡ k
-length-digits b zero n = refl
-length-digits b (suc k) n =
-    length-append (digits b k (n / b)) (glyph (n % b) ∷ []) ∙ ap (λ (x : ℕ). x + 1) (length-digits b k (n / b)) ∙ add-one k
 
 pub length-binary : (n v : ℕ) → length (binary n v) ≡ n
 unfolding binary
@@ -202,11 +183,6 @@ joined-more f i a b = rw add-one (wrote-then a b)
 pub joined-none : (f : ℕ → List ℕ) {out : List ℕ} (p : ℕ) → p ≤ length out → Wrote out p (joined f 0) out p
 unfolding joined
 joined-none f p h = wrote-none p h
-
-pub joined-same : (f g : ℕ → List ℕ) (n : ℕ) → ((i : ℕ) → i < n → f i ≡ g i) → joined f n ≡ joined g n
-unfolding joined
-joined-same f g zero h = refl
-joined-same f g (suc n) h = rw (joined-same f g n (λ i k. h i (omega arith)), h n (omega arith))
 
 pub length-joined : (f : ℕ → List ℕ) (b n : ℕ) → ((i : ℕ) → i < n → length (f i) ≤ b) → length (joined f n) ≤ n * b
 unfolding joined

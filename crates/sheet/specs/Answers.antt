@@ -12,7 +12,8 @@ use Rattle.walk.specs.Rows.{Lists, root}
 use Rattle.walk.specs.Answers.{hopOf, readsOf}
 use Rattle.walk.specs.Lookup.{lookupOf}
 use Rattle.walk.specs.declared.record.Record.{Record}
-use Rattle.sheet.specs.Printing.{refusalLines, headLines, answerLines, joined}
+use Rattle.reading.specs.Numerals.{joined}
+use Rattle.sheet.specs.Printing.{refusalLines, headLines, answerLines}
 
 -- query i has not W digits
 unfoldable pub wrong : (W : ℕ) (ds : List ℕ) → ℕ → Bool

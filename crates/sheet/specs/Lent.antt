@@ -1,16 +1,19 @@
--- What is known of the lists that a good text filled, where they are lent on.
+-- What is known of the queries that are lent on, and of the build over what the program lends.
 use mathlib.Core.Path.{_≡_}
 use mathlib.Core.List.{List}
-use Prim.Native.Nat.{ℕ, _^_, _≤_, _<_}
+use Prim.Native.Nat.{ℕ, _*_, _^_, _≤_, _<_}
 use lib.ListN.{length}
 use Rattle.table.specs.Table.{at}
-use Rattle.sheet.specs.Limits.{COUNT, BITS}
-
--- entries: so many bits as the lengths say spell the numbers in the first list
-pub record LentEntries (vs ls : List ℕ) : Type 0 where
-  pub lengths : length ls ≡ length vs
-  pub few : length vs ≤ COUNT
-  pub spelled : (i : ℕ) → i < length vs → at vs i < 2 ^ at ls i
+use Rattle.table.specs.declared.entry.Outcome.{Outcome}
+use Rattle.walk.specs.Rows.{Lists}
+use Rattle.walk.specs.declared.record.Record.{Record}
+use Rattle.tries.specs.Build.{BuildIs}
+use Rattle.choosers.specs.Kinds.{kindOf}
+use Rattle.choosers.specs.Scratch.{ROW}
+use Rattle.reading.specs.Limits.{COUNT, BITS}
+use Rattle.reading.specs.Sheet.{Sheet}
+use Rattle.sheet.specs.Limits.{LENT-ROWS}
+use Rattle.sheet.specs.Values.{valuesOf}
 
 -- queries: an address and its count of digits each, which spell it
 pub record LentQueries (xs ds : List ℕ) : Type 0 where
@@ -18,3 +21,11 @@ pub record LentQueries (xs ds : List ℕ) : Type 0 where
   pub few : length ds ≤ COUNT
   pub short : (i : ℕ) → i < length ds → at ds i ≤ BITS
   pub spelled : (i : ℕ) → i < length ds → at xs i < 2 ^ at ds i
+
+-- the table of a sheet's entries was built, over scratch of LENT-ROWS rows
+pub record SheetBuilt (sh : Sheet) (lent : Lists) (out : Outcome) (rec : Record) (rows : Lists) : Type 0 where
+  pub scratch : List ℕ
+  pub scratch′ : List ℕ
+  pub words : length scratch ≡ LENT-ROWS * ROW
+  pub build : BuildIs (kindOf (sh .kind)) (sh .width) (sh .levels) (valuesOf (sh .width) (sh .bits) (sh .lengths)) (sh .lengths) (sh .hops)
+      scratch lent out rec scratch′ rows

@@ -19,13 +19,14 @@ use Rattle.table.specs.Longest.{LongestHop}
 use Rattle.layout.specs.Laid.{tableTrie}
 use Rattle.choosers.specs.Kinds.{kindOf}
 use Rattle.choosers.specs.Scratch.{ROW}
+use Rattle.reading.specs.Numerals.{joined}
+use Rattle.reading.specs.Sheet.{Sheet}
+use Rattle.reading.specs.Spelling.{sheetText, Sound}
+use Rattle.reading.specs.FirstBad.{FirstBad}
 use Rattle.sheet.specs.declared.running.Report.{Report}
 use Rattle.sheet.specs.Limits.{LENT-ROWS, LENT-ELEMENTS}
-use Rattle.sheet.specs.Printing.{refusalLines, headLines, answerLines, joined}
+use Rattle.sheet.specs.Printing.{refusalLines, headLines, answerLines}
 use Rattle.sheet.specs.Values.{valuesOf}
-use Rattle.sheet.specs.Sheet.{Sheet}
-use Rattle.sheet.specs.Spelling.{sheetText, Sound}
-use Rattle.sheet.specs.FirstBad.{FirstBad}
 use Rattle.sheet.specs.Solved.{blocksRead}
 use Rattle.sheet.specs.Tablet.{answerFor, leftFor, OnPage}
 

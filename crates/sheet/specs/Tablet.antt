@@ -7,10 +7,10 @@ use Prim.Native.Nat.{ℕ}
 use lib.ListN.{length, take, drop}
 use lib.Dec.{leb}
 use Rattle.io.specs.Counts.{Counts}
+use Rattle.reading.specs.Text.{Text, good, bad, textOf}
 use Rattle.sheet.specs.declared.running.Report.{Report}
 use Rattle.sheet.specs.Limits.{PAGE}
 use Rattle.sheet.specs.Printing.{refusalLines}
-use Rattle.sheet.specs.Text.{Text, good, bad, textOf}
 use Rattle.sheet.specs.Solved.{solved}
 
 -- a bad text is refused by 11, the first bad line as detail

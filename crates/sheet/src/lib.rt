@@ -1,13 +1,9 @@
-// The tablet's text: read, run, printed (01, "The tablet program"), as one total function from bytes to bytes.
+// The tablet's run (01, "The tablet program"), as one total function from bytes to bytes: the text is read, run and printed.
 //
-// The text is read line by line into lists; the first bad line stops the reading and keeps its number. A good sheet is
-// built over scratch and elements of the call's own, every address is tested, and each is looked up. The report is printed
-// to a page that is long enough for any, and handed over whole or not at all.
+// The text is read by `reading`. A good sheet is built over scratch and elements of the call's own, every address is tested, and
+// each is looked up. The report is printed to a page that is long enough for any, and handed over whole or not at all.
 mod answering;
-mod entries;
 mod limits;
-mod lines;
-mod parsing;
 mod printing;
 mod rooms;
 mod running;

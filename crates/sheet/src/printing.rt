@@ -3,8 +3,10 @@
 ghost use mathlib.Core.Path.{_≡_};
 ghost use Prim.Native.Nat.{_+_, _≤_};
 ghost use lib.ListN.{length};
-ghost use Rattle.sheet.specs.Limits.{BITS, DECIMAL-DIGITS, DECIMAL-BYTES, ADDRESS-BYTES, REFUSAL-BYTES, HEAD-BYTES, ANSWER-BYTES};
-ghost use Rattle.sheet.specs.Printing.{Wrote, decimal, binary, lineOf, addressLine, refusalLines, headLines, answerLines};
+ghost use Rattle.reading.specs.Limits.{BITS, DECIMAL-DIGITS};
+ghost use Rattle.reading.specs.Numerals.{decimal, binary, lineOf};
+ghost use Rattle.sheet.specs.Limits.{DECIMAL-BYTES, ADDRESS-BYTES, REFUSAL-BYTES, HEAD-BYTES, ANSWER-BYTES};
+ghost use Rattle.sheet.specs.Printing.{Wrote, addressLine, refusalLines, headLines, answerLines};
 use crate::limits::DECIMAL_DIGITS;
 
 // Puts the bytes of src.

@@ -7,10 +7,7 @@ ghost use Rattle.sheet.specs.Limits.{PAGE};
 ghost use Rattle.sheet.specs.Printing.{Wrote};
 ghost use Rattle.sheet.specs.Tablet.{reportOf, Ran, PageRan, Fits};
 ghost use Rattle.sheet.specs.Meaning.{Reports, PageReports};
-use crate::limits::COUNT;
 use crate::limits::PAGE;
-use crate::parsing::Parsed;
-use crate::parsing::parse;
 use crate::printing::put;
 use crate::printing::put_refusal;
 use crate::solving::solve;
@@ -34,32 +31,11 @@ fn put_run(out: &mut [u8], text: &[u8]) -> usize
     requires { ⌜ PAGE ≤ length (now out) ⌝ }
     ensures { λ r. ⌜ Wrote (now (out .entry)) 0 (reportOf (now (text .entry))) (now (out .exit)) r ⌝ }
 {
-    let mut bits = [0u32; COUNT as usize];
-    let mut lens = [0u8; COUNT as usize];
-    let mut hops = [0u16; COUNT as usize];
-    let mut adds = [0u32; COUNT as usize];
-    let mut digs = [0u8; COUNT as usize];
-    let parsed = parse(text, &mut bits, &mut lens, &mut hops, &mut adds, &mut digs);
-    match parsed {
-        Parsed::Bad(line) => put_refusal(out, 0, 11, line as u64),
-        Parsed::Whole {
-            width,
-            kind,
-            levels,
-            entries: n,
-            queries: m,
-        } => solve(
-            out,
-            kind,
-            width,
-            levels,
-            &mut bits[0..n],
-            &lens[0..n],
-            &hops[0..n],
-            &adds[0..m],
-            &digs[0..m],
-        ),
+    let got = reading::read(text);
+    if got.line != 0 {
+        return put_refusal(out, 0, 11, got.line as u64);
     }
+    solve(out, got)
 }
 
 // Reads the tablet's text and writes the report at the start of `out`: `Written` with its length, later bytes kept;

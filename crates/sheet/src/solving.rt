@@ -1,59 +1,67 @@
-// A good sheet, solved: the build over what the program lends, then its refusal, or the report of its answers.
-ghost use mathlib.Core.Path.{_≡_};
+// A good sheet, solved (01, "The tablet program"): the build over what the program lends, then its refusal, or the report of its
+// answers.
 ghost use Prim.Native.Nat.{_≤_};
 ghost use lib.ListN.{length};
+ghost use Rattle.walk.specs.Rows.{lists};
+ghost use Rattle.reading.specs.Contents.{sheetIn, GoodContents};
+ghost use Rattle.reading.specs.Text.{good};
 ghost use Rattle.sheet.specs.Limits.{PAGE};
-ghost use Rattle.sheet.specs.Lent.{LentEntries, LentQueries};
+ghost use Rattle.sheet.specs.Lent.{SheetBuilt};
 ghost use Rattle.sheet.specs.Printing.{Wrote};
-ghost use Rattle.sheet.specs.Solved.{solved};
+ghost use Rattle.sheet.specs.Tablet.{textReport};
 use crate::answering::put_report;
 use crate::printing::put_refusal;
 use crate::rooms::hop_room;
 use crate::rooms::link_room;
 use crate::rooms::scratch_room;
 use crate::rooms::stride_room;
-use crate::values::place_values;
+use crate::values::sheet_values;
+use reading::Contents;
 use table::Outcome;
-use tries::Kind;
+use tries::Built;
 
-// Builds the sheet's table and puts the report. The entries' bits become values where they stand.
-pub(crate) fn solve(
-    out: &mut [u8],
-    kind: Kind,
-    width: u32,
-    levels: u32,
-    vals: &mut [u32],
-    lens: &[u8],
-    hops: &[u16],
-    adds: &[u32],
-    digs: &[u8],
-) -> usize
-    requires { ⌜ (PAGE ≤ length (now out)) × LentEntries (now vals) (now lens) × LentQueries (now adds) (now digs) ⌝ }
-    ensures { λ r. ⌜ Wrote (now (out .entry)) 0
-        (solved kind width levels (now (vals .entry)) (now (lens .entry)) (now (hops .entry)) (now (adds .entry)) (now (digs .entry)))
-        (now (out .exit)) r ⌝ }
+// Builds the table of a sheet's entries, over scratch of its own, into the lists lent.
+fn build_sheet(got: Contents, hop: &mut [u16], link: &mut [u32], stride: &mut [u8]) -> Built
+    requires { ⌜ GoodContents got ⌝ }
+    ensures { λ r. ⌜ SheetBuilt (sheetIn got) (lists (now (hop .entry)) (now (link .entry)) (now (stride .entry)))
+        (r .outcome) (r .record) (lists (now (hop .exit)) (now (link .exit)) (now (stride .exit))) ⌝ }
 {
-    place_values(width, vals, lens);
+    let n = got.entries;
+    let kind = got.kind;
+    let vals = sheet_values(got);
+    let lens = got.lens;
+    let hops = got.hops;
     let mut scratch = scratch_room();
+    tries::build(
+        kind,
+        got.width,
+        got.levels,
+        &vals[0..n],
+        &lens[0..n],
+        &hops[0..n],
+        &mut scratch,
+        hop,
+        link,
+        stride,
+    )
+}
+
+// Builds a good text's table and puts the report.
+pub(crate) fn solve(out: &mut [u8], got: Contents) -> usize
+    requires { ⌜ (PAGE ≤ length (now out)) × GoodContents got ⌝ }
+    ensures { λ r. ⌜ Wrote (now (out .entry)) 0 (textReport (good (sheetIn got))) (now (out .exit)) r ⌝ }
+{
     let mut hop = hop_room();
     let mut link = link_room();
     let mut stride = stride_room();
-    let built = tries::build(
-        kind,
-        width,
-        levels,
-        vals,
-        lens,
-        hops,
-        &mut scratch,
-        &mut hop,
-        &mut link,
-        &mut stride,
-    );
+    let built = build_sheet(got, &mut hop, &mut link, &mut stride);
     let outcome = built.outcome;
     let rec = built.record;
+    let m = got.queries;
+    let adds = got.adds;
+    let digs = got.digs;
     match outcome {
         Outcome::Refused { number, detail } => put_refusal(out, 0, number as u64, detail),
-        Outcome::Accepted => put_report(out, rec, &hop, &link, &stride, adds, digs),
+        Outcome::Accepted => put_report(out, rec, &hop, &link, &stride, &adds[0..m], &digs[0..m]),
     }
 }

@@ -6,7 +6,8 @@ use denote.Ref.{now}
 use lib.ListN.{length}
 use Rattle.table.specs.Table.{at}
 use Rattle.walk.specs.Rows.{lists}
-use Rattle.sheet.specs.Printing.{joined, Wrote}
+use Rattle.reading.specs.Numerals.{joined}
+use Rattle.sheet.specs.Printing.{Wrote}
 use Rattle.sheet.specs.Answers.{queryLines, hopFor, readsFor}
 use Rattle.sheet.proofs.Writing.{wrote-length, wrote-up-to, length-answer, joined-none}
 use Rattle.sheet.proofs.Queries.{query-more}

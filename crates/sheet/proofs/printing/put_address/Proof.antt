@@ -3,8 +3,8 @@ use Prim.Native.Nat.{_-_, _≤_}
 use native.Mathlib.Omega.{arith}
 use lib.Dec.{lit≤}
 use lib.ListN.{length}
-use Rattle.sheet.specs.Keys.{addressKey}
-use Rattle.sheet.specs.Printing.{bitsLineOf}
+use Rattle.reading.specs.Keys.{addressKey}
+use Rattle.reading.specs.Numerals.{bitsLineOf}
 use Rattle.sheet.proofs.Writing.{wrote-then, length-binary}
 use Rattle.sheet.proofs.Writing.{wrote-up-to}
 use borrow.Author.Needs.{needs}

@@ -2,8 +2,9 @@
 use Prim.Native.Nat.{_+_, _-_}
 use native.Mathlib.Omega.{arith}
 use lib.ListN.{length}
-use Rattle.sheet.specs.Limits.{QUERY-BYTES, DECIMAL-BYTES}
-use Rattle.sheet.specs.Keys.{hopKey}
+use Rattle.reading.specs.Limits.{QUERY-BYTES}
+use Rattle.reading.specs.Keys.{hopKey}
+use Rattle.sheet.specs.Limits.{DECIMAL-BYTES}
 use Rattle.sheet.specs.Printing.{answerLines}
 use Rattle.sheet.proofs.Writing.{wrote-then, length-line, length-address}
 use Rattle.sheet.proofs.Writing.{wrote-up-to}

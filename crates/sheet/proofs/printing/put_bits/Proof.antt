@@ -5,7 +5,8 @@ use native.Mathlib.Omega.{arith}
 use native.Mathlib.Nat.{mod-lt}
 use lib.ListN.{length, length-set}
 use lib.Dec.{lit<}
-use Rattle.sheet.specs.Printing.{binary, written}
+use Rattle.reading.specs.Numerals.{binary}
+use Rattle.sheet.specs.Printing.{written}
 use Rattle.sheet.proofs.Writing.{length-binary, bits-go, bits-end}
 use borrow.Author.Needs.{needs}
 use Rattle.sheet.proofs.printing.put_bits.Statement.{statement}

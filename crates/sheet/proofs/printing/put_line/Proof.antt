@@ -1,8 +1,8 @@
 -- Three runs of bytes, one after the other.
 use Prim.Native.Nat.{_-_}
 use native.Mathlib.Omega.{arith}
-use Rattle.sheet.specs.Limits.{DECIMAL-DIGITS}
-use Rattle.sheet.specs.Printing.{lineOf}
+use Rattle.reading.specs.Limits.{DECIMAL-DIGITS}
+use Rattle.reading.specs.Numerals.{lineOf}
 use Rattle.sheet.proofs.Writing.{wrote-length, wrote-then, length-decimal}
 use Rattle.sheet.proofs.Writing.{wrote-up-to}
 use borrow.Author.Needs.{needs}

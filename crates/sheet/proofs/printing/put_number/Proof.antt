@@ -4,9 +4,10 @@ use Prim.Native.Nat.{_-_, _≤_}
 use native.Mathlib.Omega.{arith}
 use native.Mathlib.Nat.{sub-zero}
 use lib.ListN.{length, take}
-use Rattle.sheet.specs.Limits.{DECIMAL-DIGITS}
-use Rattle.sheet.specs.Printing.{decimal}
-use Rattle.sheet.proofs.Writing.{wrote-is, fewest-few, fewest-decimal}
+use Rattle.reading.specs.Limits.{DECIMAL-DIGITS}
+use Rattle.reading.specs.Numerals.{decimal}
+use Rattle.reading.proofs.Numerals.{fewest-decimal}
+use Rattle.sheet.proofs.Writing.{wrote-is, fewest-few}
 use borrow.Author.Needs.{needs}
 use Rattle.sheet.proofs.printing.put_number.Statement.{statement}
 use Rattle.sheet.proofs.printing.put_number.Tie as tie
