@@ -8,6 +8,7 @@ use Rattle.table.specs.Refusals.{outcome, Gives}
 use Rattle.table.specs.declared.entry.Outcome.{Outcome}
 use Rattle.table.specs.declared.entry.Outcome.the-variants.{Accepted, Refused}
 use Rattle.table.proofs.Refusals.{outcome-gives, gives-unique, refused-not-accepted}
+use Rattle.table.specs.Lists.{padded}
 use Rattle.strides.specs.Trie.{Trie}
 use Rattle.strides.specs.Cheapest.{Kind, Cheapest}
 use Rattle.strides.specs.Recurrence.{plain, stridesBy}
@@ -17,7 +18,7 @@ use Rattle.strides.proofs.Follows.{follows-unique}
 use Rattle.strides.proofs.Cheapest.{least-cheapest, strides-named, cheapest-unique, named-unique}
 use Rattle.walk.specs.Limits.{LEVELS}
 use Rattle.layout.specs.Laid.{tableTrie}
-use Rattle.choosers.specs.Chooser.{padded, chooseTests, ifAccepted, ChosenIs, Chooses}
+use Rattle.choosers.specs.Chooser.{chooseTests, ifAccepted, ChosenIs, Chooses}
 use Rattle.choosers.specs.Plans.{NoPlan, PlanMade, PlanIs, Plans}
 use Rattle.choosers.proofs.ChooseTests.{accepted-levels}
 

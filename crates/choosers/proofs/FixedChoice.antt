@@ -20,8 +20,9 @@ use Rattle.walk.specs.Limits.{WIDTH, LEVELS, Within}
 use Rattle.choosers.specs.Limits.{ENTRIES}
 use Rattle.choosers.specs.Costs.{held, column, price, bestCost, bestStride}
 use Rattle.choosers.specs.FixedChoice.{LEVEL-CELLS, cell, Filled, RowFilled, StridesFilled, ListRead, FixedIn}
-use Rattle.choosers.specs.Chooser.{padded}
 use Rattle.table.proofs.Zeroes.{zeros-read}
+use Rattle.table.specs.Lists.{padded}
+use Rattle.table.proofs.Lists.{padded-is}
 use Rattle.choosers.proofs.Gathering.{same?}
 use Rattle.choosers.proofs.Pricing.{scan-same}
 
@@ -207,25 +208,6 @@ reading-next nodes levels depth i p s list h len g e =
           let m : levels - 1 - p ≡ 0 = omega arith in
           ap (λ (y : ℕ). getD L y 0) (after x) ∙ g .rest h (suc x) ∙ rw m (list-end nodes i (depth - i) x);
     }
-
-pub padded-read : (n : ℕ) (ss : List ℕ) (x : ℕ) → x < n → getD (padded n ss) x 0 ≡ getD ss x 0
-unfolding padded
-padded-read zero ss x h = absurd (omega arith)
-padded-read (suc n) [] zero h = refl
-padded-read (suc n) [] (suc x) h = padded-read n [] x (omega arith)
-padded-read (suc n) (s ∷ ss) zero h = refl
-padded-read (suc n) (s ∷ ss) (suc x) h = padded-read n ss x (omega arith)
-
-pub padded-length : (n : ℕ) (ss : List ℕ) → length (padded n ss) ≡ n
-unfolding padded
-padded-length zero ss = refl
-padded-length (suc n) [] = ap suc (padded-length n [])
-padded-length (suc n) (s ∷ ss) = ap suc (padded-length n ss)
-
--- a list of n places that reads as ss does is ss, padded
-pub padded-is : (n : ℕ) (list ss : List ℕ) → length list ≡ n → ((x : ℕ) → x < n → getD list x 0 ≡ getD ss x 0) → list ≡ padded n ss
-padded-is n list ss len e =
-    ext-getD 0 list (padded n ss) (len ∙ sym (padded-length n ss)) (λ x h. e x (omega arith) ∙ sym (padded-read n ss x (omega arith)))
 
 pub reading-done : (nodes : ℕ → ℕ) (levels depth i : ℕ) (list : List ℕ) → levels ≤ LEVELS → length list ≡ LEVELS → ListRead nodes levels depth i levels list
     → list ≡ padded LEVELS (listBy held nodes (levels - 1) 0 depth)

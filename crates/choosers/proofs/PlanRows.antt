@@ -9,6 +9,7 @@ use native.Mathlib.Omega.{arith}
 use lib.ListN.{length, getD, replicate, set}
 use borrow.Author.Tests.{eq-eqb, ne-eqb}
 use Rattle.table.specs.Prefix.{start}
+use Rattle.table.specs.Lists.{padded}
 use Rattle.strides.specs.Trie.{Trie, none, node, bit, depth, size, nodesAt}
 use Rattle.strides.specs.Cheapest.{variable}
 use Rattle.strides.specs.Recurrence.{optBy, pickBy, pickFixedBy, leastBy, stridesBy, fixedStrides}
@@ -19,7 +20,6 @@ use Rattle.choosers.specs.Limits.{BYTE}
 use Rattle.choosers.specs.Scratch.{ROW, DEPTH, ask, strideAt, Stands, BEFORE-STRIDES, COST, MARKS, STRIDE}
 use Rattle.choosers.specs.Trees.{Tree, nil, fork, shape, linkOf, Stand, Deep, HasRow, lt, rt, lmark, rmark, rowFor, next, side, setSide, setMark, insertR, addEntry, treeOf}
 use Rattle.choosers.specs.Costs.{held, AllPriced}
-use Rattle.choosers.specs.Chooser.{padded}
 use Rattle.choosers.proofs.Settling.{ask-col}
 use Rattle.choosers.proofs.FixedChoice.{list-head}
 

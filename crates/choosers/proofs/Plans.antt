@@ -24,11 +24,11 @@ use Rattle.choosers.specs.Making.{Prefixes, MakeIn, MakeOut}
 use Rattle.choosers.specs.Costs.{held, TreeIn, TreeAsk, TreeDone}
 use Rattle.choosers.specs.LevelCounts.{CountsOf}
 use Rattle.choosers.specs.FixedChoice.{FixedIn, FixedOut}
-use Rattle.choosers.specs.Chooser.{padded}
 use Rattle.table.proofs.Zeroes.{zeros-read}
+use Rattle.table.specs.Lists.{padded}
+use Rattle.table.proofs.Lists.{padded-read, padded-length}
 use Rattle.choosers.proofs.Making.{tree-shape}
 use Rattle.choosers.proofs.Settling.{priced-none}
-use Rattle.choosers.proofs.FixedChoice.{padded-read, padded-length}
 use Rattle.choosers.specs.Plans.{PlanIn, Planned}
 use Rattle.choosers.proofs.ChooseTests.{table-prefixes}
 use Rattle.choosers.proofs.PlanRows.{small-tree, tree-stands, strides-own, root-cost, root-pick, least-variable, root-stride, fixed-strides}

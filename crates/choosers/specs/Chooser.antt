@@ -15,6 +15,7 @@ use Rattle.strides.specs.Cheapest.{Kind, Cheapest, Named}
 use Rattle.strides.specs.Recurrence.{plain, leastBy, stridesBy}
 use Rattle.walk.specs.Limits.{LEVELS}
 use Rattle.table.specs.Limits.{outside}
+use Rattle.table.specs.Lists.{padded}
 use Rattle.choosers.specs.Scratch.{ROW}
 use Rattle.layout.specs.Laid.{tableTrie}
 
@@ -33,12 +34,6 @@ unfoldable pub chooseTests : ℕ → ℕ → List ℕ → List ℕ → List ℕ 
 chooseTests W k vs ls hs words = widthTest W ∷ levelsTest k ∷ (listTests hopBad W vs ls hs ++ (scratchTest W vs ls hs words ∷ []))
 
 -- ---- the answer
-
--- the record's strides, a list of n places, the first ones those of ss: unused places 0
-unfoldable pub padded : ℕ → List ℕ → List ℕ
-padded zero ss = []
-padded (suc n) [] = 0 ∷ padded n []
-padded (suc n) (s ∷ ss) = s ∷ padded n ss
 
 -- x where the outcome accepts, else y
 unfoldable pub ifAccepted : {A : Type 0} → Outcome → A → A → A

@@ -4,12 +4,12 @@ use mathlib.Core.Path.{_≡_}
 use mathlib.Core.List.{List}
 use Prim.Native.Nat.{ℕ, _+_, _-_, _*_, _≤_, _<_}
 use lib.ListN.{length, getD}
+use Rattle.table.specs.Lists.{padded}
 use Rattle.strides.specs.Trie.{Trie, depth, nodesAt}
 use Rattle.strides.specs.Cheapest.{fixed}
 use Rattle.strides.specs.Recurrence.{fixBy, pickFixedBy, listBy, leastBy, stridesBy}
 use Rattle.walk.specs.Limits.{WIDTH, LEVELS, Within}
 use Rattle.choosers.specs.Limits.{ENTRIES}
-use Rattle.choosers.specs.Chooser.{padded}
 use Rattle.choosers.specs.Costs.{held, column, bestCost, bestStride}
 use Rattle.choosers.specs.LevelCounts.{CountsOf}
 

@@ -9,13 +9,14 @@ use Rattle.table.specs.Refusals.{outcome, Gives}
 use Rattle.table.specs.Table.{at, Table}
 use Rattle.table.specs.declared.entry.Outcome.{Outcome}
 use Rattle.table.specs.declared.entry.Outcome.the-variants.{Accepted}
+use Rattle.table.specs.Lists.{padded}
 use Rattle.strides.specs.Trie.{Trie, size}
 use Rattle.strides.specs.Cheapest.{Kind, Cheapest, Named}
 use Rattle.strides.specs.Recurrence.{plain, leastBy, stridesBy}
 use Rattle.strides.specs.Strides.{Follows}
 use Rattle.walk.specs.Limits.{LEVELS, Within}
 use Rattle.layout.specs.Laid.{tableTrie}
-use Rattle.choosers.specs.Chooser.{padded, chooseTests}
+use Rattle.choosers.specs.Chooser.{chooseTests}
 use Rattle.choosers.specs.Scratch.{ROW, MARKS, Stands}
 
 -- from the link `root` on the rows hold the table's trie, and with it, as they and the plan are read, the strides of a choice that

@@ -7,9 +7,9 @@ use Prim.Native.Nat.{ℕ, _≤_}
 use native.Mathlib.Omega.{arith}
 use lib.ListN.{length, take}
 use lib.Seq.{length-take-le, getD-take, ext-getD}
-use Rattle.choosers.specs.Chooser.{padded}
+use Rattle.table.specs.Lists.{padded}
+use Rattle.table.proofs.Lists.{padded-read, padded-length}
 use Rattle.choosers.specs.declared.chooser.Kind.{Kind}
-use Rattle.choosers.proofs.FixedChoice.{padded-read, padded-length}
 use Rattle.reading.specs.declared.parsing.Parsed.{Parsed}
 use Rattle.reading.specs.declared.parsing.Contents.{Contents}
 use Rattle.reading.specs.Limits.{COUNT}

@@ -16,11 +16,9 @@ use Rattle.reading.specs.declared.entries.EntryItem.{EntryItem}
 use Rattle.reading.specs.Limits.{COUNT, BITS, NUMBER-DIGITS, HOP, ENTRY-BYTES, QUERY-BYTES}
 use Rattle.reading.specs.Keys.{bitsKey, hopKey, addressKey}
 use Rattle.reading.specs.Lines.{bitsLine}
-use Rattle.table.specs.Lists.{listed}
+use Rattle.table.specs.Lists.{listed, padded}
 use Rattle.reading.specs.Entries.{entryFrom, addressFrom, afterEntries, afterQueries, entryBits, entryLength, entryHop, queryAddress, queryPlaces, FilledTo, HoldsEntries, HoldsQueries}
-use Rattle.choosers.specs.Chooser.{padded}
-use Rattle.choosers.proofs.FixedChoice.{padded-read, padded-length, padded-is}
-use Rattle.table.proofs.Lists.{listed-more, listed-length}
+use Rattle.table.proofs.Lists.{listed-more, listed-length, padded-read, padded-length, padded-is}
 use Rattle.reading.proofs.Steps.{Step, step-none, step-then, step-widen, Spells, number-is, bits-is}
 
 -- ---- an entry: its two lines

@@ -6,7 +6,6 @@ use Prim.Native.Nat.{ℕ, zero, suc, _+_, _*_, _≤_}
 use native.Mathlib.Omega.{arith}
 use lib.ListN.{length}
 use lib.Dec.{eqb}
-use Rattle.choosers.specs.Chooser.{padded}
 use Rattle.choosers.specs.declared.chooser.Kind.{Kind}
 use Rattle.choosers.specs.declared.chooser.Kind.the-variants.{Fixed, Variable}
 use Rattle.reading.specs.declared.lines.Spot.{Spot}
@@ -22,6 +21,7 @@ use Rattle.reading.specs.Text.{headOf, textOf, contentsOf, concluded, pa
 use Rattle.reading.specs.Contents.{sheetContents}
 use Rattle.reading.proofs.Steps.{Line, Step, step-then, step-widen, UpTo, number-is, kind-is}
 use Rattle.table.proofs.Lists.{listed-length}
+use Rattle.table.specs.Lists.{padded}
 use Rattle.reading.proofs.Listing.{entries-step, queries-step, filled-to-blank}
 
 -- ---- the single lines

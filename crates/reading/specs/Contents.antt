@@ -6,7 +6,7 @@ use mathlib.Core.List.{List, []}
 use mathlib.Core.Logic.{_⊎_}
 use Prim.Native.Nat.{ℕ, _≤_}
 use lib.ListN.{length, take}
-use Rattle.choosers.specs.Chooser.{padded}
+use Rattle.table.specs.Lists.{padded}
 use Rattle.choosers.specs.declared.chooser.Kind.the-variants.{Fixed}
 use Rattle.reading.specs.declared.parsing.Contents.{Contents}
 use Rattle.reading.specs.Limits.{COUNT}

@@ -2,7 +2,7 @@
 // any text is read.
 ghost use mathlib.Core.Path.{_≡_};
 ghost use mathlib.Core.List.{[]};
-ghost use Rattle.choosers.specs.Chooser.{padded};
+ghost use Rattle.table.specs.Lists.{padded};
 ghost use Rattle.reading.specs.Limits.{COUNT};
 ghost use Rattle.reading.specs.Contents.{badContents, TextHolds};
 ghost use Rattle.reading.specs.Text.{kindNamed, headOf, textOf, contentsOf, concluded, parsedContents};

@@ -1,4 +1,4 @@
--- Laws of `listed`: one place more, its length, and what stands at an index.
+-- Laws of `listed`, one place more, its length, and what stands at an index; and of `padded`, the same.
 use mathlib.Core.Path.{_≡_, refl, sym, ap, _∙_}
 use mathlib.Core.List.{List, [], _∷_}
 use Prim.Native.Nat.{ℕ, zero, suc, _+_, _<_}
@@ -7,8 +7,8 @@ use native.Mathlib.Omega.{arith}
 use native.Mathlib.Decide.{decLt}
 use native.Mathlib.Numerals.{add-one}
 use lib.ListN.{length, getD, take, set, length-append, List·getD-append}
-use lib.Seq.{take-suc-set, getD-append-seam}
-use Rattle.table.specs.Lists.{listed}
+use lib.Seq.{take-suc-set, getD-append-seam, ext-getD}
+use Rattle.table.specs.Lists.{listed, padded}
 
 -- the next place is set
 pub listed-more : (f : ℕ → ℕ) (xs : List ℕ) (i v : ℕ) → i < length xs → take i xs ≡ listed f i → v ≡ f i
@@ -38,3 +38,24 @@ pub listed-same : (f g : ℕ → ℕ) (n : ℕ) → ((i : ℕ) → i < n → f i
 unfolding listed
 listed-same f g zero h = refl
 listed-same f g (suc n) h = rw (listed-same f g n (λ i k. h i (omega arith)), h n (omega arith))
+
+-- ---- a list with room left
+
+pub padded-read : (n : ℕ) (ss : List ℕ) (x : ℕ) → x < n → getD (padded n ss) x 0 ≡ getD ss x 0
+unfolding padded
+padded-read zero ss x h = absurd (omega arith)
+padded-read (suc n) [] zero h = refl
+padded-read (suc n) [] (suc x) h = padded-read n [] x (omega arith)
+padded-read (suc n) (s ∷ ss) zero h = refl
+padded-read (suc n) (s ∷ ss) (suc x) h = padded-read n ss x (omega arith)
+
+pub padded-length : (n : ℕ) (ss : List ℕ) → length (padded n ss) ≡ n
+unfolding padded
+padded-length zero ss = refl
+padded-length (suc n) [] = ap suc (padded-length n [])
+padded-length (suc n) (s ∷ ss) = ap suc (padded-length n ss)
+
+-- a list of n places that reads as ss does is ss, padded
+pub padded-is : (n : ℕ) (list ss : List ℕ) → length list ≡ n → ((x : ℕ) → x < n → getD list x 0 ≡ getD ss x 0) → list ≡ padded n ss
+padded-is n list ss len e =
+    ext-getD 0 list (padded n ss) (len ∙ sym (padded-length n ss)) (λ x h. e x (omega arith) ∙ sym (padded-read n ss x (omega arith)))

@@ -20,6 +20,8 @@ use Rattle.table.proofs.Refusals.{outcome-fails, outcome-passes, outcome-append
 use Rattle.table.proofs.Numbered.{numbered-append}
 use Rattle.table.proofs.Starts.{start-none}
 use Rattle.table.proofs.Table.{sorted}
+use Rattle.table.specs.Lists.{padded}
+use Rattle.table.proofs.Lists.{padded-read}
 use Rattle.strides.specs.Trie.{Trie, none, node, depth, nodesAt}
 use Rattle.strides.specs.Entries.{wholeEntry, markAt, floorOf}
 use Rattle.strides.specs.Cheapest.{Kind, fixed, variable, Cheapest}
@@ -35,13 +37,12 @@ use Rattle.walk.specs.Rows.{Lists, lists, shortest, root, rowAt}
 use Rattle.layout.specs.Blocks.{Strides, strideOf, rowCount, Agree}
 use Rattle.layout.specs.Laid.{tableTrie, tableFloor, Laid}
 use Rattle.tries.specs.Filling.{LayAsks, LayGives, Lays, PlanFor}
-use Rattle.choosers.specs.Chooser.{padded, chooseTests, ifAccepted}
+use Rattle.choosers.specs.Chooser.{chooseTests, ifAccepted}
 use Rattle.choosers.specs.Plans.{PlanIs}
 use Rattle.tries.specs.Build.{roomTest, buildTests, NoRecord, Keeps, RowsAre, RowsBuilt, BuildIs, Builds}
 use Rattle.layout.proofs.Cost.{count-cost}
 use Rattle.layout.proofs.Agreeing.{same-agree, stride-same, laid-agree}
 use Rattle.tries.proofs.Laying.{lays-built}
-use Rattle.choosers.proofs.FixedChoice.{padded-read}
 use Rattle.choosers.proofs.ChooseTests.{numbered-choose, accepted-levels, accepted-tests-table}
 
 -- ---- the floor: an entry of length 0 can only be the first

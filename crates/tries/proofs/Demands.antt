@@ -25,6 +25,7 @@ use Rattle.table.specs.declared.zoning.Span.{Span}
 use Rattle.table.specs.declared.zoning.Span.the-variants.{Part}
 use Rattle.table.proofs.Refusals.{outcome-gives, outcome-fails, outcome-passes, gives-outcome, gives-unique, given-exactly, refused-not-accepted}
 use Rattle.table.proofs.Numbered.{refused-number}
+use Rattle.table.specs.Lists.{padded}
 use Rattle.strides.specs.Trie.{Some}
 use Rattle.strides.specs.Entries.{SomeStart}
 use Rattle.strides.specs.Cheapest.{Kind, Cheapest}
@@ -44,7 +45,7 @@ use Rattle.walk.specs.Meaning.{OnPath, Tested, Looked}
 use Rattle.layout.specs.Blocks.{linkTo, strideOf, blockRow, rowsAlong, Begun, blocksAlong, blockCount}
 use Rattle.layout.specs.PathBlocks.{nodeOn, BlockAt, rowPath}
 use Rattle.layout.specs.Laid.{tableTrie}
-use Rattle.choosers.specs.Chooser.{padded, chooseTests, Chooses}
+use Rattle.choosers.specs.Chooser.{chooseTests, Chooses}
 use Rattle.tries.specs.Build.{roomTest, buildTests, NoRecord, Builds}
 use Rattle.walk.proofs.Unique.{tested-unique, looked-unique}
 use Rattle.walk.proofs.Looked.{looked}

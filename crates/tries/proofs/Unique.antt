@@ -10,6 +10,7 @@ use Rattle.table.specs.Refusals.{Test, outcome, Gives}
 use Rattle.table.specs.declared.entry.Outcome.{Outcome}
 use Rattle.table.specs.declared.entry.Outcome.the-variants.{Accepted, Refused}
 use Rattle.table.proofs.Refusals.{outcome-gives, gives-unique, gives-outcome, refused-not-accepted}
+use Rattle.table.specs.Lists.{padded}
 use Rattle.strides.specs.Trie.{Trie}
 use Rattle.strides.specs.Cheapest.{Kind}
 use Rattle.strides.specs.Recurrence.{plain, leastBy}
@@ -22,7 +23,7 @@ use Rattle.walk.specs.Rows.{Lists, shortest, rowAt}
 use Rattle.layout.specs.Blocks.{Strides, rowsOf, rowCount, Hold, Agree}
 use Rattle.layout.specs.Laid.{tableTrie, Laid}
 use Rattle.tries.specs.Filling.{LayGives}
-use Rattle.choosers.specs.Chooser.{padded, chooseTests}
+use Rattle.choosers.specs.Chooser.{chooseTests}
 use Rattle.tries.specs.Build.{buildTests, NoRecord, Keeps, Builds}
 use Rattle.layout.proofs.Agreeing.{same-agree, good-agree, rows-same, count-same}
 use Rattle.choosers.proofs.Choosing.{accepted-or}

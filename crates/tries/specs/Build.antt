@@ -8,6 +8,7 @@ use lib.ListN.{length, replicate}
 use Rattle.table.specs.Refusals.{Test, test, outcome, Gives}
 use Rattle.table.specs.declared.entry.Outcome.{Outcome}
 use Rattle.table.specs.declared.entry.Outcome.the-variants.{Accepted}
+use Rattle.table.specs.Lists.{padded}
 use Rattle.strides.specs.Cheapest.{Kind, Cheapest, Named}
 use Rattle.strides.specs.Recurrence.{plain, leastBy, stridesBy}
 use Rattle.strides.specs.Strides.{chosenBy, Follows}
@@ -18,7 +19,7 @@ use Rattle.walk.specs.Rows.{Lists, shortest, rowAt}
 use Rattle.layout.specs.Blocks.{Strides}
 use Rattle.layout.specs.Laid.{tableTrie, Laid}
 use Rattle.tries.specs.Filling.{PlanFor}
-use Rattle.choosers.specs.Chooser.{padded, chooseTests, ifAccepted}
+use Rattle.choosers.specs.Chooser.{chooseTests, ifAccepted}
 
 -- ---- the tests, in order
 

@@ -1,5 +1,5 @@
 use mathlib.Core.Path.{refl}
-use Rattle.choosers.specs.Chooser.{padded}
+use Rattle.table.specs.Lists.{padded}
 use Rattle.choosers.proofs.chooser.no_plan.Statement.{statement}
 use Rattle.choosers.proofs.chooser.no_plan.Tie as tie
 

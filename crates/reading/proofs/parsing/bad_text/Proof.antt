@@ -1,6 +1,6 @@
 -- Each list is blank.
 use mathlib.Core.Path.{refl}
-use Rattle.choosers.specs.Chooser.{padded}
+use Rattle.table.specs.Lists.{padded}
 use Rattle.reading.specs.Contents.{badContents}
 use Rattle.reading.proofs.parsing.bad_text.Statement.{statement}
 use Rattle.reading.proofs.parsing.bad_text.Tie as tie

@@ -1,6 +1,6 @@
 -- The text is read into blank lists; a bad one's are left behind.
 use mathlib.Core.Path.{refl}
-use Rattle.choosers.specs.Chooser.{padded}
+use Rattle.table.specs.Lists.{padded}
 use Rattle.reading.specs.Text.{parsedContents}
 use Rattle.reading.proofs.Contents.{read-bad, read-good, is-held}
 use borrow.Author.Needs.{needs}

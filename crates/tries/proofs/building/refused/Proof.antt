@@ -1,5 +1,5 @@
 use mathlib.Core.Path.{refl}
-use Rattle.choosers.specs.Chooser.{padded}
+use Rattle.table.specs.Lists.{padded}
 use Rattle.tries.proofs.building.refused.Statement.{statement}
 use Rattle.tries.proofs.building.refused.Tie as tie
 
