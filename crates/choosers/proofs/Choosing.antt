@@ -1,13 +1,13 @@
 -- The answers of a plan and of a chooser: the exact one, what it means, and that the meaning leaves one answer.
 use mathlib.Core.Path.{_≡_, refl, ap, sym, subst, _∙_}
-use mathlib.Core.List.{List}
-use mathlib.Core.Logic.{_⊎_, inl, inr, ⊎-elim}
+use mathlib.Core.List.{List, []}
+use mathlib.Core.Logic.{⊎-elim}
 use Prim.Native.Nat.{ℕ, _≤_}
 use lib.ListN.{length, replicate}
 use Rattle.table.specs.Refusals.{outcome, Gives}
 use Rattle.table.specs.declared.entry.Outcome.{Outcome}
 use Rattle.table.specs.declared.entry.Outcome.the-variants.{Accepted, Refused}
-use Rattle.table.proofs.Refusals.{outcome-gives, gives-unique, refused-not-accepted}
+use Rattle.table.proofs.Refusals.{outcome-gives, gives-unique, refused-not-accepted, accepted-or}
 use Rattle.table.specs.Lists.{padded}
 use Rattle.strides.specs.Trie.{Trie}
 use Rattle.strides.specs.Cheapest.{Kind, Cheapest}
@@ -19,72 +19,10 @@ use Rattle.strides.proofs.Cheapest.{least-cheapest, strides-named, cheapest-uni
 use Rattle.walk.specs.Limits.{LEVELS}
 use Rattle.layout.specs.Laid.{tableTrie}
 use Rattle.choosers.specs.Chooser.{chooseTests, ifAccepted, ChosenIs, Chooses}
-use Rattle.choosers.specs.Plans.{NoPlan, PlanMade, PlanIs, Plans}
+use Rattle.choosers.specs.Plans.{Planned, PlanMade, PlanIs, Plans}
 use Rattle.choosers.proofs.ChooseTests.{accepted-levels}
 
--- ---- a plan: the exact answer
-
-pub plan-refused : (kind : Kind) (W k : ℕ) (vs ls hs scratch : List ℕ) {out tested : Outcome} {n d cost root : ℕ} {strides plan : List ℕ}
-    → tested ≡ outcome (chooseTests W k vs ls hs (length scratch)) → tested ≡ Refused n d → out ≡ Refused n d → NoPlan cost strides plan root
-    → PlanIs kind W k vs ls hs scratch out cost strides plan root scratch
-plan-refused kind W k vs ls hs scratch e f o z = record {
-  tests = o ∙ sym f ∙ e;
-  planned = λ a. absurd (refused-not-accepted (sym o ∙ a));
-  refused = λ ne. (z, refl);
-}
-
-pub plan-accepted : (kind : Kind) (W k : ℕ) (vs ls hs scratch : List ℕ) {out : Outcome} {cost root : ℕ} {strides plan scratch′ : List ℕ}
-    → outcome (chooseTests W k vs ls hs (length scratch)) ≡ Accepted → PlanMade kind W k vs ls hs out cost strides plan root scratch′
-    → PlanIs kind W k vs ls hs scratch out cost strides plan root scratch′
-plan-accepted kind W k vs ls hs scratch e p = record {
-  tests = p .accepted ∙ sym e;
-  planned = λ a. p .made;
-  refused = λ ne. absurd (ne (p .accepted));
-}
-
--- ---- and what it means
-
-levels-some : (W k : ℕ) (vs ls hs scratch : List ℕ) {out : Outcome} → out ≡ outcome (chooseTests W k vs ls hs (length scratch)) → out ≡ Accepted → 1 ≤ k
-levels-some W k vs ls hs scratch t e = accepted-levels W k vs ls hs (length scratch) (sym t ∙ e) .0
-
-pub plan-means : {kind : Kind} {W k : ℕ} {vs ls hs scratch : List ℕ} {out : Outcome} {cost root : ℕ} {strides plan scratch′ : List ℕ}
-    → PlanIs kind W k vs ls hs scratch out cost strides plan root scratch′ → Plans kind W k vs ls hs scratch out cost strides plan root scratch′
-plan-means {kind} {W} {k} {vs} {ls} {hs} {scratch} c =
-    let t = tableTrie W vs ls hs in
-    let tests = chooseTests W k vs ls hs (length scratch) in
-    let some = levels-some W k vs ls hs scratch (c .tests) in
-    record {
-      tested = subst (Gives tests) (sym (c .tests)) (outcome-gives tests);
-      cheapest = λ e. subst (Cheapest kind k t) (sym (c .planned e .least)) (least-cheapest kind k t (some e));
-      named = λ e. (stridesBy plain kind k t, strides-named kind k t (some e), c .planned e .named);
-      readable = λ e. c .planned e .readable;
-      refused = c .refused;
-    }
-
--- ---- a chooser: the exact answer
-
-pub refused-is : {kind : Kind} {W k : ℕ} {vs ls hs scratch : List ℕ} {out : Outcome} {n d cost root : ℕ} {strides plan scratch′ : List ℕ}
-    → PlanIs kind W k vs ls hs scratch out cost strides plan root scratch′ → out ≡ Refused n d
-    → ChosenIs kind W k vs ls hs scratch (Refused n d) 0 (replicate LEVELS 0) scratch′
-unfolding ifAccepted padded
-refused-is p f = record {
-  tests = sym f ∙ p .tests;
-  costs = refl;
-  named = refl;
-  after = p .refused (λ a. refused-not-accepted (sym f ∙ a)) .1;
-}
-
-pub chosen-is : {kind : Kind} {W k : ℕ} {vs ls hs scratch : List ℕ} {out : Outcome} {cost root : ℕ} {strides plan rows rows′ : List ℕ}
-    → PlanIs kind W k vs ls hs scratch out cost strides plan root rows → out ≡ Accepted → rows′ ≡ replicate (length scratch) 0
-    → ChosenIs kind W k vs ls hs scratch Accepted cost strides rows′
-unfolding ifAccepted
-chosen-is p e z = record { tests = sym e ∙ p .tests; costs = p .planned e .least; named = p .planned e .named; after = z }
-
--- ---- and what it means
-
-pub accepted-or : (o : Outcome) → (o ≡ Accepted) ⊎ (o ≡ Accepted → ⊥)
-accepted-or Accepted = inl refl
-accepted-or (Refused n d) = inr refused-not-accepted
+-- ---- where an outcome accepts, and where it does not
 
 accepted-value : {A : Type 0} {o : Outcome} → o ≡ Accepted → (x y : A) → ifAccepted o x y ≡ x
 unfolding ifAccepted
@@ -95,6 +33,76 @@ refused-value : {A : Type 0} {o : Outcome} → (o ≡ Accepted → ⊥) → (x y
 unfolding ifAccepted
 refused-value {o = Accepted} ne x y = absurd (ne refl)
 refused-value {o = Refused n d} ne x y = refl
+
+levels-some : (W k : ℕ) (vs ls hs scratch : List ℕ) {out : Outcome} → out ≡ outcome (chooseTests W k vs ls hs (length scratch)) → out ≡ Accepted → 1 ≤ k
+levels-some W k vs ls hs scratch t e = accepted-levels W k vs ls hs (length scratch) (sym t ∙ e) .0
+
+-- ---- a plan: the exact answer
+
+pub plan-refused : (kind : Kind) (W k : ℕ) (vs ls hs scratch : List ℕ) {out tested : Outcome} {n d cost root : ℕ} {strides plan : List ℕ}
+    → tested ≡ outcome (chooseTests W k vs ls hs (length scratch)) → tested ≡ Refused n d → out ≡ Refused n d
+    → (cost ≡ 0) × (strides ≡ padded LEVELS []) → (plan ≡ padded LEVELS []) × (root ≡ 0)
+    → PlanIs kind W k vs ls hs scratch out cost strides plan root scratch
+plan-refused kind W k vs ls hs scratch {out} e f o z r =
+    let ne : out ≡ Accepted → ⊥ = λ a. refused-not-accepted (sym o ∙ a) in
+    record {
+      chosen = record {
+        tests = o ∙ sym f ∙ e;
+        costs = z .0 ∙ sym (refused-value ne _ _);
+        named = z .1 ∙ ap (padded LEVELS) (sym (refused-value ne _ _));
+        after = refl;
+      };
+      holds = λ a. absurd (ne a);
+      refused = λ _. record { no-plan = r .0; no-root = r .1; kept = refl };
+    }
+
+pub plan-accepted : (kind : Kind) (W k : ℕ) (vs ls hs scratch : List ℕ) {out : Outcome} {cost root : ℕ} {strides plan scratch′ : List ℕ}
+    → outcome (chooseTests W k vs ls hs (length scratch)) ≡ Accepted → PlanMade kind W k vs ls hs out cost strides plan root scratch′
+    → PlanIs kind W k vs ls hs scratch out cost strides plan root scratch′
+plan-accepted kind W k vs ls hs scratch e p =
+    let a = p .accepted in
+    record {
+      chosen = record {
+        tests = a ∙ sym e;
+        costs = p .made .least ∙ sym (accepted-value a _ _);
+        named = p .made .named ∙ ap (padded LEVELS) (sym (accepted-value a _ _));
+        after = refl;
+      };
+      holds = λ _. p .made .holds;
+      refused = λ ne. absurd (ne a);
+    }
+
+-- where it accepts: what the planning past the tests gave
+pub plan-made : {kind : Kind} {W k : ℕ} {vs ls hs scratch : List ℕ} {out : Outcome} {cost root : ℕ} {strides plan scratch′ : List ℕ}
+    → PlanIs kind W k vs ls hs scratch out cost strides plan root scratch′ → out ≡ Accepted → Planned kind W k vs ls hs cost strides plan root scratch′
+plan-made p e = record {
+  least = p .chosen .costs ∙ accepted-value e _ _;
+  named = p .chosen .named ∙ ap (padded LEVELS) (accepted-value e _ _);
+  holds = p .holds e;
+}
+
+-- ---- a chooser: the exact answer
+
+pub refused-is : {kind : Kind} {W k : ℕ} {vs ls hs scratch : List ℕ} {out : Outcome} {n d cost root : ℕ} {strides plan scratch′ : List ℕ}
+    → PlanIs kind W k vs ls hs scratch out cost strides plan root scratch′ → out ≡ Refused n d
+    → ChosenIs kind W k vs ls hs scratch (Refused n d) 0 (replicate LEVELS 0) scratch′
+unfolding ifAccepted padded
+refused-is p f = record {
+  tests = sym f ∙ p .chosen .tests;
+  costs = refl;
+  named = refl;
+  after = p .refused (λ a. refused-not-accepted (sym f ∙ a)) .kept;
+}
+
+pub chosen-is : {kind : Kind} {W k : ℕ} {vs ls hs scratch : List ℕ} {out : Outcome} {cost root : ℕ} {strides plan rows rows′ : List ℕ}
+    → PlanIs kind W k vs ls hs scratch out cost strides plan root rows → out ≡ Accepted → rows′ ≡ replicate (length scratch) 0
+    → ChosenIs kind W k vs ls hs scratch Accepted cost strides rows′
+unfolding ifAccepted
+chosen-is p e z =
+    let m = plan-made p e in
+    record { tests = sym e ∙ p .chosen .tests; costs = m .least; named = m .named; after = z }
+
+-- ---- and what they mean
 
 pub chosen-means : (kind : Kind) (W k : ℕ) (vs ls hs scratch : List ℕ) {out : Outcome} {cost : ℕ} {strides scratch′ : List ℕ}
     → ChosenIs kind W k vs ls hs scratch out cost strides scratch′ → Chooses kind W k vs ls hs scratch out cost strides scratch′
@@ -109,6 +117,10 @@ chosen-means kind W k vs ls hs scratch c =
       zeroed = λ e. c .after ∙ accepted-value e _ _;
       refused = λ ne. (c .costs ∙ refused-value ne _ _, c .named ∙ ap (padded LEVELS) (refused-value ne _ _), c .after ∙ refused-value ne _ _);
     }
+
+pub plan-means : {kind : Kind} {W k : ℕ} {vs ls hs scratch : List ℕ} {out : Outcome} {cost root : ℕ} {strides plan scratch′ : List ℕ}
+    → PlanIs kind W k vs ls hs scratch out cost strides plan root scratch′ → Plans kind W k vs ls hs scratch out cost strides plan root scratch′
+plan-means p = record { chooses = chosen-means _ _ _ _ _ _ _ (p .chosen); holds = p .holds; refused = p .refused }
 
 -- ---- what it means leaves one answer
 
@@ -138,27 +150,21 @@ chooses-unique kind W k vs ls hs scratch {out} {out′} {cost} {cost′} {stride
 
 -- ---- and so does a plan's, but for the rows in which the nodes lie
 
--- what a plan answers is what a chooser does, who leaves scratch all zero
-plan-chooses : (kind : Kind) (W k : ℕ) (vs ls hs scratch : List ℕ) {out : Outcome} {cost root : ℕ} {strides plan scratch′ : List ℕ}
-    → Plans kind W k vs ls hs scratch out cost strides plan root scratch′
-    → Chooses kind W k vs ls hs scratch out cost strides (ifAccepted out (replicate (length scratch) 0) scratch)
-plan-chooses kind W k vs ls hs scratch p = record {
-  tested = p .tested;
-  cheapest = p .cheapest;
-  named = p .named;
-  zeroed = λ e. accepted-value e _ _;
-  refused = λ ne. let z = p .refused ne .0 in (z .no-cost, z .no-strides, refused-value ne _ _);
-}
-
--- one outcome, one cost, the same strides named; and the strides that are read are the same wherever a block begins
 module _ (kind : Kind) (W k : ℕ) (vs ls hs scratch : List ℕ) {out out′ : Outcome} {cost cost′ root root′ : ℕ} {strides strides′ plan plan′ scratch′ scratch″ : List ℕ}
     (c : Plans kind W k vs ls hs scratch out cost strides plan root scratch′) (d : Plans kind W k vs ls hs scratch out′ cost′ strides′ plan′ root′ scratch″) where
+  -- one outcome, one cost, the same strides named
   pub plans-unique : (out ≡ out′) × (cost ≡ cost′) × (strides ≡ strides′)
-  plans-unique =
-      let one = chooses-unique kind W k vs ls hs scratch (plan-chooses kind W k vs ls hs scratch c) (plan-chooses kind W k vs ls hs scratch d) in
-      (one .0, one .1, one .2)
+  plans-unique = let one = chooses-unique kind W k vs ls hs scratch (c .chooses) (d .chooses) in (one .0, one .1, one .2)
 
+  -- refused: the same plan, root and scratch
+  pub no-plans-unique : (out ≡ Accepted → ⊥) → (plan ≡ plan′) × (root ≡ root′) × (scratch′ ≡ scratch″)
+  no-plans-unique ne =
+      let a = c .refused ne in
+      let b = d .refused (λ e. ne (plans-unique .0 ∙ e)) in
+      (a .no-plan ∙ sym (b .no-plan), a .no-root ∙ sym (b .no-root), a .kept ∙ sym (b .kept))
+
+  -- accepted: the strides that are read are the same wherever a block begins
   pub plans-read : (e : out ≡ Accepted) (e′ : out′ ≡ Accepted) → let t = tableTrie W vs ls hs in
-      SameBlocks t 0 (choiceBy (c .readable e .σ) t 0 k) (choiceBy (d .readable e′ .σ) t 0 k)
+      SameBlocks t 0 (choiceBy (c .holds e .σ) t 0 k) (choiceBy (d .holds e′ .σ) t 0 k)
   plans-read e e′ =
-      follows-unique kind k (tableTrie W vs ls hs) (c .readable e .σ) (d .readable e′ .σ) (c .readable e .follows) (d .readable e′ .follows)
+      follows-unique kind k (tableTrie W vs ls hs) (c .holds e .σ) (d .holds e′ .σ) (c .holds e .follows) (d .holds e′ .follows)

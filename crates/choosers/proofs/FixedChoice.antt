@@ -1,14 +1,14 @@
 -- The fixed strides, from the last level up; and the whole fixed choice from the counts of nodes by level.
 use mathlib.Core.Path.{_≡_, refl, ap, ap₂, sym, subst, _∙_, fun-ext}
 use mathlib.Core.List.{List, [], _∷_}
-use mathlib.Core.Logic.{_⊎_, ⊎-elim}
+use mathlib.Core.Logic.{⊎-elim}
 use Prim.Native.Nat.{ℕ, zero, suc, max, _+_, _-_, _*_, _^_, _≤_, _<_}
 use native.Mathlib.Nat.{le-refl, add-zero, zero-add, sub-zero}
 use native.Mathlib.Decide.{decLe}
 use native.Mathlib.Numerals.{add-one}
 use native.Mathlib.Omega.{arith}
 use lib.ListN.{length, getD, set, length-set, replicate}
-use lib.Seq.{getD-set-same, getD-set-other, ext-getD}
+use lib.Seq.{getD-set-same, getD-set-other}
 use Rattle.table.specs.Table.{at}
 use Rattle.strides.specs.Trie.{Trie, depth, nodesAt}
 use Rattle.strides.specs.Entries.{longestLength}

@@ -1,5 +1,5 @@
 -- Counting the nodes of each level as the rows are made: a run of levels gets one more each; an entry's new nodes are such a run.
-use mathlib.Core.Path.{_≡_, refl, ap, sym, subst, _∙_}
+use mathlib.Core.Path.{_≡_, refl, ap, _∙_}
 use mathlib.Core.List.{List}
 use mathlib.Core.Logic.{⊎-elim}
 use Prim.Native.Nat.{ℕ, zero, suc, _+_, _^_, _≤_, _<_}
@@ -8,7 +8,6 @@ use native.Mathlib.Omega.{arith}
 use lib.ListN.{length, getD, set}
 use lib.Pow.{pow-mono}
 use lib.Seq.{getD-set-same, getD-set-other}
-use Rattle.table.specs.Table.{at}
 use Rattle.strides.specs.Trie.{Trie, none, node, kid, markOn, bit, sumBy, nodesAt}
 use Rattle.strides.specs.Insertion.{insertT, place, markFor, met}
 use Rattle.strides.proofs.Insertion.{met-none}

@@ -1,3 +1,5 @@
+-- The laws, by notion: a tree in scratch rows, one entry more, a whole table and its counts; costs, pass by pass, and the fixed choice; the
+-- tests; a plan, and what a chooser answers.
 pub mod Frames
 pub mod Shapes
 pub mod Inserting

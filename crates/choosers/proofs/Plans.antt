@@ -42,16 +42,16 @@ module _ (W k : ℕ) (vs ls hs scratch : List ℕ) (g : PlanIn W k vs ls hs scra
   abbrev tree : Tree
   tree = treeOf W (at vs) (at ls) (at hs) (length vs)
 
-  pub plan-prefixes : Prefixes W vs ls
+  plan-prefixes : Prefixes W vs ls
   plan-prefixes = table-prefixes W vs ls hs (g .table)
 
   tree-trie : shape tree ≡ trie
   tree-trie = tree-shape W (at vs) (at ls) (at hs) (length vs) (plan-prefixes .prefix)
 
-  pub plan-depth-width : depth trie ≤ W
+  plan-depth-width : depth trie ≤ W
   plan-depth-width = trie-depth-width W (at vs) (at ls) (at hs) (length vs) (plan-prefixes .prefix)
 
-  pub plan-depth : depth trie ≤ WIDTH
+  plan-depth : depth trie ≤ WIDTH
   plan-depth = omega (arith, plan-depth-width, g .table .width)
 
   two-to-depth : 2 ^ depth trie ≤ 2 ^ WIDTH
@@ -123,7 +123,7 @@ module _ (W k : ℕ) (vs ls hs scratch : List ℕ) (g : PlanIn W k vs ls hs scra
         record {
           least = o .0 ∙ least-capped COST-CAP fixed k trie ∙ omega arith;
           named = o .1 ∙ ap (padded LEVELS) h;
-          readable = record {
+          holds = record {
             long = ap length (o .1) ∙ padded-length LEVELS (stridesBy held fixed k trie);
             σ = chosenBy held fixed k trie;
             follows = follows-capped COST-CAP fixed k trie (g .levels .0) b;
@@ -154,7 +154,7 @@ module _ (W k : ℕ) (vs ls hs scratch : List ℕ) (g : PlanIn W k vs ls hs scra
               ∙ ap (optBy held (k - 1)) tree-trie ∙ least-variable k trie (g .levels .0)
               ∙ least-capped COST-CAP variable k trie ∙ omega arith;
           named = root-stride k trie stride (g .levels .0) own plan-depth ∙ ap (padded LEVELS) (strides-capped COST-CAP variable k trie (g .levels .0) b);
-          readable = record {
+          holds = record {
             long = refl;
             σ = chosenBy held variable k trie;
             follows = follows-capped COST-CAP variable k trie (g .levels .0) b;

@@ -2,7 +2,7 @@
 -- and all scratch zero; refused, cost 0, zero strides and nothing changed.
 use mathlib.Core.Path.{_≡_}
 use mathlib.Core.List.{List, [], _∷_, _++_}
-use Prim.Native.Nat.{ℕ, zero, suc, _/_}
+use Prim.Native.Nat.{ℕ, _/_}
 use lib.Dec.{ltb}
 use lib.ListN.{length, replicate}
 use Rattle.table.specs.Entry.{hopBad}

@@ -2,7 +2,7 @@
 -- starts, one a level. Once the rows are made, nothing looks at a value again.
 use mathlib.Core.Path.{_≡_}
 use mathlib.Core.List.{List}
-use Prim.Native.Nat.{ℕ, zero, suc, _+_, _≤_, _<_}
+use Prim.Native.Nat.{ℕ, zero, suc, _+_, _<_}
 use lib.ListN.{length}
 use Rattle.table.specs.Table.{at}
 use Rattle.strides.specs.Trie.{Trie, nodesAt}

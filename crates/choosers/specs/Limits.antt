@@ -1,5 +1,5 @@
--- The limits of the choosers (01, "The table"), under the names that the code gives them. Those of a lookup, which hold here too, are
--- `walk`'s.
+-- The limits of the choosers (01, "The table"), under the names that the code gives them; WORD and GROWS are the language's own. Those of
+-- a lookup, which hold here too, are `walk`'s.
 use Prim.Native.Nat.{ℕ, _^_}
 use Rattle.table.specs.Limits.{entryLimit}
 

@@ -1,13 +1,15 @@
 // The stride choosers (01, "Stride choices"): the least cost of a kind, and the strides of the record; and the plan that they rest on,
 // which leaves the trie with its strides in scratch for the builder.
 ghost use mathlib.Core.Path.{_≡_};
-ghost use lib.ListN.{length};
+ghost use mathlib.Core.List.{[]};
+ghost use Rattle.table.specs.Lists.{padded};
 ghost use Rattle.table.specs.Refusals.{outcome};
 ghost use Rattle.table.specs.declared.entry.Outcome.the-variants.{Refused};
 ghost use Rattle.strides.specs.Cheapest.{fixed, variable};
+ghost use Rattle.walk.specs.Limits.{LEVELS};
 ghost use Rattle.choosers.specs.Kinds.{kindOf};
 ghost use Rattle.choosers.specs.Chooser.{chooseTests, ChosenIs, Chooses};
-ghost use Rattle.choosers.specs.Plans.{PlanIn, PlanMade, NoPlan, PlanIs, Plans};
+ghost use Rattle.choosers.specs.Plans.{PlanIn, PlanMade, PlanIs, Plans};
 use crate::costs::settle_all;
 use crate::counting::node_count;
 use crate::fixed::fixed_choice;
@@ -73,8 +75,8 @@ fn choose_outcome(
     Outcome::Accepted
 }
 
-// The least cost and the strides of a choice, with the trie in the scratch rows from the link `root` on; `plan` names a
-// fixed choice's strides to the builder, and is 0 where each row has its own.
+// What a chooser answers, with the trie in the scratch rows from the link `root` on; `plan` names a fixed choice's strides to the
+// builder, and is 0 where each row has its own. Refused, all but the outcome is 0.
 pub struct Plan {
     pub outcome: Outcome,
     pub cost: u64,
@@ -86,7 +88,8 @@ pub struct Plan {
 // A refused plan: all zeros.
 fn no_plan(number: u32, detail: u64) -> Plan
     ensures told { λ r. ⌜ r .outcome ≡ Refused number detail ⌝ }
-    ensures empty { λ r. ⌜ NoPlan (r .cost) (r .strides) (r .plan) (r .root) ⌝ }
+    ensures answer { λ r. ⌜ (r .cost ≡ 0) × (r .strides ≡ padded LEVELS []) ⌝ }
+    ensures rest { λ r. ⌜ (r .plan ≡ padded LEVELS []) × (r .root ≡ 0) ⌝ }
 {
     Plan {
         outcome: Outcome::Refused { number, detail },

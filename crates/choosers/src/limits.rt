@@ -1,5 +1,5 @@
-// The limits of the choosers, named once (`specs/Limits.antt` has the same ones for the promises). The widest address is the table's,
-// the most levels are the lookup's.
+// The limits of the choosers, named once (`specs/Limits.antt` has the same ones for the promises, and two more that are in no line of
+// code). The widest address is the table's, the most levels are the lookup's.
 use walk::LEVELS;
 
 // The most levels, as a number of places.

@@ -1,5 +1,5 @@
-// The scratch rows of the 1-bit trie (specs/Scratch.antt has their columns): how a number of a row is read and written. All
-// that walks the trie goes through these, by links: a link is a row and one, 0 is none.
+// The scratch rows of the 1-bit trie (specs/Scratch.antt has their columns): how a number of a row is read, by its link, and written. A
+// link is a row and one, 0 is none. Costs and choices go through these; the making of rows, which knows its row, reads in place.
 ghost use mathlib.Core.Path.{_≡_};
 ghost use Prim.Native.Nat.{_+_, _*_, _<_, _≤_};
 ghost use lib.ListN.{length, set};

@@ -1,7 +1,6 @@
 -- Each answer as the C caller sees it: for each case of an answer the refusal's number, 0 where it is accepted, the detail, and
 -- the values, which are 0 where it is refused.
 use mathlib.Core.Path.{_≡_}
-use Prim.Native.Nat.{ℕ}
 use Rattle.table.specs.Refusals.{outcomeNumber, outcomeDetail}
 use Rattle.table.specs.Answers.{sharedOutcome, sharedBits, spanOutcome, spanIndex, spanCount}
 use Rattle.table.specs.declared.entry.Outcome.{Outcome}

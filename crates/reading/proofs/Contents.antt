@@ -21,7 +21,7 @@ use Rattle.reading.proofs.Sound.{sheet-of-text}
 use Rattle.reading.proofs.Following.{good-is-sound, good-is-spelled}
 use Rattle.reading.proofs.FirstBad.{first-bad-unique, bad-is-first}
 
-pub text-holds : (s : List ℕ) → TextHolds s (contentsOf (textOf s))
+text-holds : (s : List ℕ) → TextHolds s (contentsOf (textOf s))
 unfolding contentsOf
 text-holds s = go (textOf s) refl
   where
@@ -102,8 +102,8 @@ module _ (s : List ℕ) {r : Contents} (read : r ≡ contentsOf (textOf s)) wher
             entries-few = sound .entries-few;
             queries-few = sound .queries-few;
             bits = padded-length COUNT (sh .bits);
-            lens = padded-length COUNT (sh .lengths);
+            lengths = padded-length COUNT (sh .lengths);
             hops = padded-length COUNT (sh .hops);
-            adds = padded-length COUNT (sh .addresses);
-            digs = padded-length COUNT (sh .places);
+            addresses = padded-length COUNT (sh .addresses);
+            places = padded-length COUNT (sh .places);
           })

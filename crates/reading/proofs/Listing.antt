@@ -1,24 +1,20 @@
 -- Laws of the lists that the entries' and the queries' lines fill, one place at a time, in the code's own terms.
 use mathlib.Core.Path.{_≡_, refl, sym, ap, _∙_}
-use mathlib.Core.List.{List, []}
+use mathlib.Core.List.{List}
 use Prim.Native.Nat.{ℕ, zero, suc, _+_, _*_, _^_, _≤_, _<_}
-use Prim.Dec.{yes, no}
 use native.Mathlib.Omega.{arith}
-use native.Mathlib.Decide.{decLt}
 use native.Mathlib.Numerals.{add-one}
 use native.Mathlib.Nat.{pow-le-pow-right}
-use lib.ListN.{length, getD, set, length-set, List·getD-eq-default}
-use lib.Seq.{getD-set-other, getD-take}
+use lib.ListN.{length, set}
 use lib.Dec.{lit≤}
 use Rattle.reading.specs.declared.lines.Spot.{Spot}
 use Rattle.reading.specs.declared.lines.Item.{Item}
 use Rattle.reading.specs.declared.entries.EntryItem.{EntryItem}
-use Rattle.reading.specs.Limits.{COUNT, BITS, NUMBER-DIGITS, HOP, ENTRY-BYTES, QUERY-BYTES}
+use Rattle.reading.specs.Limits.{BITS, NUMBER-DIGITS, HOP, ENTRY-BYTES, QUERY-BYTES}
 use Rattle.reading.specs.Keys.{bitsKey, hopKey, addressKey}
 use Rattle.reading.specs.Lines.{bitsLine}
-use Rattle.table.specs.Lists.{listed, padded}
-use Rattle.reading.specs.Entries.{entryFrom, addressFrom, afterEntries, afterQueries, entryBits, entryLength, entryHop, queryAddress, queryPlaces, FilledTo, HoldsEntries, HoldsQueries}
-use Rattle.table.proofs.Lists.{listed-more, listed-length, padded-read, padded-length, padded-is}
+use Rattle.reading.specs.Entries.{entryFrom, addressFrom, afterEntries, afterQueries, entryBits, entryLength, entryHop, queryAddress, queryPlaces, HoldsEntries, HoldsQueries}
+use Rattle.table.proofs.Lists.{filled-to-none, filled-to-more}
 use Rattle.reading.proofs.Steps.{Step, step-none, step-then, step-widen, Spells, number-is, bits-is}
 
 -- ---- an entry: its two lines
@@ -32,10 +28,6 @@ module _ (s : List ℕ) (p : Spot) where
   unfolding entryFrom
   entry-step = step-then (bits-is bitsKey s p 0 .step) (number-is hopKey s (bitsLine 0 bitsKey s p .spot) NUMBER-DIGITS HOP .step)
 
-  pub entry-spells : Spells (entryFrom s p .bits) (entryFrom s p .len)
-  unfolding entryFrom
-  entry-spells = bits-is bitsKey s p 0 .value
-
 -- ---- where the reading stands after so many entries, and after so many queries
 
 pub entries-step : (s : List ℕ) (p : Spot) (n : ℕ) → Step s p (n * ENTRY-BYTES) (n * 2) (afterEntries s p n)
@@ -48,36 +40,6 @@ unfolding afterQueries addressFrom
 queries-step s p zero = step-none s p
 queries-step s p (suc n) =
     step-widen (step-then (queries-step s p n) (bits-is addressKey s (afterQueries s p n) 1 .step)) (omega arith) (omega arith)
-
--- ---- a list that is filled from its start
-
-pub blank-length : {xs : List ℕ} → xs ≡ padded COUNT [] → length xs ≡ COUNT
-blank-length e = ap length e ∙ padded-length COUNT []
-
-module _ (f : ℕ → ℕ) (old : List ℕ) where
-  pub filled-to-none : FilledTo f old old 0
-  unfolding listed
-  filled-to-none = record { same = refl; start = refl; rest = λ j h. refl }
-
-  pub filled-to-more : (xs : List ℕ) (i : ℕ) {v : ℕ} → i < length xs → v ≡ f i → FilledTo f old xs i → FilledTo f old (set xs i v) (i + 1)
-  filled-to-more xs i {v} h e b =
-      record {
-        same = simp length-set (b .same);
-        start = listed-more f xs i v h (b .start) e;
-        rest = λ j k. getD-set-other xs i j v 0 (λ z. omega arith) ∙ b .rest j (omega arith);
-      }
-
-  -- a blank list is then what was put in, and 0 after it
-  pub filled-to-blank : {xs : List ℕ} (n : ℕ) → old ≡ padded COUNT [] → FilledTo f old xs n → xs ≡ padded COUNT (listed f n)
-  filled-to-blank {xs} n e b =
-      padded-is COUNT xs (listed f n) (b .same ∙ blank-length e)
-      (λ x h.
-      elim (decLt x n) [
-        | yes l ↦ sym (getD-take n xs x 0 l) ∙ ap (λ (ys : List ℕ). getD ys x 0) (b .start)
-        | no l ↦
-            b .rest x (omega arith) ∙ ap (λ (ys : List ℕ). getD ys x 0) e ∙ padded-read COUNT [] x h
-            ∙ sym (List·getD-eq-default (listed f n) 0 {n = x} (omega (arith, listed-length f n)))
-      ])
 
 -- ---- the loop over the entries: e is the one that was read at q
 

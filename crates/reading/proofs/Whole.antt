@@ -22,7 +22,8 @@ use Rattle.reading.specs.Contents.{sheetContents}
 use Rattle.reading.proofs.Steps.{Line, Step, step-then, step-widen, UpTo, number-is, kind-is}
 use Rattle.table.proofs.Lists.{listed-length}
 use Rattle.table.specs.Lists.{padded}
-use Rattle.reading.proofs.Listing.{entries-step, queries-step, filled-to-blank}
+use Rattle.table.proofs.Lists.{filled-to-blank}
+use Rattle.reading.proofs.Listing.{entries-step, queries-step}
 
 -- ---- the single lines
 
@@ -150,11 +151,11 @@ module _ (s vs₀ ls₀ hs₀ vs ls hs : List ℕ) {h : Head} {after : Spot} {q 
           rw (
             listed-length (entryBits s (entriesItem s .spot)) (entriesItem s .value),
             listed-length (queryAddress s (queriesItem s .spot)) (queriesItem s .value),
-            filled-to-blank _ _ _ (es-blank .0) (entries-held .bits),
-            filled-to-blank _ _ _ (es-blank .1) (entries-held .lengths),
-            filled-to-blank _ _ _ (es-blank .2) (entries-held .hops),
-            filled-to-blank _ _ _ (qs-blank .0) (queries-held .addresses),
-            filled-to-blank _ _ _ (qs-blank .1) (queries-held .places),
+            filled-to-blank _ _ COUNT _ (es-blank .0) (entries-held .bits),
+            filled-to-blank _ _ COUNT _ (es-blank .1) (entries-held .lengths),
+            filled-to-blank _ _ COUNT _ (es-blank .2) (entries-held .hops),
+            filled-to-blank _ _ COUNT _ (qs-blank .0) (queries-held .addresses),
+            filled-to-blank _ _ COUNT _ (qs-blank .1) (queries-held .places),
           )
 
       pub parse-read : parsedContents r vs ls hs xs ds ≡ contentsOf (textOf s)

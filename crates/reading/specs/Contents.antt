@@ -25,10 +25,10 @@ sheetContents sh =
       entries = length (sh .bits);
       queries = length (sh .addresses);
       bits = padded COUNT (sh .bits);
-      lens = padded COUNT (sh .lengths);
+      lengths = padded COUNT (sh .lengths);
       hops = padded COUNT (sh .hops);
-      adds = padded COUNT (sh .addresses);
-      digs = padded COUNT (sh .places);
+      addresses = padded COUNT (sh .addresses);
+      places = padded COUNT (sh .places);
     }
 
 -- a bad line, and nothing else: 0 everywhere, and of the kinds the first
@@ -42,10 +42,10 @@ badContents line =
       entries = 0;
       queries = 0;
       bits = padded COUNT [];
-      lens = padded COUNT [];
+      lengths = padded COUNT [];
       hops = padded COUNT [];
-      adds = padded COUNT [];
-      digs = padded COUNT [];
+      addresses = padded COUNT [];
+      places = padded COUNT [];
     }
 
 -- the contents of a text: those of the sound sheet whose text it is; or its first bad line
@@ -63,10 +63,10 @@ sheetIn r =
       kind = r .kind;
       levels = r .levels;
       bits = take (r .entries) (r .bits);
-      lengths = take (r .entries) (r .lens);
+      lengths = take (r .entries) (r .lengths);
       hops = take (r .entries) (r .hops);
-      addresses = take (r .queries) (r .adds);
-      places = take (r .queries) (r .digs);
+      addresses = take (r .queries) (r .addresses);
+      places = take (r .queries) (r .places);
     }
 
 -- what is known of such contents: the sheet is sound, no more places are taken than there are, and each list has COUNT
@@ -75,7 +75,7 @@ pub record GoodContents (r : Contents) : Type 0 where
   pub entries-few : r .entries ≤ COUNT
   pub queries-few : r .queries ≤ COUNT
   pub bits : length (r .bits) ≡ COUNT
-  pub lens : length (r .lens) ≡ COUNT
+  pub lengths : length (r .lengths) ≡ COUNT
   pub hops : length (r .hops) ≡ COUNT
-  pub adds : length (r .adds) ≡ COUNT
-  pub digs : length (r .digs) ≡ COUNT
+  pub addresses : length (r .addresses) ≡ COUNT
+  pub places : length (r .places) ≡ COUNT

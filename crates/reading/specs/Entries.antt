@@ -2,13 +2,11 @@
 -- Everything is said by index: where the reading stands after the first i of them, and what the next ones then give.
 use mathlib.Core.Path.{_≡_}
 use mathlib.Core.List.{List}
-use Prim.Native.Nat.{ℕ, zero, suc, _≤_}
-use lib.ListN.{length, take}
+use Prim.Native.Nat.{ℕ, zero, suc}
 use Rattle.reading.specs.declared.lines.Spot.{Spot}
 use Rattle.reading.specs.declared.lines.Item.{Item}
 use Rattle.reading.specs.declared.entries.EntryItem.{EntryItem}
-use Rattle.table.specs.Table.{at}
-use Rattle.table.specs.Lists.{listed}
+use Rattle.table.specs.Lists.{FilledTo}
 use Rattle.reading.specs.Limits.{NUMBER-DIGITS, HOP}
 use Rattle.reading.specs.Keys.{bitsKey, hopKey, addressKey}
 use Rattle.reading.specs.Lines.{numberLine, bitsLine}
@@ -51,12 +49,6 @@ module _ (s : List ℕ) where
 
     unfoldable pub queryPlaces : ℕ
     queryPlaces = addressFrom (afterQueries p i) .count
-
--- a list is filled to place n: it begins with f at 0, 1, .. below n, and goes on as it did
-pub record FilledTo (f : ℕ → ℕ) (old new : List ℕ) (n : ℕ) : Type 0 where
-  pub same : length new ≡ length old
-  pub start : take n new ≡ listed f n
-  pub rest : (j : ℕ) → n ≤ j → at new j ≡ at old j
 
 -- three lists begin with the n entries that stand from p on, and the reading stands at r after them
 pub record HoldsEntries (s : List ℕ) (p : Spot) (n : ℕ) (vs₀ ls₀ hs₀ vs ls hs : List ℕ) (r : Spot) : Type 0 where

@@ -103,8 +103,8 @@ parsedContents (Parsed.Whole w kind l n m) vs ls hs xs ds =
       entries = n;
       queries = m;
       bits = vs;
-      lens = ls;
+      lengths = ls;
       hops = hs;
-      adds = xs;
-      digs = ds;
+      addresses = xs;
+      places = ds;
     }

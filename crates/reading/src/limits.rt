@@ -1,19 +1,20 @@
-// The numbers of the tablet's text, named once. `specs/Limits.antt` has the same ones for the promises.
+// The numbers of the tablet's text (01, "The tablet program"), named once. `specs/Limits.antt` has the same ones for the promises, but
+// for the length of the kind's key, which is there as the key itself.
 
 // The most entries, and the most queries.
 pub const COUNT: u64 = 64;
 
 // The most digits of a number.
-pub const NUMBER_DIGITS: u32 = 5;
+pub(crate) const NUMBER_DIGITS: u32 = 5;
 
 // The largest number of so many digits: a width or a level limit of the text.
-pub const NUMBER: u64 = 99999;
+pub(crate) const NUMBER: u64 = 99999;
 
 // The largest hop that the text takes.
-pub const HOP: u64 = 65535;
+pub(crate) const HOP: u64 = 65535;
 
 // The most binary digits of an entry's bits, and of an address.
-pub const BITS: u32 = 32;
+pub(crate) const BITS: u32 = 32;
 
 // The bytes of `kind=fst`, and of `kind=vst`.
-pub const KIND_KEY: usize = 8;
+pub(crate) const KIND_KEY: usize = 8;

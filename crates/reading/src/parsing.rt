@@ -35,10 +35,10 @@ pub struct Contents {
     pub entries: usize,
     pub queries: usize,
     pub bits: [u32; COUNT as usize],
-    pub lens: [u8; COUNT as usize],
+    pub lengths: [u8; COUNT as usize],
     pub hops: [u16; COUNT as usize],
-    pub adds: [u32; COUNT as usize],
-    pub digs: [u8; COUNT as usize],
+    pub addresses: [u32; COUNT as usize],
+    pub places: [u8; COUNT as usize],
 }
 
 // How the reading ended: the numbers of a good text, or the first bad line.
@@ -139,10 +139,10 @@ fn bad_text(line: u32) -> Contents
         entries: 0,
         queries: 0,
         bits: [0; COUNT as usize],
-        lens: [0; COUNT as usize],
+        lengths: [0; COUNT as usize],
         hops: [0; COUNT as usize],
-        adds: [0; COUNT as usize],
-        digs: [0; COUNT as usize],
+        addresses: [0; COUNT as usize],
+        places: [0; COUNT as usize],
     }
 }
 
@@ -173,10 +173,10 @@ pub fn read(text: &[u8]) -> Contents
             entries,
             queries,
             bits,
-            lens,
+            lengths: lens,
             hops,
-            adds,
-            digs,
+            addresses: adds,
+            places: digs,
         },
     }
 }

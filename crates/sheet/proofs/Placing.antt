@@ -15,8 +15,8 @@ use Rattle.table.specs.Table.{at}
 use Rattle.table.proofs.Lists.{listed-same}
 use Rattle.reading.specs.declared.parsing.Contents.{Contents}
 use Rattle.reading.specs.Contents.{sheetIn, GoodContents}
-use Rattle.reading.specs.Entries.{FilledTo}
-use Rattle.reading.proofs.Listing.{filled-to-more}
+use Rattle.table.specs.Lists.{FilledTo}
+use Rattle.table.proofs.Lists.{filled-to-more}
 use Rattle.sheet.specs.Values.{valueOf, valuesOf}
 
 module _ (W b l : ℕ) (spells : b < 2 ^ l) (short : l ≤ W) where
@@ -66,9 +66,9 @@ module _ (W : ℕ) (vs₀ ls : List ℕ) where
       (λ i k. rw (getD-take n vs₀ i 0 k, getD-take n ls i 0 k)))
 
 -- the bits of a good text's entries, and how many they are
-pub entry-spelled : (r : Contents) → GoodContents r → (i : ℕ) → i < r .entries → at (r .bits) i < 2 ^ at (r .lens) i
+pub entry-spelled : (r : Contents) → GoodContents r → (i : ℕ) → i < r .entries → at (r .bits) i < 2 ^ at (r .lengths) i
 unfolding sheetIn
 entry-spelled r fine i h =
     let n = r .entries in
     let e = length-take-le n (r .bits) (omega (arith, fine .bits, fine .entries-few)) in
-    rw (getD-take n (r .bits) i 0 h, getD-take n (r .lens) i 0 h) at (fine .sound .entry i (omega arith) .1)
+    rw (getD-take n (r .bits) i 0 h, getD-take n (r .lengths) i 0 h) at (fine .sound .entry i (omega arith) .1)

@@ -33,7 +33,7 @@ use Rattle.sheet.proofs.Queries.{report-same}
 
 module _ (kind : Kind) (W k : ℕ) (vs ls hs : List ℕ) {rec : Record} {rows : Lists} where
   -- the element lists that a build left say what the table says
-  pub looked-up-laid : Laid WIDTH W vs ls hs (chosen kind W k vs ls hs) k rec rows → (xs ds : List ℕ) → LentQueries xs ds
+  looked-up-laid : Laid WIDTH W vs ls hs (chosen kind W k vs ls hs) k rec rows → (xs ds : List ℕ) → LentQueries xs ds
       → lookedUp rec rows xs ds ≡ tableReport kind W k vs ls hs xs ds
   unfolding reportBy
   looked-up-laid g xs ds lent =
@@ -83,7 +83,7 @@ module _ (sh : Sheet) {lent rows : Lists} {out : Outcome} {rec : Record} (room :
 -- the build of their entries: vs begins with the values
 pub sheet-built : (r : Contents) (vs : List ℕ) {scratch scratch′ : List ℕ} {lent rows : Lists} {out : Outcome} {rec : Record}
     → length scratch ≡ LENT-ROWS * ROW → take (r .entries) vs ≡ valuesOf (r .width) (sheetIn r .bits) (sheetIn r .lengths)
-    → BuildIs (kindOf (r .kind)) (r .width) (r .levels) (take (r .entries - 0) vs) (take (r .entries - 0) (r .lens)) (take (r .entries - 0) (r .hops))
+    → BuildIs (kindOf (r .kind)) (r .width) (r .levels) (take (r .entries - 0) vs) (take (r .entries - 0) (r .lengths)) (take (r .entries - 0) (r .hops))
     scratch lent out rec scratch′ rows
     → SheetBuilt (sheetIn r) lent out rec rows
 unfolding sheetIn

@@ -2,12 +2,12 @@
 // reading's.
 
 // No number of 64 bits has more decimal digits; `reading/specs/Limits.antt` has it for the promises, with the text's.
-pub const DECIMAL_DIGITS: usize = 20;
+pub(crate) const DECIMAL_DIGITS: usize = 20;
 
 // The bytes of the page that a report is printed to.
 pub const PAGE: usize = 8192;
 
 // What the program lends to a build: scratch rows, and elements.
-pub const LENT_ROWS: usize = 112;
+pub(crate) const LENT_ROWS: usize = 112;
 
-pub const LENT_ELEMENTS: usize = 8192;
+pub(crate) const LENT_ELEMENTS: usize = 8192;

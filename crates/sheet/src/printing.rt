@@ -1,6 +1,5 @@
 // The report's lines, printed into a lent list: each function puts bytes at place p and answers the place after them.
 // The page that they are printed to is long enough for the longest number in every line, so none of them tests.
-ghost use mathlib.Core.Path.{_≡_};
 ghost use Prim.Native.Nat.{_+_, _≤_};
 ghost use lib.ListN.{length};
 ghost use Rattle.reading.specs.Limits.{BITS, DECIMAL-DIGITS};

@@ -29,7 +29,7 @@ fn build_sheet(got: Contents, hop: &mut [u16], link: &mut [u32], stride: &mut [u
     let n = got.entries;
     let kind = got.kind;
     let vals = sheet_values(got);
-    let lens = got.lens;
+    let lens = got.lengths;
     let hops = got.hops;
     let mut scratch = scratch_room();
     tries::build(
@@ -58,8 +58,8 @@ pub(crate) fn solve(out: &mut [u8], got: Contents) -> usize
     let outcome = built.outcome;
     let rec = built.record;
     let m = got.queries;
-    let adds = got.adds;
-    let digs = got.digs;
+    let adds = got.addresses;
+    let digs = got.places;
     match outcome {
         Outcome::Refused { number, detail } => put_refusal(out, 0, number as u64, detail),
         Outcome::Accepted => put_report(out, rec, &hop, &link, &stride, &adds[0..m], &digs[0..m]),

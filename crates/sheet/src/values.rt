@@ -26,7 +26,7 @@ pub(crate) fn sheet_values(got: Contents) -> [u32; COUNT as usize]
     ensures { λ r. ⌜ (COUNT ≡ length r) × (take (got .entries) r ≡ valuesOf (got .width) (sheetIn got .bits) (sheetIn got .lengths)) ⌝ }
 {
     let n = got.entries;
-    let lens = got.lens;
+    let lens = got.lengths;
     let mut vals = got.bits;
     let mut i = 0;
     while i < n {

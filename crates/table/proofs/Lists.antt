@@ -1,4 +1,4 @@
--- Laws of `listed`, one place more, its length, and what stands at an index; and of `padded`, the same.
+-- Laws of `listed` and `padded`: one place more, the length, and what stands at an index; and of a list that is filled from its start.
 use mathlib.Core.Path.{_≡_, refl, sym, ap, _∙_}
 use mathlib.Core.List.{List, [], _∷_}
 use Prim.Native.Nat.{ℕ, zero, suc, _+_, _<_}
@@ -6,9 +6,9 @@ use Prim.Dec.{yes, no}
 use native.Mathlib.Omega.{arith}
 use native.Mathlib.Decide.{decLt}
 use native.Mathlib.Numerals.{add-one}
-use lib.ListN.{length, getD, take, set, length-append, List·getD-append}
-use lib.Seq.{take-suc-set, getD-append-seam, ext-getD}
-use Rattle.table.specs.Lists.{listed, padded}
+use lib.ListN.{length, getD, take, set, length-append, length-set, List·getD-append, List·getD-eq-default}
+use lib.Seq.{take-suc-set, getD-append-seam, getD-set-other, getD-take, ext-getD}
+use Rattle.table.specs.Lists.{listed, padded, FilledTo}
 
 -- the next place is set
 pub listed-more : (f : ℕ → ℕ) (xs : List ℕ) (i v : ℕ) → i < length xs → take i xs ≡ listed f i → v ≡ f i
@@ -59,3 +59,33 @@ padded-length (suc n) (s ∷ ss) = ap suc (padded-length n ss)
 pub padded-is : (n : ℕ) (list ss : List ℕ) → length list ≡ n → ((x : ℕ) → x < n → getD list x 0 ≡ getD ss x 0) → list ≡ padded n ss
 padded-is n list ss len e =
     ext-getD 0 list (padded n ss) (len ∙ sym (padded-length n ss)) (λ x h. e x (omega arith) ∙ sym (padded-read n ss x (omega arith)))
+
+pub blank-length : (n : ℕ) {xs : List ℕ} → xs ≡ padded n [] → length xs ≡ n
+blank-length n e = ap length e ∙ padded-length n []
+
+-- ---- a list that is filled from its start
+
+module _ (f : ℕ → ℕ) (old : List ℕ) where
+  pub filled-to-none : FilledTo f old old 0
+  unfolding listed
+  filled-to-none = record { same = refl; start = refl; rest = λ j h. refl }
+
+  pub filled-to-more : (xs : List ℕ) (i : ℕ) {v : ℕ} → i < length xs → v ≡ f i → FilledTo f old xs i → FilledTo f old (set xs i v) (i + 1)
+  filled-to-more xs i {v} h e b =
+      record {
+        same = simp length-set (b .same);
+        start = listed-more f xs i v h (b .start) e;
+        rest = λ j k. getD-set-other xs i j v 0 (λ z. omega arith) ∙ b .rest j (omega arith);
+      }
+
+  -- a blank list is then what was put in, and 0 after it
+  pub filled-to-blank : (m : ℕ) {xs : List ℕ} (n : ℕ) → old ≡ padded m [] → FilledTo f old xs n → xs ≡ padded m (listed f n)
+  filled-to-blank m {xs} n e b =
+      padded-is m xs (listed f n) (b .same ∙ blank-length m e)
+      (λ x h.
+      elim (decLt x n) [
+        | yes l ↦ sym (getD-take n xs x 0 l) ∙ ap (λ (ys : List ℕ). getD ys x 0) (b .start)
+        | no l ↦
+            b .rest x (omega arith) ∙ ap (λ (ys : List ℕ). getD ys x 0) e ∙ padded-read m [] x h
+            ∙ sym (List·getD-eq-default (listed f n) 0 {n = x} (omega (arith, listed-length f n)))
+      ])

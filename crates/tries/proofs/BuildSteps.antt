@@ -1,17 +1,15 @@
 -- The build: from the tests to the record and the rows, and what its promise means.
 use mathlib.Core.Path.{_≡_, refl, ap, sym, subst, _∙_}
 use mathlib.Core.Bool.{Bool, true, false, cond, _&&_, _||_}
-use mathlib.Core.List.{List, [], _∷_, _++_}
-use mathlib.Core.Logic.{_⊎_, inl, inr, ⊎-elim}
-use Prim.Native.Nat.{ℕ, zero, suc, _+_, _-_, _%_, _^_, _≤_, _<_, min}
+use mathlib.Core.List.{List, [], _∷_}
+use mathlib.Core.Logic.{⊎-elim}
+use Prim.Native.Nat.{ℕ, zero, suc, _-_, _%_, _^_, _≤_, _<_}
 use native.Mathlib.Nat.{le-refl, sub-zero, mod-eq-of-lt}
 use native.Mathlib.Omega.{arith}
 use lib.Dec.{ltb, eqb}
-use lib.Pow.{pow-mono}
 use lib.ListN.{length, getD, replicate, take, length-take}
-use borrow.Author.Tests.{eq-eqb, ne-eqb, lt-ltb, le-ltb, ltb-false, ltb-true}
-use Rattle.table.specs.Prefix.{start}
-use Rattle.table.specs.Refusals.{Test, test, outcome, Gives, Numbered, andThen}
+use borrow.Author.Tests.{ne-eqb, lt-ltb, le-ltb, ltb-false}
+use Rattle.table.specs.Refusals.{Test, outcome, Gives, Numbered, andThen}
 use Rattle.table.specs.Table.{at, Table}
 use Rattle.table.specs.declared.entry.Outcome.{Outcome}
 use Rattle.table.specs.declared.entry.Outcome.the-variants.{Accepted, Refused}
@@ -33,16 +31,18 @@ use Rattle.strides.proofs.Follows.{follows-good, follows-cheapest, follows-uniq
 use Rattle.walk.specs.declared.record.Record.{Record}
 use Rattle.walk.specs.Limits.{WIDTH, LEVELS}
 use Rattle.tries.specs.Limits.{ELEMENTS}
-use Rattle.walk.specs.Rows.{Lists, lists, shortest, root, rowAt}
+use Rattle.walk.specs.Rows.{Lists, shortest}
 use Rattle.layout.specs.Blocks.{Strides, strideOf, rowCount, Agree}
 use Rattle.layout.specs.Laid.{tableTrie, tableFloor, Laid}
-use Rattle.tries.specs.Filling.{LayAsks, LayGives, Lays, PlanFor}
+use Rattle.tries.specs.Filling.{LayAsks, LayGives, Lays}
 use Rattle.choosers.specs.Chooser.{chooseTests, ifAccepted}
 use Rattle.choosers.specs.Plans.{PlanIs}
-use Rattle.tries.specs.Build.{roomTest, buildTests, NoRecord, Keeps, RowsAre, RowsBuilt, BuildIs, Builds}
+use Rattle.tries.specs.Build.{roomTest, buildTests, NoRecord, RowsAre, BuildIs, Builds}
+use Rattle.tries.specs.FromPlan.{PlanFor, RowsBuilt}
 use Rattle.layout.proofs.Cost.{count-cost}
 use Rattle.layout.proofs.Agreeing.{same-agree, stride-same, laid-agree}
 use Rattle.tries.proofs.Laying.{lays-built}
+use Rattle.choosers.proofs.Choosing.{plan-made}
 use Rattle.choosers.proofs.ChooseTests.{numbered-choose, accepted-levels, accepted-tests-table}
 
 -- ---- the floor: an entry of length 0 can only be the first
@@ -133,23 +133,23 @@ module _ {kind : Kind} {W k : ℕ} {vs ls hs : List ℕ} {cost root : ℕ} {stri
   trie = tableTrie W vs ls hs
 
   abbrev σ : Strides
-  σ = g .planned .readable .σ
+  σ = g .planned .holds .σ
 
   depth-width : depth trie ≤ W
   depth-width = trie-depth-width W (at vs) (at ls) (at hs) (length vs) (λ i h. g .table .entry i h .prefix)
 
   plan-good : Good σ trie W 0 k
-  plan-good = follows-good kind k trie W σ (g .levels .0) depth-width (g .planned .readable .follows)
+  plan-good = follows-good kind k trie W σ (g .levels .0) depth-width (g .planned .holds .follows)
 
   plan-agrees : Agree σ (chosenBy plain kind k trie) trie 0 k
   plan-agrees =
       let chosen = chosenBy plain kind k trie in
-      same-agree σ chosen trie W 0 k plan-good (follows-unique kind k trie σ chosen (g .planned .readable .follows) (chosen-follows kind k trie (g .levels .0)))
+      same-agree σ chosen trie W 0 k plan-good (follows-unique kind k trie σ chosen (g .planned .holds .follows) (chosen-follows kind k trie (g .levels .0)))
 
   count-cost-is : rowCount σ k trie ≡ cost
   count-cost-is =
       count-cost σ trie k
-      ∙ cheapest-unique kind k trie (follows-cheapest kind k trie σ (g .levels .0) (g .planned .readable .follows)) (least-cheapest kind k trie (g .levels .0))
+      ∙ cheapest-unique kind k trie (follows-cheapest kind k trie σ (g .levels .0) (g .planned .holds .follows)) (least-cheapest kind k trie (g .levels .0))
       ∙ sym (g .planned .least)
 
   -- ---- the builder may be called
@@ -157,10 +157,10 @@ module _ {kind : Kind} {W k : ℕ} {vs ls hs : List ℕ} {cost root : ℕ} {stri
   pub may-lay : (lent : Lists) → (ltb (shortest lent) cost || ltb ELEMENTS cost) ≡ false → LayAsks σ trie rows (take k plan) root W k lent
   may-lay lent fits =
       let f = or-false (ltb (shortest lent) cost) (ltb ELEMENTS cost) fits in
-      let le : length (take k plan) ≡ k = length-take k plan ∙ omega (arith, g .planned .readable .long, g .levels .1) in
+      let le : length (take k plan) ≡ k = length-take k plan ∙ omega (arith, g .planned .holds .long, g .levels .1) in
       record {
         trunk = record {
-          stands = g .planned .readable .stands;
+          stands = g .planned .holds .stands;
           good = plan-good;
           narrow = g .table .width;
           levels = omega (arith, le, g .levels);
@@ -180,7 +180,7 @@ module _ {kind : Kind} {W k : ℕ} {vs ls hs : List ℕ} {cost root : ℕ} {stri
 
   -- ---- accepted: what `lay` gave, with the record's fields
 
-  pub accepted-laid : {lent lent′ : Lists} {e : ℕ} (rec : Record) → LayAsks σ trie rows (take k plan) root W k lent → LayGives σ trie k lent e lent′
+  accepted-laid : {lent lent′ : Lists} {e : ℕ} (rec : Record) → LayAsks σ trie rows (take k plan) root W k lent → LayGives σ trie k lent e lent′
       → shortest lent′ ≡ shortest lent → rec .width ≡ W → rec .levels ≡ k → rec .elements ≡ cost → rec .floor ≡ tableFloor W vs ls hs → rec .strides ≡ strides
       → Laid WIDTH W vs ls hs (chosenBy plain kind k trie) k rec lent′
   accepted-laid rec asks gives s ew ek ee ef es =
@@ -197,7 +197,7 @@ module _ {kind : Kind} {W k : ℕ} {vs ls hs : List ℕ} {cost root : ℕ} {stri
 -- ---- the three answers
 
 -- refused: nothing is written
-pub nothing-written : (kind : Kind) (W k : ℕ) (vs ls hs : List ℕ) (lent : Lists) {out : Outcome} {n d : ℕ} {rec : Record} → out ≡ Refused n d → NoRecord rec
+nothing-written : (kind : Kind) (W k : ℕ) (vs ls hs : List ℕ) (lent : Lists) {out : Outcome} {n d : ℕ} {rec : Record} → out ≡ Refused n d → NoRecord rec
     → RowsAre kind W k vs ls hs lent out rec lent
 nothing-written kind W k vs ls hs lent e z = record {
   laid = λ a. absurd (refused-not-accepted (sym e ∙ a));
@@ -240,18 +240,18 @@ module _ {kind : Kind} {W k : ℕ} {vs ls hs scratch : List ℕ} {planned : Outc
   -- an accepted plan is one for this table
   pub plan-for : planned ≡ Accepted → PlanFor kind W k vs ls hs cost strides plan root rows
   plan-for e =
-      let a = sym (p .tests) ∙ e in
-      record { table = accepted-tests-table W k vs ls hs (length scratch) a; levels = accepted-levels W k vs ls hs (length scratch) a; planned = p .planned e }
+      let a = sym (p .chosen .tests) ∙ e in
+      record { table = accepted-tests-table W k vs ls hs (length scratch) a; levels = accepted-levels W k vs ls hs (length scratch) a; planned = plan-made p e }
 
   module _ (lent : Lists) {out : Outcome} {rec : Record} where
     -- refused by 1 to 6
     pub early-is : {n d : ℕ} → planned ≡ Refused n d → out ≡ Refused n d → NoRecord rec → BuildIs kind W k vs ls hs scratch lent out rec rows lent
     unfolding ifAccepted
     early-is f o z =
-        let t = sym (p .tests) ∙ f in
+        let t = sym (p .chosen .tests) ∙ f in
         record {
           tests = o ∙ sym (early W k vs ls hs (length scratch) (shortest lent) (leastBy plain kind k (tableTrie W vs ls hs)) t);
-          after = p .refused (λ a. refused-not-accepted (sym f ∙ a)) .1 ∙ rw t refl;
+          after = p .refused (λ a. refused-not-accepted (sym f ∙ a)) .kept ∙ rw t refl;
           written = nothing-written kind W k vs ls hs lent o z;
         }
 
@@ -260,7 +260,7 @@ module _ {kind : Kind} {W k : ℕ} {vs ls hs scratch : List ℕ} {planned : Outc
         → BuildIs kind W k vs ls hs scratch lent out rec scratch′ lent′
     unfolding ifAccepted
     past-is f b z =
-        let t = sym (p .tests) ∙ f in
+        let t = sym (p .chosen .tests) ∙ f in
         record {
           tests = b .tests ∙ sym (late W k vs ls hs (length scratch) (shortest lent) (leastBy plain kind k (tableTrie W vs ls hs)) t);
           after = rw t z;

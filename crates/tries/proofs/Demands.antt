@@ -40,7 +40,7 @@ use Rattle.walk.specs.Limits.{WIDTH, LEVELS}
 use Rattle.tries.specs.Limits.{ELEMENTS}
 use Rattle.walk.specs.Rows.{Lists, shortest, rowAt}
 use Rattle.walk.specs.Answers.{numberOf, hopOf, readsOf}
-use Rattle.walk.specs.Lookup.{pathRows, lookupOf}
+use Rattle.walk.specs.Lookup.{lookupOf}
 use Rattle.walk.specs.Meaning.{OnPath, Tested, Looked}
 use Rattle.layout.specs.Blocks.{linkTo, strideOf, blockRow, rowsAlong, Begun, blocksAlong, blockCount}
 use Rattle.layout.specs.PathBlocks.{nodeOn, BlockAt, rowPath}

@@ -4,17 +4,16 @@ use Prim.Native.Nat.{ℕ, _≤_}
 use mathlib.Core.Path.{_≡_, refl, sym, ap, subst, _∙_}
 use mathlib.Core.List.{List}
 use mathlib.Core.Logic.{⊎-elim}
-use native.Mathlib.Omega.{arith}
 use lib.ListN.{length}
 use Rattle.table.specs.Refusals.{Test, outcome, Gives}
 use Rattle.table.specs.declared.entry.Outcome.{Outcome}
 use Rattle.table.specs.declared.entry.Outcome.the-variants.{Accepted, Refused}
-use Rattle.table.proofs.Refusals.{outcome-gives, gives-unique, gives-outcome, refused-not-accepted}
+use Rattle.table.proofs.Refusals.{outcome-gives, gives-unique, gives-outcome, refused-not-accepted, accepted-or}
 use Rattle.table.specs.Lists.{padded}
 use Rattle.strides.specs.Trie.{Trie}
 use Rattle.strides.specs.Cheapest.{Kind}
 use Rattle.strides.specs.Recurrence.{plain, leastBy}
-use Rattle.strides.specs.Strides.{Good, Follows}
+use Rattle.strides.specs.Strides.{Good}
 use Rattle.strides.proofs.Cheapest.{least-cheapest, named-unique}
 use Rattle.strides.proofs.Follows.{follows-unique}
 use Rattle.walk.specs.declared.record.Record.{Record}
@@ -24,9 +23,8 @@ use Rattle.layout.specs.Blocks.{Strides, rowsOf, rowCount, Hold, Agree}
 use Rattle.layout.specs.Laid.{tableTrie, Laid}
 use Rattle.tries.specs.Filling.{LayGives}
 use Rattle.choosers.specs.Chooser.{chooseTests}
-use Rattle.tries.specs.Build.{buildTests, NoRecord, Keeps, Builds}
+use Rattle.tries.specs.Build.{buildTests, Builds}
 use Rattle.layout.proofs.Agreeing.{same-agree, good-agree, rows-same, count-same}
-use Rattle.choosers.proofs.Choosing.{accepted-or}
 use Rattle.tries.proofs.Laying.{lay-unique}
 
 record-same : (r s : Record) → r .width ≡ s .width → r .levels ≡ s .levels → r .elements ≡ s .elements → r .floor ≡ s .floor → r .strides ≡ s .strides → r ≡ s

@@ -18,7 +18,6 @@ use Rattle.tries.specs.Limits.{ELEMENTS}
 use Rattle.walk.specs.Rows.{Lists, shortest, rowAt}
 use Rattle.layout.specs.Blocks.{Strides}
 use Rattle.layout.specs.Laid.{tableTrie, Laid}
-use Rattle.tries.specs.Filling.{PlanFor}
 use Rattle.choosers.specs.Chooser.{chooseTests, ifAccepted}
 
 -- ---- the tests, in order
@@ -54,17 +53,6 @@ pub record RowsAre (kind : Kind) (W k : ℕ) (vs ls hs : List ℕ) (rows : Lists
   pub laid : out ≡ Accepted → Laid WIDTH W vs ls hs (chosenBy plain kind k (tableTrie W vs ls hs)) k rec rows′
   pub named : out ≡ Accepted → rec .strides ≡ padded LEVELS (stridesBy plain kind k (tableTrie W vs ls hs))
   pub keeps : Keeps rows out rec rows′
-
--- past test 6: test 7 with the least cost that the recurrences find, then the rows
-pub record RowsBuilt (kind : Kind) (W k : ℕ) (vs ls hs : List ℕ) (rows : Lists) (out : Outcome) (rec : Record) (rows′ : Lists) : Type 0 where
-  pub tests : out ≡ outcome (roomTest (leastBy plain kind k (tableTrie W vs ls hs)) (shortest rows) ∷ [])
-  pub written : RowsAre kind W k vs ls hs rows out rec rows′
-
--- so for every table that the plan was made for
-abbrev pub RowsDone : (W k : ℕ) (ls hs : List ℕ) (cost : ℕ) (strides plan : List ℕ) (root : ℕ) (scratch : List ℕ) (rows : Lists) (out : Outcome) (rec : Record)
-    (rows′ : Lists) → Type 0
-RowsDone W k ls hs cost strides plan root scratch rows out rec rows′ =
-    (kind : Kind) (vs : List ℕ) → PlanFor kind W k vs ls hs cost strides plan root scratch → RowsBuilt kind W k vs ls hs rows out rec rows′
 
 -- the exact answer: all seven tests, then the rows; scratch is zeroed past test 6
 pub record BuildIs (kind : Kind) (W k : ℕ) (vs ls hs scratch : List ℕ) (rows : Lists) (out : Outcome) (rec : Record) (scratch′ : List ℕ) (rows′ : Lists)

@@ -5,12 +5,9 @@ use Prim.Native.Nat.{ℕ, suc, _+_, _^_, _≤_, _<_}
 use mathlib.Core.Path.{_≡_}
 use mathlib.Core.List.{List}
 use lib.ListN.{length, getD}
-use Rattle.table.specs.Table.{Table}
 use Rattle.strides.specs.Trie.{Trie}
-use Rattle.strides.specs.Cheapest.{Kind}
 use Rattle.strides.specs.Strides.{Good}
-use Rattle.walk.specs.Limits.{WIDTH, LEVELS, Within}
-use Rattle.choosers.specs.Plans.{Planned}
+use Rattle.walk.specs.Limits.{WIDTH, LEVELS}
 use Rattle.tries.specs.Limits.{ELEMENTS}
 use Rattle.walk.specs.Rows.{Lists, shortest, rowAt}
 use Rattle.choosers.specs.Scratch.{Stands}
@@ -113,12 +110,3 @@ CanLay rows plan k w levels ls = (σ : Strides) × (t : Trie) × LayAsks σ t ro
 abbrev pub Lays : (rows plan : List ℕ) (k w levels : ℕ) → Lists → (e : ℕ) → Lists → Type 0
 Lays rows plan k w levels ls e ls′ =
     (σ : Strides) (t : Trie) → LayAsks σ t rows plan k w levels ls → LayGives σ t levels ls e ls′
-
--- ---- the rows of a plan: it was made for some table, and the rows are those of every table that it was made for
-pub record PlanFor (kind : Kind) (W k : ℕ) (vs ls hs : List ℕ) (cost : ℕ) (strides plan : List ℕ) (root : ℕ) (rows : List ℕ) : Type 0 where
-  pub table : Table W vs ls hs
-  pub levels : Within k LEVELS
-  pub planned : Planned kind W k vs ls hs cost strides plan root rows
-
-abbrev pub CanBuild : (W k : ℕ) (ls hs : List ℕ) (cost : ℕ) (strides plan : List ℕ) (root : ℕ) (rows : List ℕ) → Type 0
-CanBuild W k ls hs cost strides plan root rows = (kind : Kind) × (vs : List ℕ) × PlanFor kind W k vs ls hs cost strides plan root rows

@@ -1,4 +1,5 @@
--- The limits of the build (01, refusal 7), under the names that the code gives them.
+-- The limits of the build: the most element rows (01, refusal 7), under the name that the code gives it; and what a link's type holds.
+-- Those of scratch and strides are the choosers'.
 use Prim.Native.Nat.{ℕ, _^_}
 
 -- the most element rows

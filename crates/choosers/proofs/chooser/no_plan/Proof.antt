@@ -5,7 +5,7 @@ use Rattle.choosers.proofs.chooser.no_plan.Tie as tie
 
 returns : tie.Need-returns
 unfolding padded
-returns c = (refl, record { no-cost = refl; no-strides = refl; no-plan = refl; no-root = refl })
+returns c = (refl, ((refl, refl), (refl, refl)))
 
 pub no-plan-spec : {M : Type 1} → statement M
 no-plan-spec = tie.close (tie.spec returns)

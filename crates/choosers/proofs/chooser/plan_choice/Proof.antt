@@ -19,7 +19,7 @@ returns : tie.Need-returns
 returns c =
     let S = c .before .before .before .before .before .before .before .before .before in
     let b = plan-refused _ (S .args .width) (S .args .levels) (S .args .value .now) (S .args .length .now) (S .args .hop .now) (S .args .scratch .now)
-    (c .before .before .before .before .choose-outcome .ensures) (c .before .before .outcome .given .1) (c .no-plan .ensures .0) (c .no-plan .ensures .1) in
+    (c .before .before .before .before .choose-outcome .ensures) (c .before .before .outcome .given .1) (c .no-plan .ensures .0) (c .no-plan .ensures .1 .0) (c .no-plan .ensures .1 .1) in
     (b, plan-means b)
 
 enum-told : tie.Need-enum-told

@@ -3,7 +3,9 @@ use Prim.Native.Nat.{_-_, _≤_}
 use native.Mathlib.Omega.{arith}
 use lib.Dec.{lit≤}
 use Rattle.reading.proofs.Steps.{step-then, step-of}
-use Rattle.reading.proofs.Listing.{blank-length, entries-step}
+use Rattle.table.proofs.Lists.{blank-length}
+use Rattle.reading.specs.Limits.{COUNT}
+use Rattle.reading.proofs.Listing.{entries-step}
 use Rattle.reading.proofs.Whole.{head-step, head-few, parse-read}
 use Rattle.reading.proofs.Whole.{queries-step-read, queries-few}
 use borrow.Author.Needs.{needs}
@@ -20,7 +22,7 @@ read-entries-requires c κs =
     let n = head-few _ (h .read-head .ensures) in
     let b = h .before .before .before .before .before .before .before .pre .0 in (
       (t .within (omega arith), omega (arith, t .next), n),
-      (omega (arith, blank-length (b .0)), omega (arith, blank-length (b .1)), omega (arith, blank-length (b .2))),
+      (omega (arith, blank-length COUNT (b .0)), omega (arith, blank-length COUNT (b .1)), omega (arith, blank-length COUNT (b .2))),
     )
 
 slice-aggregate-number-line : tie.Need-slice-aggregate-number-line
@@ -42,7 +44,7 @@ read-queries-requires c κs =
     let pre = h .before .before .before .before .before .before .before .pre .1 in
     let t = queries-step-read _ _ _ _ _ _ _ (h .read-head .ensures) (e .read-entries .ensures) (q .number-line .ensures) in
     let m = queries-few _ _ _ _ _ _ _ (h .read-head .ensures) (e .read-entries .ensures) (q .number-line .ensures) in
-    ((t .within (omega arith), omega (arith, t .next), m), (omega (arith, blank-length (pre .0)), omega (arith, blank-length (pre .1))))
+    ((t .within (omega arith), omega (arith, t .next), m), (omega (arith, blank-length COUNT (pre .0)), omega (arith, blank-length COUNT (pre .1))))
 
 conclude-requires : tie.Need-conclude-requires
 conclude-requires c κs = search needs

@@ -4,8 +4,8 @@ use Prim.Native.Nat.{_-_, _≤_, _<_}
 use native.Mathlib.Omega.{arith}
 use lib.ListN.{length}
 use Rattle.reading.specs.Contents.{sheetIn}
-use Rattle.reading.specs.Entries.{FilledTo}
-use Rattle.reading.proofs.Listing.{filled-to-none}
+use Rattle.table.specs.Lists.{FilledTo}
+use Rattle.table.proofs.Lists.{filled-to-none}
 use Rattle.sheet.proofs.Placing.{placedAt, placed-more, placed-all, entry-spelled}
 use borrow.Author.Needs.{needs}
 use Rattle.sheet.proofs.values.sheet_values.Statement.{statement}
@@ -52,7 +52,7 @@ loop-again c =
     let a = l .before .before .before in
     let r = a .args .got in
     let inside : l .loop .i < length (l .loop .vals) = omega (arith, l .loop .inv .1 .same, a .pre .bits, a .pre .entries-few) in
-    (omega arith, placed-more (r .width) (r .bits) (r .lens) _ (l .loop .i) inside (c .placed .ensures) (l .loop .inv .1))
+    (omega arith, placed-more (r .width) (r .bits) (r .lengths) _ (l .loop .i) inside (c .placed .ensures) (l .loop .inv .1))
 
 returns : tie.Need-returns Inv-loop μ-loop
 unfolding sheetIn

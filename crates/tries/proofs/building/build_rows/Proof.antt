@@ -25,7 +25,7 @@ array-share-prefix-plan c = search needs
 slice-aggregate-lay : tie.Need-slice-aggregate-lay
 slice-aggregate-lay c =
     let S = c .before .before .before .before .before .before .before .before .before .before in
-    omega (arith, S .pre .2 .levels .1, S .pre .2 .planned .readable .long, length-take (S .args .levels) (S .args .p .plan))
+    omega (arith, S .pre .2 .levels .1, S .pre .2 .planned .holds .long, length-take (S .args .levels) (S .args .p .plan))
 
 lay-requires : tie.Need-lay-requires
 lay-requires c κs =
