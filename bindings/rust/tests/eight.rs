@@ -165,6 +165,24 @@ fn zones() {
     assert_eq!(shared_length(7, prefix(68, 4), prefix(80, 3)), Shared::Refused { number: 10 });
 }
 
+/// All 32 bits and one bit; equal values, and values that differ in the first or the last bit.
+#[test]
+fn shared_lengths_at_the_edges() {
+    let last = u32::MAX;
+    for (width, a, b, bits) in [
+        (32, last, last, 32),
+        (32, last, last - 1, 31),
+        (32, last, last >> 1, 0),
+        (1, 0, 0, 1),
+        (1, 1, 1, 1),
+        (1, 0, 1, 0),
+    ] {
+        let whole = |value| Prefix { value, bits: width as u8 };
+        assert_eq!(shared_length(width, whole(a), whole(b)), Shared::Length(bits), "{a} and {b} of {width} bits");
+        assert_eq!(shared_length(width, whole(a), Prefix { value: 0, bits: 0 }), Shared::Length(0));
+    }
+}
+
 #[test]
 fn batches() {
     let made = make(Kind::Variable, 2, EIGHT, WORDS, 26);

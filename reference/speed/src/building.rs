@@ -17,7 +17,7 @@ const GROWING: [u32; 3] = [K, 8, 32];
 /// Those at which memory is.
 const FEW: std::ops::RangeInclusive<u32> = 2..=8;
 /// The numbers of routes over which growth is measured.
-const SIZES: [usize; 6] = [512, 1024, 2048, 4096, 16_384, 65_536];
+pub const SIZES: [usize; 6] = [512, 1024, 2048, 4096, 16_384, 65_536];
 /// The most elements of a build.
 const ELEMENTS: usize = hongsamuk::ELEMENTS as usize;
 /// Rows of a block of 8 bits.
@@ -34,7 +34,7 @@ pub struct Rows {
 }
 
 impl Rows {
-    fn new(n: usize) -> Rows {
+    pub fn new(n: usize) -> Rows {
         Rows { hop: vec![0; n], link: vec![0; n], stride: vec![0; n] }
     }
 
@@ -55,7 +55,7 @@ impl Rows {
     }
 }
 
-fn table(routes: &Routes) -> Table<'_> {
+pub fn table(routes: &Routes) -> Table<'_> {
     Table { width: WIDTH, value: &routes.value, length: &routes.length, hop: &routes.hop }
 }
 
@@ -71,18 +71,30 @@ fn least(kind: Kind, levels: u32, routes: &Routes) -> u64 {
     hongsamuk::choose(kind, levels, table(routes), &mut scratch(routes)).cost
 }
 
-fn archive(kind: Kind, levels: u32, routes: &Routes, scratch: &mut [u64], rows: &mut Rows) -> (Outcome, Record) {
+pub fn archive(kind: Kind, levels: u32, routes: &Routes, scratch: &mut [u64], rows: &mut Rows) -> (Outcome, Record) {
     let room = hongsamuk::RowsMut { hop: &mut rows.hop, link: &mut rows.link, stride: &mut rows.stride };
     let built = hongsamuk::build(kind, levels, table(routes), scratch, room);
     (built.outcome, built.record)
 }
 
-fn in_plain_rust(kind: Kind, levels: u32, routes: &Routes, scratch: &mut [u64], rows: &mut Rows) -> (Outcome, Record) {
-    let table = plain::Table { width: WIDTH, value: &routes.value, length: &routes.length, hop: &routes.hop };
+pub fn plain_table(routes: &Routes) -> plain::Table<'_> {
+    plain::Table { width: WIDTH, value: &routes.value, length: &routes.length, hop: &routes.hop }
+}
+
+pub fn outcome(tested: Result<(), (u32, u64)>) -> Outcome {
+    tested.map_or_else(|(number, detail)| Outcome::Refused { number, detail }, |()| Outcome::Accepted)
+}
+
+pub fn in_plain_rust(
+    kind: Kind,
+    levels: u32,
+    routes: &Routes,
+    scratch: &mut [u64],
+    rows: &mut Rows,
+) -> (Outcome, Record) {
     let room = plain::Lent { hop: &mut rows.hop, link: &mut rows.link, stride: &mut rows.stride };
-    let built = plain::build(kind, levels, &table, scratch, room);
-    let refused = |(number, detail)| Outcome::Refused { number, detail };
-    (built.refusal.map_or_else(refused, |()| Outcome::Accepted), built.record)
+    let built = plain::build(kind, levels, &plain_table(routes), scratch, room);
+    (outcome(built.refusal), built.record)
 }
 
 /// Both ways in the same scratch, so that neither has the better place for it; the element lists are each side's own.

@@ -2,6 +2,7 @@
 
 mod bitmaps;
 mod building;
+mod counting;
 mod lookups;
 mod plain;
 mod rounds;
@@ -30,6 +31,10 @@ fn main() {
     if asked("growth") {
         println!("\n### Growth\n");
         building::growth(SEED);
+    }
+    if asked("counting") {
+        println!("\n### Check and count\n");
+        counting::measure(SEED);
     }
     if asked("memory") {
         println!("\n### Elements, {ENTRIES} routes of at most 24 bits\n");

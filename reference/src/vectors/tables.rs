@@ -24,6 +24,9 @@ const WANTED: &[&str] = &[
     "shared accepted",
     "shared refused 1",
     "shared refused 10",
+    "shared equal values",
+    "shared up to a difference",
+    "shared up to the shorter length",
     "damage width",
     "damage lists unequal",
     "damage length above the width",
@@ -66,6 +69,15 @@ fn zone(vectors: &mut Vectors, table: &Table, prefix: u32, length: u8) {
 fn shared(vectors: &mut Vectors, width: u32, a: (u32, u8), b: (u32, u8)) {
     let answer = shared_length(width, a.0, a.1, b.0, b.1);
     vectors.outcome("shared", &answer);
+    if let Ok(bits) = answer {
+        vectors.hit(if a.0 == b.0 {
+            "shared equal values"
+        } else if bits < a.1.min(b.1).into() {
+            "shared up to a difference"
+        } else {
+            "shared up to the shorter length"
+        });
+    }
     let line = format!("shared width {width}: {} length {}, {} length {}", a.0, a.1, b.0, b.1);
     vectors.case(line, answer.map_or_else(refused, |bits| format!("length {bits}")));
 }
@@ -400,6 +412,25 @@ fn pairs(vectors: &mut Vectors, random: &mut Random) {
     }
 }
 
+/// At every width a value beside itself, and beside one that differs from it in one bit, at each place: both of all W bits, one
+/// of them cut right behind that bit (the difference decides), and right before it (the shorter length does).
+fn one_bit(vectors: &mut Vectors, random: &mut Random) {
+    for width in 1..=32 {
+        let any = random.next();
+        for value in [0, u64::MAX, any] {
+            let value = cut(width, value, width);
+            shared(vectors, width, (value, width as u8), (value, width as u8));
+        }
+        for place in 0..width {
+            let value = random.next();
+            let other = cut(width, value ^ 1 << (width - 1 - place), width);
+            for length in [width, place + 1, place] {
+                shared(vectors, width, (cut(width, value, length), length as u8), (other, width as u8));
+            }
+        }
+    }
+}
+
 pub fn write(top: &str) {
     let mut vectors = Vectors::default();
     let mut random = Random::new(3);
@@ -411,5 +442,6 @@ pub fn write(top: &str) {
     sound(&mut vectors, &mut random);
     broken(&mut vectors, &mut random);
     pairs(&mut vectors, &mut random);
+    one_bit(&mut vectors, &mut random);
     vectors.write(top, "table_cases", WANTED);
 }

@@ -53,9 +53,8 @@ impl Table<'_> {
 
     /// The leading bits, at most `most`, that entry i shares with the one before.
     fn shared_bits(&self, i: usize, most: u32) -> usize {
-        let (a, b) = (u64::from(self.value[i - 1]), u64::from(self.value[i]));
-        let shared = (0..=most).rev().find(|bits| a >> (self.width - bits) == b >> (self.width - bits));
-        shared.unwrap_or(0) as usize
+        let zeros = (self.value[i - 1] ^ self.value[i]).leading_zeros();
+        most.min(zeros - (u32::BITS - self.width)) as usize
     }
 
     pub fn nodes(&self) -> usize {
