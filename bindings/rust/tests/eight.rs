@@ -1,4 +1,4 @@
-//! The values that 01 gives for its eight-prefix table and for its small one, and each refusal once.
+//! The values that 01 gives for its eight-prefix table and for its small one, and each refusal once; shared lengths at the edges.
 
 use hongsamuk::*;
 
@@ -165,7 +165,7 @@ fn zones() {
     assert_eq!(shared_length(7, prefix(68, 4), prefix(80, 3)), Shared::Refused { number: 10 });
 }
 
-/// All 32 bits and one bit; equal values, and values that differ in the first or the last bit.
+/// All 32 bits and one bit; equal values, and values that differ in the first or the last bit; nothing is shared with no bits.
 #[test]
 fn shared_lengths_at_the_edges() {
     let last = u32::MAX;

@@ -20,7 +20,7 @@ same-past : (a b m j : ℕ) → bitXor a b < 2 ^ m → m ≤ j → a / 2 ^ j ≡
 same-past a b m j h l = xor-zero-same _ _ (sym (xor-shr a b j) ∙ div-eq-of-lt (lt-of-lt-of-le h (pow-mono l)))
 
 -- a number below 2 ^ j has at most j digits
-digits-most : (x m j : ℕ) → 2 ^ m ≤ 2 * x + 1 → x < 2 ^ j → m ≤ j
+pub digits-most : (x m j : ℕ) → 2 ^ m ≤ 2 * x + 1 → x < 2 ^ j → m ≤ j
 digits-most x m j h l = elim (decLe m j) [ yes p ↦ p | no p ↦ absurd (omega (arith, pow-mono (more p), pow-suc 2 j)) ]
   where
     more : (m ≤ j → ⊥) → suc j ≤ m
@@ -39,20 +39,20 @@ module _ (w W a b : ℕ) (fits : W ≤ w) (p : a < 2 ^ W) (q : b < 2 ^ W) where
   zeros = leadingZeros w (bitXor a b)
 
   -- the digits of the difference, at most W, and the zeros before them make the word
-  difference : (m : ℕ) × (zeros + m ≡ w) × (bitXor a b < 2 ^ m) × (2 ^ m ≤ 2 * bitXor a b + 1) × (m ≤ W)
-  difference =
+  difference-digits : (m : ℕ) × (zeros + m ≡ w) × (bitXor a b < 2 ^ m) × (2 ^ m ≤ 2 * bitXor a b + 1) × (m ≤ W)
+  difference-digits =
       let x = xor-lt W a b p q in
       let s = leading-length w (bitXor a b) (lt-of-lt-of-le x (pow-mono fits)) in
       (s .0, s .1, s .2, s .3, digits-most (bitXor a b) (s .0) W (s .3) x)
 
   -- the bits that the numbers leave unused are zeros too
   pub unused-zeros : w - W ≤ zeros
-  unused-zeros = let s = difference in omega (arith, s .1, s .4)
+  unused-zeros = let s = difference-digits in omega (arith, s .1, s .4)
 
-  leading-shared : (k : ℕ) → k ≤ W → IsShared W a b k (min (zeros - (w - W)) k)
+  leading-is-shared : (k : ℕ) → k ≤ W → IsShared W a b k (min (zeros - (w - W)) k)
   unfolding start
-  leading-shared k short =
-      let s = difference in
+  leading-is-shared k short =
+      let s = difference-digits in
       let m = s .0 in
       let r = min (zeros - (w - W)) k in
       let e : r ≡ min (W - m) k = omega (arith, s .1) in
@@ -63,4 +63,4 @@ module _ (w W a b : ℕ) (fits : W ≤ w) (p : a < 2 ^ W) (q : b < 2 ^ W) where
       }
 
   pub shared-leading : (k : ℕ) → k ≤ W → min (zeros - (w - W)) k ≡ shared W a b k
-  shared-leading k short = shared-unique (leading-shared k short) (shared-is W a b k p q)
+  shared-leading k short = shared-unique (leading-is-shared k short) (shared-is W a b k p q)

@@ -3,13 +3,14 @@ use Prim.Native.Nat.{ℕ, zero, suc, _+_, _-_, _*_, _/_, _%_, _^_, _≤_, _<_, z
 use mathlib.Core.Path.{_≡_, refl, sym, ap, subst, _∙_}
 use mathlib.Core.Bool.{true, false}
 use mathlib.Core.Logic.{_⊎_, inl, inr, ⊎-elim}
-use native.Mathlib.Nat.{mod-lt, pow-suc, eq-or-lt-of-le, lt-of-lt-of-le}
+use native.Mathlib.Nat.{mod-lt, eq-or-lt-of-le, lt-of-lt-of-le}
 use native.Mathlib.Omega.{arith}
 use native.Mathlib.Decide.{decLe}
 use lib.Bits.{bitAnd, and-mask, and-le-l}
 use lib.Count.{ones, ones-le, leadingZeros, leading-length}
 use lib.Pow.{pow-mono, pow-pos, shr-lt, split}
 use Rattle.table.proofs.Shifts.{one-shl}
+use Rattle.table.proofs.Leading.{digits-most}
 use Rattle.walk.proofs.Bits.{and-shl}
 use Rattle.pieces.specs.Maps.{INTERNAL, EXTERNAL, maskOf, bitAt}
 use Rattle.pieces.specs.Cuts.{pathAt, limit, found, onesBefore, highest}
@@ -78,17 +79,11 @@ module _ (x : ℕ) (some : 0 < x) (small : x < 32768) where
       let low : 2 ^ h ≤ x = bit-le x h (top .set) in
       let up : x < 2 ^ suc h = bits-below 15 x (suc h) small (top .within) (λ k a b. top .above k a b) in
       let a : h < m = more h m low (s .2) in
-      let b : m ≤ suc h = fewer h m up (s .3) in
+      let b : m ≤ suc h = digits-most x m (suc h) (s .3) up in
       omega (arith, s .1)
     where
       more : (h m : ℕ) → 2 ^ h ≤ x → x < 2 ^ m → h < m
       more h m a b = elim (decLe m h) [ yes p ↦ absurd (omega (arith, pow-mono p)) | no p ↦ omega arith ]
-
-      fewer : (h m : ℕ) → x < 2 ^ suc h → 2 ^ m ≤ 2 * x + 1 → m ≤ suc h
-      fewer h m a b = elim (decLe m (suc h)) [ yes p ↦ p | no p ↦ absurd (omega (arith, pow-mono (beyond h m p), pow-suc 2 (suc h))) ]
-        where
-          beyond : (h m : ℕ) → (m ≤ suc h → ⊥) → suc (suc h) ≤ m
-          beyond h m p = omega arith
 
   pub highest-lead : (31 - leadingZeros 32 x ≡ highest 15 x) × (31 - leadingZeros 32 x < 15)
   highest-lead = (omega (arith, leading-highest), omega (arith, leading-highest, top .within))

@@ -413,19 +413,22 @@ fn pairs(vectors: &mut Vectors, random: &mut Random) {
 }
 
 /// At every width a value beside itself, and beside one that differs from it in one bit, at each place: both of all W bits, one
-/// of them cut right behind that bit (the difference decides), and right before it (the shorter length does).
+/// of them cut right behind that bit (the difference decides), and right before it (the shorter length does). At every other
+/// place it is the second prefix that is cut.
 fn one_bit(vectors: &mut Vectors, random: &mut Random) {
     for width in 1..=32 {
-        let any = random.next();
-        for value in [0, u64::MAX, any] {
-            let value = cut(width, value, width);
-            shared(vectors, width, (value, width as u8), (value, width as u8));
+        for value in [0, u64::MAX] {
+            let whole = (cut(width, value, width), width as u8);
+            shared(vectors, width, whole, whole);
         }
         for place in 0..width {
             let value = random.next();
-            let other = cut(width, value ^ 1 << (width - 1 - place), width);
-            for length in [width, place + 1, place] {
-                shared(vectors, width, (cut(width, value, length), length as u8), (other, width as u8));
+            let other = (cut(width, value ^ 1 << (width - 1 - place), width), width as u8);
+            let lengths = if place + 1 < width { vec![width, place + 1, place] } else { vec![width, place] };
+            for length in lengths {
+                let one = (cut(width, value, length), length as u8);
+                let (a, b) = if place % 2 == 0 { (one, other) } else { (other, one) };
+                shared(vectors, width, a, b);
             }
         }
     }
