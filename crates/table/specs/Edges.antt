@@ -1,7 +1,9 @@
--- Both ends of the limits of a width and of a table's entries, by computation (01, refusals 1 and 3; 02, [2]).
+-- Both ends of the limits of a width and of a table's entries, and which hops are bad, by computation (01, refusals 1, 3 and 4; 02,
+-- [2] and [4]).
 use mathlib.Core.Path.{_≡_, refl}
 use mathlib.Core.Bool.{true, false}
 use Rattle.table.specs.Limits.{widthLimit, outside}
+use Rattle.table.specs.Entry.{hopBad}
 use Rattle.table.specs.Table.{shapeBad}
 
 width-edges : (outside 0 widthLimit ≡ true) × (outside 1 widthLimit ≡ false) × (outside 32 widthLimit ≡ false) × (outside 33 widthLimit ≡ true)
@@ -13,3 +15,8 @@ entry-edges : (shapeBad 0 0 0 ≡ false) × (shapeBad 65536 65536 65536 ≡ fals
     × (shapeBad 2 1 2 ≡ true) × (shapeBad 2 2 3 ≡ true)
 unfolding shapeBad
 entry-edges = (refl, refl, refl, refl, refl)
+
+-- of all hops that 16 bits write, hop 0 alone is bad
+hop-edges : (hopBad 0 ≡ true) × (hopBad 1 ≡ false) × (hopBad 65534 ≡ false) × (hopBad 65535 ≡ false)
+unfolding hopBad
+hop-edges = (refl, refl, refl, refl)
