@@ -53,7 +53,7 @@ abbrev pub MOST-8 : ℕ
 MOST-8 = 255
 
 abbrev pub LAST-HOP : ℕ
-LAST-HOP = 65534
+LAST-HOP = 65535
 
 -- the largest step of rising values: the second is then past 32 bits
 abbrev pub STEP-CAP : ℕ

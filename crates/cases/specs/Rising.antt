@@ -1,6 +1,6 @@
 -- A rising line: a table that its line makes and does not list, so that 65,536 entries take one short line. The line gives the width, how
 -- many entries there are, and the length that all of them have. Entry i has the value i * 2^(width - length), held at the largest of
--- 32 bits, and the hop 1 + i mod 65,534.
+-- 32 bits, and the hop 1 + i mod 65,535.
 use mathlib.Core.Path.{_≡_}
 use mathlib.Core.Bool.{Bool}
 use mathlib.Core.List.{List}

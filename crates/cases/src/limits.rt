@@ -21,7 +21,7 @@ pub const SUPERNODES: usize = 8740;
 pub const HOP_ROWS: usize = 65537;
 
 // The hops of a rising table go up to this one, and begin again.
-pub const LAST_HOP: usize = 65534;
+pub const LAST_HOP: usize = 65535;
 
 // The bits of a value, and the largest step of rising values: with it the second is past these bits.
 pub const VALUE_BITS: u32 = 32;

@@ -7,6 +7,7 @@ ghost use Rattle.walk.specs.Lookup.{lookupOf};
 ghost use Rattle.walk.specs.Meaning.{Looked};
 ghost use Rattle.gateway.specs.Numbers.{Told, answerNumbers};
 ghost use Rattle.gateway.specs.Batch.{columns, ExactAnswer, Answered};
+use table::DISCARD;
 use table::smaller;
 use tries::Answer;
 use tries::Record;
@@ -25,6 +26,11 @@ pub(crate) fn answer_numbers(answer: Answer) -> AnswerNumbers
         Answer::Match { hop, reads } => AnswerNumbers {
             number: 0,
             hop,
+            reads,
+        },
+        Answer::Discard { reads } => AnswerNumbers {
+            number: 0,
+            hop: DISCARD,
             reads,
         },
         Answer::NoRoute { reads } => AnswerNumbers {
@@ -46,6 +52,7 @@ fn hop_of(answer: Answer) -> u16
 {
     match answer {
         Answer::Match { hop, reads: _ } => hop,
+        Answer::Discard { reads: _ } => DISCARD,
         Answer::NoRoute { reads: _ } => 0,
         Answer::Refused { number: _ } => 0,
     }

@@ -4,6 +4,7 @@ use Prim.Native.Nat.{ℕ, zero, suc}
 use mathlib.Core.Path.{_≡_, refl}
 use mathlib.Core.List.{List, [], _∷_}
 use Rattle.table.specs.Prefix.{start}
+use Rattle.table.specs.Corner.{cornerValues, cornerLengths, cornerHops}
 use Rattle.strides.specs.Trie.{Trie, depth, bit, markAlong, subAlong}
 use Rattle.strides.specs.Eight.{eightTrie}
 use Rattle.strides.specs.Entries.{nodeIf, trieBelow, beyond, properStart, wholeEntry, someStart, markAt, trieOf}
@@ -46,3 +47,13 @@ eight-rows : rowsOf eightStrides 2 eightTrie
 unfolding start bit markAlong subAlong nodeIf trieBelow beyond properStart wholeEntry someStart markAt trieOf eightTrie depth rowOf wide leftOf
     rowBelow listOf blockRows levelRows firstRow levelsRows rowsOf
 eight-rows = refl
+
+-- The discarded corner (02, [4]) with strides 2 and 2: its hop stands in a row like any other.
+abbrev cornerStrides : Strides
+cornerStrides r t = 2
+
+corner-rows : rowsOf cornerStrides 2 (tableTrie 4 cornerValues cornerLengths cornerHops)
+    ≡ leaves 2 0 (row 1 4 2 ∷ leaves 1 0 (leaves 2 0 (leaves 1 65535 (leaves 1 0 []))))
+unfolding start bit markAlong subAlong nodeIf trieBelow beyond properStart wholeEntry someStart markAt trieOf rowOf wide leftOf
+    rowBelow listOf blockRows levelRows firstRow levelsRows rowsOf
+corner-rows = refl

@@ -63,6 +63,10 @@ pub fn say_answer(answer: Answer) {
             say(b" reads");
             put(reads as u64);
         }
+        Answer::Discard { reads } => {
+            say(b"discard reads");
+            put(reads as u64);
+        }
         Answer::NoRoute { reads } => {
             say(b"none reads");
             put(reads as u64);
@@ -74,12 +78,16 @@ pub fn say_answer(answer: Answer) {
     }
 }
 
-// The same, short: hop/reads, hop 0 for no route, or r and the number of the refusal.
+// The same, short: hop/reads, d for a discard's hop, hop 0 for no route, or r and the number of the refusal.
 pub fn say_swept(answer: Answer) {
     match answer {
         Answer::Match { hop, reads } => {
             put(hop as u64);
             say(b"/");
+            say_number(reads as u64);
+        }
+        Answer::Discard { reads } => {
+            say(b" d/");
             say_number(reads as u64);
         }
         Answer::NoRoute { reads } => {

@@ -12,6 +12,7 @@ ghost use Rattle.sheet.specs.Answers.{firstWrong, answered, lookedUp};
 use crate::printing::put_answer;
 use crate::printing::put_head;
 use crate::printing::put_refusal;
+use table::DISCARD;
 use tries::Answer;
 use tries::Record;
 
@@ -37,6 +38,7 @@ fn put_found(out: &mut [u8], p: usize, address: u32, n: usize, answer: Answer) -
 {
     match answer {
         Answer::Match { hop, reads } => put_answer(out, p, address, n, hop, reads),
+        Answer::Discard { reads } => put_answer(out, p, address, n, DISCARD, reads),
         Answer::NoRoute { reads } => put_answer(out, p, address, n, 0, reads),
         Answer::Refused { number: _ } => put_answer(out, p, address, n, 0, 0),
     }

@@ -3,23 +3,24 @@
 use Prim.Native.Nat.{ℕ, suc, _*_, _/_, _^_, _≤_, _<_}
 use mathlib.Core.Path.{_≡_, refl, sym, ap, subst, _∙_}
 use mathlib.Core.List.{List, [], _∷_, List·Memᴰ}
-use mathlib.Core.Logic.{_⊎_, inl, inr, _↔_}
+use mathlib.Core.Logic.{_⊎_, inl, inr, _↔_, Iff·trans}
 use native.Mathlib.Omega.{arith}
 use lib.ListN.{length, getD, replicate}
 use borrow.Author.Tests.{lt-ltb, le-ltb, ltb-true, ltb-false}
 use Rattle.table.specs.Refusals.{Test, outcome, Gives, Numbered, andThen, outcomeNumber, outcomeDetail}
 use Rattle.table.specs.Prefix.{start}
 use Rattle.table.specs.Table.{at, tableTests}
-use Rattle.table.specs.Longest.{NoPrefix, LongestHop}
+use Rattle.table.specs.Longest.{NoPrefix, LongestHop, LongestDiscards}
 use Rattle.table.specs.declared.entry.Outcome.{Outcome}
 use Rattle.table.specs.declared.entry.Outcome.the-variants.{Accepted, Refused}
 use Rattle.table.proofs.Refusals.{outcome-gives, outcome-append, gives-outcome, gives-unique, given-exactly, refused-not-accepted}
 use Rattle.table.proofs.Numbered.{refused-number, numbered-append, numbered-table}
+use Rattle.table.proofs.Unique.{hop-discards}
 use Rattle.walk.specs.declared.walk.Answer.{Answer}
-use Rattle.walk.specs.declared.walk.Answer.the-variants.{NoRoute}
+use Rattle.walk.specs.declared.walk.Answer.the-variants.{Discard, NoRoute}
 use Rattle.walk.specs.Limits.{WIDTH}
 use Rattle.walk.specs.Answers.{numberOf, hopOf, readsOf}
-use Rattle.walk.proofs.Answers.{refused-none}
+use Rattle.walk.proofs.Answers.{refused-none, discard-hop}
 use Rattle.pieces.specs.BinaryTrie.{empty, SomeBegins, tableBinary}
 use Rattle.pieces.specs.Maps.{STEP, subtrieAlong}
 use Rattle.pieces.specs.Rows.{supernodesOf, bitmapHops}
@@ -183,6 +184,10 @@ module _ {W : ℕ} {vs ls hs scratch : List ℕ} {rows : RowLists} {hops : List 
     -- they say that there is none exactly when no prefix does
     pub bitmap-none : (r ≡ NoRoute (readsOf r)) ↔ NoPrefix W vs ls a
     bitmap-none = let g = b .laid e in rw (is-looked, bitmap-reads g a h) (no-bitmap-route g a h)
+
+    -- and it is a discard exactly when the longest prefix that begins the address discards (02, [4])
+    pub bitmap-discard : (r ≡ Discard (readsOf r)) ↔ LongestDiscards W vs ls hs a
+    bitmap-discard = Iff·trans (discard-hop r (l .case)) (hop-discards W vs ls hs (b .laid e .table) a (bitmap-longest .1))
 
     -- ---- demand 3: r reads are r supernodes, one at each of the levels 0, 4, .. at which the address's start begins some entry, and no other
     pub bitmap-counted : (n : ℕ) → (n < readsOf r) ↔ ((STEP * n ≤ W) × SomeBegins W (at vs) (at ls) (length vs) (STEP * n) (start W (STEP * n) a))

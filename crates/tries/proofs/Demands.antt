@@ -5,7 +5,7 @@ use Prim.Native.Nat.{ℕ, suc, _+_, _-_, _^_, _≤_, _<_}
 use mathlib.Core.Path.{_≡_, refl, sym, ap, subst, _∙_}
 use mathlib.Core.Bool.{Bool, true, false, _||_}
 use mathlib.Core.List.{List, [], _∷_, List·Memᴰ}
-use mathlib.Core.Logic.{_⊎_, inl, inr, ⊎-elim, _↔_}
+use mathlib.Core.Logic.{_⊎_, inl, inr, ⊎-elim, _↔_, Iff·trans}
 use native.Mathlib.Omega.{arith}
 use native.Mathlib.Decide.{decLe}
 use lib.Dec.{ltb}
@@ -14,7 +14,7 @@ use denote.Ref.{RefT, now}
 use borrow.Author.Tests.{lt-ltb, le-ltb}
 use Rattle.table.specs.Refusals.{Test, outcome, Gives}
 use Rattle.table.specs.Prefix.{start}
-use Rattle.table.specs.Longest.{ofWinner, winnerIn, NoPrefix, LongestHop}
+use Rattle.table.specs.Longest.{ofWinner, winnerIn, NoPrefix, LongestHop, LongestDiscards}
 use Rattle.table.specs.Table.{at, tableTests}
 use Rattle.table.specs.Zone.{PartOf}
 use Rattle.table.specs.Answers.{sharedOutcome, sharedTests, Shares, spanOutcome, spanIndex, spanCount, zoneTests, Spans, PartFor, HandsBack}
@@ -25,17 +25,19 @@ use Rattle.table.specs.declared.zoning.Span.{Span}
 use Rattle.table.specs.declared.zoning.Span.the-variants.{Part}
 use Rattle.table.proofs.Refusals.{outcome-gives, outcome-fails, outcome-passes, gives-outcome, gives-unique, given-exactly, refused-not-accepted}
 use Rattle.table.proofs.Numbered.{refused-number}
+use Rattle.table.proofs.Unique.{hop-discards}
 use Rattle.table.specs.Lists.{padded}
 use Rattle.strides.specs.Trie.{Some}
 use Rattle.strides.specs.Entries.{SomeStart}
 use Rattle.strides.specs.Cheapest.{Kind, Cheapest}
 use Rattle.strides.specs.Recurrence.{plain, leastBy}
 use Rattle.strides.proofs.Entries.{node-begins}
-use Rattle.strides.proofs.Cheapest.{least-cheapest}
+use Rattle.strides.proofs.Cheapest.{least-cheapest, cheapest-unique}
+use Rattle.strides.proofs.Marks.{trie-nodes, cheapest-same}
 use Rattle.strides.proofs.Follows.{follows-cheapest}
 use Rattle.walk.specs.declared.record.Record.{Record}
 use Rattle.walk.specs.declared.walk.Answer.{Answer}
-use Rattle.walk.specs.declared.walk.Answer.the-variants.{NoRoute}
+use Rattle.walk.specs.declared.walk.Answer.the-variants.{Discard, NoRoute}
 use Rattle.walk.specs.Limits.{WIDTH, LEVELS}
 use Rattle.tries.specs.Limits.{ELEMENTS}
 use Rattle.walk.specs.Rows.{Lists, shortest, rowAt}
@@ -49,7 +51,7 @@ use Rattle.choosers.specs.Chooser.{chooseTests, Chooses}
 use Rattle.tries.specs.Build.{roomTest, buildTests, NoRecord, Builds}
 use Rattle.walk.proofs.Unique.{tested-unique, looked-unique}
 use Rattle.walk.proofs.Looked.{looked}
-use Rattle.walk.proofs.Answers.{refused-none}
+use Rattle.walk.proofs.Answers.{refused-none, discard-hop}
 use Rattle.walk.proofs.Reading.{path-rows, reads-path, reads-most, lookup-local}
 use Rattle.layout.proofs.PathBlocks.{blocks-are, blocks-counted}
 use Rattle.layout.proofs.RowRule.{row-rule}
@@ -234,6 +236,10 @@ module _ {kind : Kind} {W k : ℕ} {vs ls hs scratch : List ℕ} {rows : Lists} 
     pub build-none : (r ≡ NoRoute (readsOf r)) ↔ NoPrefix W vs ls a
     build-none = let g = b .laid e .2 in rw (is-looked, reads-blocks g a h) (no-route g a h)
 
+    -- and it is a discard exactly when the longest prefix that begins the address discards (02, [4])
+    pub build-discard : (r ≡ Discard (readsOf r)) ↔ LongestDiscards W vs ls hs a
+    build-discard = Iff·trans (discard-hop r (l .case)) (hop-discards W vs ls hs (b .laid e .2 .table) a (build-longest .1))
+
     -- ---- demand 3: the rows on the path are exactly those of the blocks of the 1-bit nodes that begin the address and at which the
     -- chosen strides begin a block: the block's first row plus the next s bits
     pub build-path : {rs : List ℕ} → OnPath rec rows′ a rs → rs ≡ rowsAlong (b .laid e .0) W k (tableTrie W vs ls hs) a
@@ -275,6 +281,16 @@ pub one-table : {kind kind′ : Kind} {W k k′ : ℕ} {vs ls hs scratch scratch
     → (a : ℕ) → a < 2 ^ W → {r r′ : Answer} → Looked WIDTH rec rows1 a r → Looked WIDTH rec′ rows2 a r′ → hopOf r ≡ hopOf r′
 one-table b c e e′ a h l l′ =
     ap hopOf (is-looked b e a h l) ∙ one-answer (b .laid e .2) (c .laid e′ .2) a h ∙ sym (ap hopOf (is-looked c e′ a h l′))
+
+-- an entry counts by its prefix, whatever its hop is, a discard's too: two accepted builds of one kind and k, of tables with the same
+-- prefixes, have as many elements (02, [4])
+pub build-hops-free : {kind : Kind} {W k : ℕ} {vs ls hs hs′ scratch scratch′ : List ℕ} {rows rows′ : Lists} {out out′ : Outcome} {rec rec′ : Record} {s s′ : List ℕ} {rows1 rows2 : Lists}
+    → Builds kind W k vs ls hs scratch rows out rec s rows1 → Builds kind W k vs ls hs′ scratch′ rows′ out′ rec′ s′ rows2 → out ≡ Accepted → out′ ≡ Accepted
+    → rec .elements ≡ rec′ .elements
+build-hops-free {kind} {W} {k} {vs} {ls} {hs} {hs′} {rec = rec} b c e e′ =
+    let same = trie-nodes W (at vs) (at ls) (at hs) (at hs′) (length vs) in
+    cheapest-unique kind k (tableTrie W vs ls hs′)
+    (cheapest-same kind k (tableTrie W vs ls hs) (tableTrie W vs ls hs′) same (rec .elements) (build-fewest b e)) (build-fewest c e′)
 
 -- ==== demand 3 over any record and lists: the path is what the rule reaches
 

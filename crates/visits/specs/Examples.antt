@@ -1,4 +1,5 @@
--- Lookups by computation: over the rows of the eight-prefix table (width 7; pieces' Eight.antt), and each clause of refusal 9 once.
+-- Lookups by computation: over the rows of the eight-prefix table (width 7; pieces' Eight.antt), over those of the discarded corner, and
+-- each clause of refusal 9 once.
 use mathlib.Core.Path.{_≡_, refl}
 use mathlib.Core.List.{List, [], _∷_}
 use Prim.Native.Nat.{ℕ}
@@ -7,8 +8,8 @@ use Rattle.table.specs.Limits.{outside}
 use Rattle.walk.specs.Limits.{WIDTH}
 use Rattle.walk.specs.Answers.{answer}
 use Rattle.walk.specs.declared.walk.Answer.{Answer}
-use Rattle.walk.specs.declared.walk.Answer.the-variants.{Match, NoRoute, Refused}
-use Rattle.pieces.specs.Eight.{eightRows, eightHopRows}
+use Rattle.walk.specs.declared.walk.Answer.the-variants.{Match, Discard, NoRoute, Refused}
+use Rattle.pieces.specs.Eight.{eightRows, eightHopRows, cornerRows}
 use Rattle.pieces.specs.Maps.{placeLevel, placeOn, onPath, mapOf, bitAt, maskOf}
 use Rattle.pieces.specs.Cuts.{pathAt, limit, found, onesBefore, highest}
 use Rattle.visits.specs.declared.record.Bitmap.{Bitmap}
@@ -40,6 +41,21 @@ eight-bitmap-lookups : (eightAnswer 3 8 0b1100001 ≡ Match 7 2) × (pathNumbers
 unfolding outside answer placeLevel placeOn onPath mapOf bitAt maskOf pathAt limit found onesBefore highest ones onesIn
     betterOf visit tellBest tellVisited visitedBy listsShort bitmapRefusal lookupBitmapOf
 eight-bitmap-lookups = (refl, refl, refl, refl, refl, refl)
+
+-- the corner of 02, [4] (10 to hop 1 and 1010 to hop 65,535 at width 4): 1010 is discard, 1011 gives hop 1, 0111 has no route
+abbrev cornerLists : RowLists
+cornerLists = record { internal = 32 ∷ 1 ∷ []; external = 1024 ∷ 0 ∷ []; firstChild = 1 ∷ 0 ∷ []; firstHop = 0 ∷ 1 ∷ [] }
+
+abbrev cornerAnswer : (address : ℕ) → Answer
+cornerAnswer a = lookupBitmapOf WIDTH (rec 4 2 2) cornerLists (1 ∷ 65535 ∷ []) a
+
+corner-held : HoldRows cornerLists 0 cornerRows
+corner-held = (refl, (refl, tt))
+
+corner-bitmap-lookups : (cornerAnswer 0b1010 ≡ Discard 2) × (cornerAnswer 0b1011 ≡ Match 1 1) × (cornerAnswer 0b0111 ≡ NoRoute 1)
+unfolding outside answer placeLevel placeOn onPath mapOf bitAt maskOf pathAt limit found onesBefore highest ones onesIn
+    betterOf visit tellBest tellVisited visitedBy listsShort bitmapRefusal lookupBitmapOf
+corner-bitmap-lookups = (refl, refl, refl)
 
 -- a count above its list (rows, then hops); supernode 2 at a count of 2, which 1000100 does not visit; the winner, hop 6, at a count of 6,
 -- which is no matter for 0000000; and a supernode above the width: a branch at width 3, but not at width 4

@@ -129,8 +129,8 @@ fn first_refusal(rec: Bitmap, rows: usize, places: usize, address: u32) -> u32
     0
 }
 
-// One lookup over supernodes, any record and any lists. It answers a match with its hop and reads, no route with its reads, or a
-// refusal: 1 (width), 8 (address) or 9 (damaged record or rows). No list changes.
+// One lookup over supernodes, any record and any lists. It answers a match with its hop and reads, a discard or no route with its
+// reads, or a refusal: 1 (width), 8 (address) or 9 (damaged record or rows). No list changes.
 pub fn lookup_bitmap(
     rec: Bitmap,
     internal: &[u16],

@@ -1,11 +1,11 @@
--- The run of document 01 (width 3, two levels, 1 to hop 1 and 101 to hop 2), by computation from its record and its rows; and both
--- ends of the level limit (01, refusal 2; 02, [2]).
+-- The run of document 01 (width 3, two levels, 1 to hop 1 and 101 to hop 2), by computation from its record and its rows; 02's
+-- discarded corner ([4]); and both ends of the level limit (01, refusal 2; 02, [2]).
 use mathlib.Core.Path.{_≡_, refl}
 use mathlib.Core.Bool.{true, false}
 use mathlib.Core.List.{[], _∷_}
-use Prim.Native.Nat.{_-_}
+use Prim.Native.Nat.{ℕ, _-_}
 use lib.ListN.{replicate}
-use Rattle.walk.specs.declared.walk.Answer.the-variants.{Match, NoRoute, Refused}
+use Rattle.walk.specs.declared.walk.Answer.the-variants.{Match, Discard, NoRoute, Refused}
 use Rattle.walk.specs.declared.record.Record.{Record}
 use Rattle.walk.specs.Limits.{WIDTH, LEVELS}
 use Rattle.table.specs.Limits.{outside}
@@ -28,6 +28,27 @@ run-lookups : (lookupOf WIDTH rec runRows 5 ≡ Match 2 2) × (pathRows rec runR
     × (lookupOf WIDTH rec runRows 3 ≡ NoRoute 1) × (lookupOf WIDTH rec runRows 8 ≡ Refused 8)
 unfolding outside answer rowOf readable trail latest tell pathOf unfit refusalOf lookupOf
 run-lookups = (refl, refl, refl, refl, refl)
+
+-- the corner: 10 to hop 1 and 1010 to hop 65,535 at width 4, with strides 2 and 2 (layout's ExampleRows.antt has its rows from the table)
+abbrev cornerRec : (floor : ℕ) → Record
+cornerRec f = record { width = 4; levels = 2; elements = 8; floor = f; strides = 2 ∷ replicate (LEVELS - 1) 0 }
+
+abbrev floorOnly : Record
+floorOnly = record { width = 4; levels = 2; elements = 0; floor = 65535; strides = replicate LEVELS 0 }
+
+abbrev cornerRows : Lists
+cornerRows = record {
+  hop = 0 ∷ 0 ∷ 1 ∷ 0 ∷ 0 ∷ 0 ∷ 65535 ∷ 0 ∷ [];
+  link = 0 ∷ 0 ∷ 4 ∷ 0 ∷ 0 ∷ 0 ∷ 0 ∷ 0 ∷ [];
+  stride = 0 ∷ 0 ∷ 2 ∷ 0 ∷ 0 ∷ 0 ∷ 0 ∷ 0 ∷ [];
+}
+
+-- 1010 is discard, 1011 gives hop 1, 0111 has no route; where the floor discards, 0111 does too, and so does each address without rows
+corner-lookups : (lookupOf WIDTH (cornerRec 0) cornerRows 0b1010 ≡ Discard 2) × (lookupOf WIDTH (cornerRec 0) cornerRows 0b1011 ≡ Match 1 2)
+    × (lookupOf WIDTH (cornerRec 0) cornerRows 0b0111 ≡ NoRoute 1) × (lookupOf WIDTH (cornerRec 65535) cornerRows 0b0111 ≡ Discard 1)
+    × (lookupOf WIDTH floorOnly cornerRows 0b0111 ≡ Discard 0)
+unfolding outside answer rowOf readable trail latest tell pathOf unfit refusalOf lookupOf
+corner-lookups = (refl, refl, refl, refl, refl)
 
 level-edges : (outside 0 LEVELS ≡ true) × (outside 1 LEVELS ≡ false) × (outside 32 LEVELS ≡ false) × (outside 33 LEVELS ≡ true)
 unfolding outside

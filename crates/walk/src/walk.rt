@@ -13,12 +13,14 @@ use crate::address::cut;
 use crate::address::is_beyond;
 use crate::limits::LEVELS;
 use crate::record::Record;
+use table::DISCARD;
 use table::WIDTH;
 use table::is_outside;
 use table::smaller;
 
 pub enum Answer {
     Match { hop: u16, reads: u32 },
+    Discard { reads: u32 },
     NoRoute { reads: u32 },
     Refused { number: u32 },
 }
@@ -30,12 +32,14 @@ fn newer(hop: u16, best: u16) -> u16
     if hop == 0 { best } else { hop }
 }
 
-// What a lookup answers where it ends with the hop `best` after so many reads: hop 0 is no route.
+// What a lookup answers where it ends with the hop `best` after so many reads: hop 0 is no route, DISCARD a discard.
 pub fn finish(best: u16, reads: u32) -> Answer
     ensures { λ r. ⌜ r ≡ answer best reads ⌝ }
 {
     if best == 0 {
         Answer::NoRoute { reads: reads }
+    } else if best == DISCARD {
+        Answer::Discard { reads: reads }
     } else {
         Answer::Match {
             hop: best,
@@ -116,8 +120,8 @@ fn first_refusal(rec: Record, rows: usize, address: u32) -> u32
     0
 }
 
-// One lookup, over any record and any lists. It answers a match with its hop and reads, no route with
-// its reads, or a refusal: 1 (width), 2 (levels), 8 (address) or 9 (damaged record or rows). No list changes.
+// One lookup, over any record and any lists. It answers a match with its hop and reads, a discard or no route
+// with its reads, or a refusal: 1 (width), 2 (levels), 8 (address) or 9 (damaged record or rows). No list changes.
 pub fn lookup(rec: Record, hop: &[u16], link: &[u32], stride: &[u8], address: u32) -> Answer
     ensures exact { λ r. ⌜ r ≡ lookupOf WIDTH rec (lists (now (hop .entry)) (now (link .entry)) (now (stride .entry))) address ⌝ }
     ensures meaning { λ r. ⌜ Looked WIDTH rec (lists (now (hop .entry)) (now (link .entry)) (now (stride .entry))) address r ⌝ }

@@ -18,11 +18,17 @@ enum-known-answer-2 c = search needs
 put-answer-requires-2 : tie.Need-put-answer-requires-2
 put-answer-requires-2 c κs = search needs
 
-enum-told : tie.Need-enum-told
-enum-told c = search needs
+enum-known-answer-3 : tie.Need-enum-known-answer-3
+enum-known-answer-3 c = search needs
 
 put-answer-requires-3 : tie.Need-put-answer-requires-3
 put-answer-requires-3 c κs = search needs
+
+enum-told : tie.Need-enum-told
+enum-told c = search needs
+
+put-answer-requires-4 : tie.Need-put-answer-requires-4
+put-answer-requires-4 c κs = search needs
 
 same-length : tie.Need-same-length
 same-length c = search needs
@@ -40,7 +46,13 @@ same-length-3 : tie.Need-same-length-3
 same-length-3 c = search needs
 
 returns-3 : tie.Need-returns-3
-returns-3 c = wrote-is (found-is _ _ (c .before .before .before .before .enum-told .given .1)) (c .before .before .put-answer3 .ensures)
+returns-3 c = wrote-is (found-is _ _ (c .before .before .before .before .before .answer3 .given .1)) (c .before .before .put-answer3 .ensures)
+
+same-length-4 : tie.Need-same-length-4
+same-length-4 c = search needs
+
+returns-4 : tie.Need-returns-4
+returns-4 c = wrote-is (found-is _ _ (c .before .before .before .before .enum-told .given .1)) (c .before .before .put-answer4 .ensures)
 
 pub put-found-spec : {M : Type 1} → statement M
 put-found-spec =
@@ -50,11 +62,15 @@ put-found-spec =
     put-answer-requires
     enum-known-answer-2
     put-answer-requires-2
-    enum-told
+    enum-known-answer-3
     put-answer-requires-3
+    enum-told
+    put-answer-requires-4
     same-length
     returns
     same-length-2
     returns-2
     same-length-3
-    returns-3)
+    returns-3
+    same-length-4
+    returns-4)

@@ -1,0 +1,64 @@
+-- 02's example ([4]) for every accepted build of its table, in elements of any kind and k or as a tree bitmap: 1010 is discard, 1011 gives
+-- hop 1, and 0111 has no route.
+use mathlib.Core.Path.{_≡_, refl, ap, _∙_}
+use mathlib.Core.List.{List}
+use Prim.Native.Nat.{ℕ, _^_, _<_}
+use native.Mathlib.Omega.{arith}
+use Rattle.table.specs.Prefix.{start, startsWith}
+use Rattle.table.specs.Table.{at}
+use Rattle.table.specs.Longest.{longer, best, ofWinner, matches, winner, longest, LongestHop}
+use Rattle.table.specs.Corner.{cornerValues, cornerLengths, cornerHops}
+use Rattle.table.specs.declared.entry.Outcome.{Outcome}
+use Rattle.table.specs.declared.entry.Outcome.the-variants.{Accepted}
+use Rattle.table.proofs.Table.{accepted-table}
+use Rattle.table.proofs.Longest.{longest-is}
+use Rattle.table.proofs.Unique.{longest-unique}
+use Rattle.table.proofs.Corner.{corner-accepted}
+use Rattle.strides.specs.Cheapest.{Kind}
+use Rattle.walk.specs.declared.record.Record.{Record}
+use Rattle.walk.specs.declared.walk.Answer.{Answer}
+use Rattle.walk.specs.declared.walk.Answer.the-variants.{Match, Discard, NoRoute}
+use Rattle.walk.specs.Limits.{WIDTH}
+use Rattle.walk.specs.Rows.{Lists}
+use Rattle.walk.specs.Answers.{numberOf, hopOf, readsOf, Case, answer}
+use Rattle.walk.specs.Meaning.{Looked}
+use Rattle.walk.proofs.Answers.{accepted-is}
+use Rattle.tries.specs.Build.{Builds}
+use Rattle.tries.proofs.Demands.{build-longest}
+use Rattle.visits.specs.declared.record.Bitmap.{Bitmap}
+use Rattle.visits.specs.Rows.{RowLists}
+use Rattle.visits.specs.Meaning.{LookedBitmap}
+use Rattle.supernodes.specs.Build.{BuildsBitmap}
+use Rattle.supernodes.proofs.Demands.{bitmap-longest}
+
+-- the answers to the three addresses, `Allows` being what the lookup's promise allows for an address
+pub record CornerAnswers (Allows : ℕ → Answer → Type 0) : Type 0 where
+  pub corner : {r : Answer} → Allows 0b1010 r → r ≡ Discard (readsOf r)
+  pub neighbour : {r : Answer} → Allows 0b1011 r → r ≡ Match 1 (readsOf r)
+  pub outside : {r : Answer} → Allows 0b0111 r → r ≡ NoRoute (readsOf r)
+
+-- from the longest match alone
+corner-is : (a : ℕ) (r : Answer) → Case r → (numberOf r ≡ 0) × LongestHop 4 cornerValues cornerLengths cornerHops a (hopOf r)
+    → r ≡ answer (longest 4 (at cornerValues) (at cornerLengths) (at cornerHops) 2 a) (readsOf r)
+corner-is a r c l =
+    let t = accepted-table 4 cornerValues cornerLengths cornerHops corner-accepted in
+    let h = longest-unique 4 cornerValues cornerLengths cornerHops t a (l .1) (longest-is 4 (at cornerValues) (at cornerLengths) (at cornerHops) 2 a) in
+    accepted-is r (l .0) c ∙ ap (λ (x : ℕ). answer x (readsOf r)) h
+
+corner-answers : (Allows : ℕ → Answer → Type 0) → ((a : ℕ) → a < 2 ^ 4 → (r : Answer) → Allows a r
+    → Case r × ((numberOf r ≡ 0) × LongestHop 4 cornerValues cornerLengths cornerHops a (hopOf r))) → CornerAnswers Allows
+unfolding answer longest winner matches best longer ofWinner startsWith start
+corner-answers Allows f = record {
+  corner = λ {r} l. let p = f 0b1010 (omega arith) r l in corner-is 0b1010 r (p .0) (p .1);
+  neighbour = λ {r} l. let p = f 0b1011 (omega arith) r l in corner-is 0b1011 r (p .0) (p .1);
+  outside = λ {r} l. let p = f 0b0111 (omega arith) r l in corner-is 0b0111 r (p .0) (p .1);
+}
+
+pub corner-elements : {kind : Kind} {k : ℕ} {scratch : List ℕ} {rows : Lists} {out : Outcome} {rec : Record} {s : List ℕ} {rows′ : Lists}
+    → Builds kind 4 k cornerValues cornerLengths cornerHops scratch rows out rec s rows′ → out ≡ Accepted → CornerAnswers (λ a r. Looked WIDTH rec rows′ a r)
+corner-elements b e = corner-answers _ (λ a h r l. (l .case, build-longest b e a h l))
+
+pub corner-bitmap : {scratch : List ℕ} {rows : RowLists} {hops : List ℕ} {out : Outcome} {rec : Bitmap} {s : List ℕ} {rows′ : RowLists} {hops′ : List ℕ}
+    → BuildsBitmap 4 cornerValues cornerLengths cornerHops scratch rows hops out rec s rows′ hops′ → out ≡ Accepted
+    → CornerAnswers (λ a r. LookedBitmap WIDTH rec rows′ hops′ a r)
+corner-bitmap b e = corner-answers _ (λ a h r l. (l .case, bitmap-longest b e a h l))
