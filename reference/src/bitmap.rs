@@ -168,7 +168,7 @@ pub fn lookup(record: &Bitmap, rows: &Supernodes, address: u32) -> Result<Found,
     match walk(record, rows, address) {
         Ok(path) => {
             let hop = path.bests.last().map_or(0, |place| rows.hop_row[*place as usize]);
-            Ok(Found { hop, reads: path.visited.len() as u32 })
+            Ok(Found::of(hop, path.visited.len() as u32))
         }
         Err(_) => refuse(9, 0),
     }

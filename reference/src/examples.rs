@@ -4,7 +4,7 @@ mod bitmaps;
 
 use crate::build::{build, chosen, lay, Elements, Record, SCRATCH_ROW};
 use crate::choices::*;
-use crate::lookup::{lookup, Found};
+use crate::lookup::{lookup, walk, Found};
 use crate::random::Random;
 use crate::table::{shared_length, Refusal, Table};
 use crate::tablet;
@@ -96,10 +96,10 @@ fn eight_prefix_build() {
     let links: Vec<(u32, u8)> =
         (0..26).filter(|&i| rows.link[i] != 0).map(|i| (rows.link[i], rows.stride[i])).collect();
     assert_eq!(links, [(16, 1), (18, 3)]);
-    assert_eq!(lookup(&record, &rows, number("1100001")).unwrap().reads, 2);
-    assert_eq!(lookup(&record, &rows, 0).unwrap().reads, 1);
+    assert_eq!(lookup(&record, &rows, number("1100001")).unwrap().reads(), 2);
+    assert_eq!(lookup(&record, &rows, 0).unwrap().reads(), 1);
     assert_eq!(lookup(&record, &rows, 128), Err(Refusal { number: 8, detail: 0 }));
-    assert_eq!(lookup(&record, &rows, 127).unwrap().hop, 3);
+    assert_eq!(lookup(&record, &rows, 127).unwrap().hop(), 3);
     assert_eq!(built(Kind::Variable, 2, &eight(), 10, 25).0, Err(Refusal { number: 7, detail: 26 }));
     assert_eq!(built(Kind::Variable, 2, &eight(), 9, 26).0, Err(Refusal { number: 6, detail: 10 }));
     for levels in [8, 9, 31, 32] {
@@ -109,7 +109,7 @@ fn eight_prefix_build() {
     assert_eq!(built(Kind::Variable, 33, &eight(), 10, 26).0, Err(Refusal { number: 2, detail: 0 }));
     let (outcome, record, rows) = built(Kind::Fixed, 3, &table(7, &[]), 0, 0);
     assert_eq!(outcome, Ok(()));
-    assert_eq!(lookup(&record, &rows, 127), Ok(Found { hop: 0, reads: 0 }));
+    assert_eq!(lookup(&record, &rows, 127), Ok(Found::NoRoute { reads: 0 }));
 }
 
 /// One node a level: a stride of 2 costs as much as two of 1, and the smallest first stride wins.
@@ -124,9 +124,9 @@ fn chain_of_32_nodes() {
         let (outcome, record, rows) = built(kind, 32, &chain, 32, 64);
         assert_eq!((outcome, record.elements), (Ok(()), 64));
         assert_eq!(record.strides, if kind == Kind::Fixed { [1; 32] } else { strides(&[1]) });
-        assert_eq!(lookup(&record, &rows, number(&lengths[31])), Ok(Found { hop: 32, reads: 32 }));
-        assert_eq!(lookup(&record, &rows, number(&lengths[31]) ^ 1), Ok(Found { hop: 31, reads: 32 }));
-        assert_eq!(lookup(&record, &rows, 0), Ok(Found { hop: 0, reads: 1 }));
+        assert_eq!(lookup(&record, &rows, number(&lengths[31])), Ok(Found::Match { hop: 32, reads: 32 }));
+        assert_eq!(lookup(&record, &rows, number(&lengths[31]) ^ 1), Ok(Found::Match { hop: 31, reads: 32 }));
+        assert_eq!(lookup(&record, &rows, 0), Ok(Found::NoRoute { reads: 1 }));
     }
 }
 
@@ -143,6 +143,26 @@ fn most_entries() {
     most.length.push(17);
     most.hop.push(1);
     assert_eq!(most.check(), Err(Refusal { number: 3, detail: 0 }));
+}
+
+/// 02: "With 10→1 and 1010→65,535, address 1010 is discard and 1011 gives hop 1. The tablet prints hop=65535." Refusal 4's hop test
+/// keeps only hop 0.
+#[test]
+fn discarded_corner() {
+    let corner = table(4, &[("10", 1), ("1010", 65535)]);
+    for (kind, levels) in [(Kind::Fixed, 1), (Kind::Variable, 1), (Kind::Fixed, 2), (Kind::Variable, 4)] {
+        let (outcome, record, rows) = built(kind, levels, &corner, 4, 16);
+        assert_eq!(outcome, Ok(()));
+        let reads = |address| walk(&record, &rows, number(address)).unwrap().1.len() as u32;
+        assert_eq!(lookup(&record, &rows, number("1010")), Ok(Found::Discard { reads: reads("1010") }));
+        assert_eq!(lookup(&record, &rows, number("1011")), Ok(Found::Match { hop: 1, reads: reads("1011") }));
+        assert_eq!(lookup(&record, &rows, number("0010")), Ok(Found::NoRoute { reads: reads("0010") }));
+    }
+    let text = "width=4\nkind=vst\nlevels=2\nentries=2\nbits=10\nhop=1\nbits=1010\nhop=65535\nqueries=2\naddress=1010\naddress=1011\n";
+    let report =
+        "refusal=0\ndetail=0\nelements=8\nroot=2\naddress=1010\nhop=65535\nreads=2\naddress=1011\nhop=1\nreads=2\n";
+    assert_eq!(tablet::run(text.as_bytes()), report);
+    assert_eq!(table(4, &[("10", 65535), ("1010", 0)]).check(), Err(Refusal { number: 4, detail: 1 }));
 }
 
 #[test]
@@ -180,8 +200,8 @@ fn builds_answer_longest_match() {
             assert_eq!(outcome, Ok(()));
             for address in 0..1u32 << width {
                 let found = lookup(&record, &rows, address).unwrap();
-                assert_eq!(found.hop, table.answer(address));
-                assert!(found.reads <= k);
+                assert_eq!(found.hop(), table.answer(address));
+                assert!(found.reads() <= k);
             }
         }
     }

@@ -2,13 +2,40 @@
 //! 1, 2, 8, then 9), over any record and any lists.
 
 use crate::build::{test_levels, Elements, Record};
-use crate::table::{refuse, test_width, Refusal};
+use crate::table::{refuse, test_width, Refusal, DISCARD};
 
-/// A match with hop and reads, or no route (hop 0) with reads.
+/// A match with hop and reads, or no route with reads; a discard is an answer of its own with reads (02, [4]).
 #[derive(Clone, Copy, PartialEq, Eq, Debug)]
-pub struct Found {
-    pub hop: u16,
-    pub reads: u32,
+pub enum Found {
+    Match { hop: u16, reads: u32 },
+    Discard { reads: u32 },
+    NoRoute { reads: u32 },
+}
+
+impl Found {
+    /// Hop 0 means no route, hop 65,535 discard.
+    pub fn of(hop: u16, reads: u32) -> Found {
+        match hop {
+            0 => Found::NoRoute { reads },
+            DISCARD => Found::Discard { reads },
+            _ => Found::Match { hop, reads },
+        }
+    }
+
+    /// The number that the tablet prints as hop.
+    pub fn hop(self) -> u16 {
+        match self {
+            Found::Match { hop, .. } => hop,
+            Found::Discard { .. } => DISCARD,
+            Found::NoRoute { .. } => 0,
+        }
+    }
+
+    pub fn reads(self) -> u32 {
+        match self {
+            Found::Match { reads, .. } | Found::Discard { reads } | Found::NoRoute { reads } => reads,
+        }
+    }
 }
 
 /// The clauses of refusal 9, in 01's words.
@@ -29,7 +56,7 @@ pub fn lookup(record: &Record, rows: &Elements, address: u32) -> Result<Found, R
         return refuse(8, 0);
     }
     match walk(record, rows, address) {
-        Ok((hop, path)) => Ok(Found { hop, reads: path.len() as u32 }),
+        Ok((hop, path)) => Ok(Found::of(hop, path.len() as u32)),
         Err(_) => refuse(9, 0),
     }
 }

@@ -1,7 +1,7 @@
 //! A small seeded generator (splitmix64), so that the vectors are the same on every run, and random
 //! tables, tries and prefixes made with it.
 
-use crate::table::Table;
+use crate::table::{Table, DISCARD};
 
 pub struct Random {
     state: u64,
@@ -46,12 +46,13 @@ impl Random {
         (cut(width, value, length), length as u8)
     }
 
-    /// Any hop of an entry, often one of the two ends.
+    /// Any hop of an entry, often the smallest, the largest of a link, or that of a discard.
     pub fn hop(&mut self) -> u16 {
         match self.next() % 8 {
             0 => 1,
             1 => 65534,
-            2 | 3 => self.within(1, 65534) as u16,
+            2 => DISCARD,
+            3 => self.within(1, 65535) as u16,
             _ => self.within(1, 9) as u16,
         }
     }

@@ -7,8 +7,8 @@
 pub const WIDTHS: u32 = 32;
 /// n is 0 to 65,536 (02; 01: to 4,096).
 pub const ENTRIES: usize = 65536;
-/// The hop that is no hop of an entry, besides 0.
-pub const NO_HOP: u16 = 65535;
+/// Hop 65,535 means discard (02, [4]).
+pub const DISCARD: u16 = 65535;
 
 /// A refusal by number with its detail (01, "Refusals, in order of test").
 #[derive(Clone, Copy, PartialEq, Eq, Debug)]
@@ -69,8 +69,7 @@ impl Table {
     /// Tests 4 and 5 go entry by entry, 4 first at each; the lowest index is reported.
     pub fn test_entries(&self) -> Result<(), Refusal> {
         for i in 0..self.value.len() {
-            let hop = self.hop[i];
-            if malformed(self.width, self.value[i], self.length[i]) || hop == 0 || hop == NO_HOP {
+            if malformed(self.width, self.value[i], self.length[i]) || self.hop[i] == 0 {
                 return refuse(4, i as u64);
             }
             if i > 0 && !self.above(i, self.value[i - 1], self.length[i - 1]) {
@@ -97,7 +96,7 @@ impl Table {
         best
     }
 
-    /// The answer to an address: the hop of the longest matching entry, else 0.
+    /// The hop of the longest matching entry, else 0.
     pub fn answer(&self, address: u32) -> u16 {
         self.longest(address).map_or(0, |i| self.hop[i])
     }

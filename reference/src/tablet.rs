@@ -124,7 +124,7 @@ fn report(text: &[u8]) -> Result<String, Refusal> {
     let mut out = format!("refusal=0\ndetail=0\nelements={}\nroot={}\n", record.elements, record.strides[0]);
     for address in &sheet.addresses {
         let found = lookup(&record, &rows, read_bits(address) as u32).expect("rows of one build");
-        out += &format!("address={}\nhop={}\nreads={}\n", address, found.hop, found.reads);
+        out += &format!("address={}\nhop={}\nreads={}\n", address, found.hop(), found.reads());
     }
     Ok(out)
 }

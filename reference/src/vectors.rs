@@ -9,8 +9,9 @@ mod sheets;
 mod tables;
 
 use crate::choices::LEVELS;
+use crate::lookup::Found;
 use crate::random::{cut, Random};
-use crate::table::{Refusal, Table};
+use crate::table::{Refusal, Table, DISCARD};
 use std::collections::BTreeMap;
 
 /// Everything that a vector file must hit is hit at least this often.
@@ -103,7 +104,7 @@ impl Rising {
         format!("rising width {} entries {} length {}", self.width, self.entries, self.length)
     }
 
-    /// Entry i has value i × 2^(W - length), held at the largest of 32 bits, that length, and hop 1 + i mod 65,534.
+    /// Entry i has value i × 2^(W - length), held at the largest of 32 bits, that length, and hop 1 + i mod 65,535.
     fn table(self) -> Table {
         let step = 1u64 << self.width.saturating_sub(self.length as u32).min(40);
         let indices = 0..self.entries as u64;
@@ -111,7 +112,7 @@ impl Rising {
             width: self.width,
             value: indices.clone().map(|i| (i * step).min(u32::MAX as u64) as u32).collect(),
             length: vec![self.length; self.entries],
-            hop: indices.map(|i| (1 + i % 65534) as u16).collect(),
+            hop: indices.map(|i| (1 + i % 65535) as u16).collect(),
         }
     }
 }
@@ -169,6 +170,26 @@ fn any_levels(random: &mut Random) -> u32 {
     random.within(1, most) as u32
 }
 
+/// What a lookup answers, and what a vector file counts it as.
+fn answered(answer: Result<Found, Refusal>) -> (String, String) {
+    match answer {
+        Ok(Found::Match { hop, reads }) => (format!("match {hop} reads {reads}"), "lookup match".to_string()),
+        Ok(Found::Discard { reads }) => (format!("discard reads {reads}"), "lookup discard".to_string()),
+        Ok(Found::NoRoute { reads }) => (format!("none reads {reads}"), "lookup no route".to_string()),
+        Err(refusal) => (format!("refused {}", refusal.number), format!("lookup refused {}", refusal.number)),
+    }
+}
+
+/// The same, short: hop/reads, d for a discard's hop, hop 0 for no route, or r and the refusal.
+fn swept(answer: Result<Found, Refusal>) -> String {
+    match answer {
+        Ok(Found::Match { hop, reads }) => format!(" {hop}/{reads}"),
+        Ok(Found::Discard { reads }) => format!(" d/{reads}"),
+        Ok(Found::NoRoute { reads }) => format!(" 0/{reads}"),
+        Err(refusal) => format!(" r{}", refusal.number),
+    }
+}
+
 fn refused(refusal: Refusal) -> String {
     format!("refused {} {}", refusal.number, refusal.detail)
 }
@@ -190,6 +211,20 @@ fn of(width: u32, entries: &[(u32, u8, u16)]) -> Table {
 /// 01's eight-prefix table.
 fn eight() -> Table {
     of(7, &[(0, 1, 1), (64, 1, 2), (68, 5, 5), (80, 3, 4), (96, 2, 3), (96, 4, 6), (96, 6, 7), (96, 7, 8)])
+}
+
+/// 02's example of a discard ([4]): 10→1 and 1010→65,535.
+fn corner() -> Table {
+    of(4, &[(8, 2, 1), (10, 4, DISCARD)])
+}
+
+/// Discards in every place of a chain of routes: at the floor, in the middle, at the end, beside it, and at all of them.
+fn discards() -> Vec<Table> {
+    let chain = |hops: [u16; 4]| of(3, &[(0, 0, hops[0]), (0, 1, hops[1]), (2, 2, hops[2]), (3, 3, hops[3])]);
+    let mut tables = vec![corner(), of(3, &[(0, 1, 1), (2, 2, DISCARD), (3, 3, 2)]), of(3, &[(0, 0, DISCARD)])];
+    tables.extend((0..4).map(|at| chain(std::array::from_fn(|i| if i == at { DISCARD } else { i as u16 + 1 }))));
+    tables.extend([chain([DISCARD; 4]), of(1, &[(0, 1, DISCARD), (1, 1, 65534)])]);
+    tables
 }
 
 /// A random table of n entries exactly, as long as the width has so many.

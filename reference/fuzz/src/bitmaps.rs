@@ -6,6 +6,7 @@ use crate::tally::Call;
 use crate::trying::{numbers, same, same_list, Same, Trial, SMALL};
 use hongsamuk::raw;
 use reference::bitmap::{build, lookup, nodes, walk, Bitmap, Supernodes, NODE_ROW, STRIDE};
+use reference::lookup::Found;
 use reference::table::{Refusal, Table};
 
 fn c_bitmap(record: &Bitmap) -> hongsamuk::Bitmap {
@@ -121,8 +122,9 @@ impl Trial<'_> {
     fn expected_in_bitmap(&mut self, record: &Bitmap, rows: &Supernodes, address: u32) -> raw::Answer {
         match lookup(record, rows, address) {
             Ok(found) => {
-                self.tally.bitmap_no_routes += (found.hop == 0) as u64;
-                raw::Answer { number: 0, hop: found.hop, reads: found.reads }
+                self.tally.bitmap_no_routes += matches!(found, Found::NoRoute { .. }) as u64;
+                self.tally.bitmap_discards += matches!(found, Found::Discard { .. }) as u64;
+                raw::Answer { number: 0, hop: found.hop(), reads: found.reads() }
             }
             Err(refusal) => {
                 if refusal.number == 9 {

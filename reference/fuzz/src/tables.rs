@@ -78,7 +78,7 @@ fn damage(table: &mut Table, random: &mut Random) {
     match random.within(0, 12) {
         0 => table.width = [0, 33, 64, 263, u32::MAX][random.within(0, 4) as usize],
         1 => table.width = random.within(1, 32) as u32,
-        2 => table.hop[i] = [0, 65535][random.within(0, 1) as usize],
+        2 => table.hop[i] = 0,
         3 => table.length[i] = random.within(0, 255) as u8,
         4 => table.value[i] ^= 1 << random.within(0, 31),
         5 => table.value[i] = random.next() as u32,

@@ -45,6 +45,7 @@ pub struct Tally {
     damages: BTreeMap<Damage, u64>,
     bitmap_damages: BTreeMap<bitmap::Damage, u64>,
     pub no_routes: u64,
+    pub discards: u64,
     pub batches: u64,
     pub longest: u64,
     /// The most reads of a lookup in elements.
@@ -56,9 +57,10 @@ pub struct Tally {
     many_levels: u64,
     most_levels: u64,
     most_strides: u64,
-    /// Of lookups in bitmaps: those without a route, those held to longest match besides, and those held to the hop that the
-    /// elements of the same table gave.
+    /// Of lookups in bitmaps: those without a route, those that discard, those held to longest match besides, and those held to the hop
+    /// that the elements of the same table gave.
     pub bitmap_no_routes: u64,
+    pub bitmap_discards: u64,
     pub bitmap_longest: u64,
     pub agreed: u64,
 }
@@ -119,14 +121,19 @@ impl Tally {
                 .collect();
             println!("{call:?}: {} calls, accepted: {}{refused}", self.of(call), numbers[0]);
         }
-        println!("lookups without a route: {}; refusal 9 by clause: {}", self.no_routes, by_clause(&self.damages));
+        println!("lookups without a route: {}; that discard: {}", self.no_routes, self.discards);
+        println!("refusal 9 by clause: {}", by_clause(&self.damages));
         println!("batches: {}; answers held to longest match besides: {}", self.batches, self.longest);
         println!("tables of {ENTRIES} entries checked: {}; of more: {}", self.most_entries, self.more_entries);
         let (many, most, strides) = (self.many_levels, self.most_levels, self.most_strides);
         println!("accepted builds with k above 8: {many}; k = {LEVELS}: {most}; {LEVELS} strides: {strides}");
         println!("most reads of a lookup in elements: {}", self.most_reads);
         let clauses = by_clause(&self.bitmap_damages);
-        println!("lookups in bitmaps without a route: {}; refusal 9 by clause: {clauses}", self.bitmap_no_routes);
+        println!(
+            "lookups in bitmaps without a route: {}; that discard: {}",
+            self.bitmap_no_routes, self.bitmap_discards
+        );
+        println!("refusal 9 in bitmaps by clause: {clauses}");
         println!("held to longest match besides: {}; to the elements' hop: {}", self.bitmap_longest, self.agreed);
         println!("{}", self.done());
     }

@@ -8,7 +8,7 @@ use crate::{harm, tables};
 use hongsamuk::raw;
 use reference::build::{build, chosen, Elements, Record, SCRATCH_ROW};
 use reference::choices::{Kind, LEVELS};
-use reference::lookup::{lookup, walk};
+use reference::lookup::{lookup, walk, Found};
 use reference::random::Random;
 use reference::table::{self, Refusal, Table, ENTRIES};
 use reference::trie::Trie;
@@ -286,7 +286,7 @@ impl Trial<'_> {
             self.tally.longest += 1;
             let archive = self.lists.lookup(c_record(record), address).hop;
             same("longest match", archive, table.answer(address))?;
-            same("longest match by the reference's rows", found.hop, table.answer(address))?;
+            same("longest match by the reference's rows", found.hop(), table.answer(address))?;
         }
         Ok(())
     }
@@ -329,9 +329,10 @@ impl Trial<'_> {
     fn expected(&mut self, record: &Record, rows: &Elements, address: u32) -> raw::Answer {
         match lookup(record, rows, address) {
             Ok(found) => {
-                self.tally.no_routes += (found.hop == 0) as u64;
-                self.tally.most_reads = self.tally.most_reads.max(found.reads);
-                raw::Answer { number: 0, hop: found.hop, reads: found.reads }
+                self.tally.no_routes += matches!(found, Found::NoRoute { .. }) as u64;
+                self.tally.discards += matches!(found, Found::Discard { .. }) as u64;
+                self.tally.most_reads = self.tally.most_reads.max(found.reads());
+                raw::Answer { number: 0, hop: found.hop(), reads: found.reads() }
             }
             Err(refusal) => {
                 if refusal.number == 9 {

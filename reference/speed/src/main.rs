@@ -24,6 +24,10 @@ fn main() {
         println!("\n### Lookups\n");
         lookups::measure(&routes);
     }
+    if asked("discards") {
+        println!("\n### Lookups, one route in eight discards\n");
+        lookups::measure(&routes.discarding(SEED));
+    }
     if asked("builds") {
         println!("\n### Builds of {ENTRIES} routes\n");
         building::measure(&routes);

@@ -1,6 +1,7 @@
 //! Route tables and addresses to measure with, the same on every run.
 
 use reference::random::{cut, Random};
+use reference::table::DISCARD;
 use std::collections::BTreeSet;
 
 pub const WIDTH: u32 = 32;
@@ -68,6 +69,13 @@ impl Routes {
             prefixes.insert((cut(WIDTH, at | inside, length), length as u8));
         }
         Routes::of(prefixes, &mut random)
+    }
+
+    /// The same routes, of which one in eight discards: which an address meets is hard to foresee.
+    pub fn discarding(&self, seed: u64) -> Routes {
+        let mut random = Random::new(seed);
+        let hop = self.hop.iter().map(|hop| if random.one_in(8) { DISCARD } else { *hop }).collect();
+        Routes { value: self.value.clone(), length: self.length.clone(), hop }
     }
 
     /// The nodes of the 1-bit trie at a level: the different starts of that many bits among longer routes.

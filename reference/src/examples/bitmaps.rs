@@ -28,7 +28,7 @@ fn built(table: &Table) -> (Bitmap, Supernodes) {
 }
 
 fn found(hop: u16, reads: u32) -> Result<Found, Refusal> {
-    Ok(Found { hop, reads })
+    Ok(Found::of(hop, reads))
 }
 
 #[test]
@@ -76,6 +76,18 @@ fn tables_of_little() {
     assert_eq!(lookup(&record, &rows, 5), found(9, 1));
 }
 
+/// 02's example of a discard ([4]): its hop stands among the others.
+#[test]
+fn discarded_corner() {
+    let (record, rows) = built(&table(4, &[("10", 1), ("1010", 65535)]));
+    assert_eq!(
+        (&rows.internal[..], &rows.external[..], &rows.hop_row[..]),
+        (&[32, 1][..], &[1024, 0][..], &[1, 65535][..])
+    );
+    assert_eq!(lookup(&record, &rows, number("1010")), Ok(Found::Discard { reads: 2 }));
+    assert_eq!(lookup(&record, &rows, number("1011")), Ok(Found::Match { hop: 1, reads: 1 }));
+}
+
 /// Supernodes by a queue, each behind all those before it, as source document 002 draws them.
 fn by_a_queue(table: &Table) -> Vec<String> {
     let nodes = nodes(table);
@@ -102,11 +114,11 @@ fn answers_are_longest_match() {
         assert_eq!((record.supernodes as usize, record.hops as usize), (order.len(), table.value.len()));
         for address in 0..1u32 << width {
             let found = lookup(&record, &rows, address).unwrap();
-            assert_eq!(found.hop, table.answer(address));
+            assert_eq!(found.hop(), table.answer(address));
             let whole = bits(width, address, width);
             let begin: Vec<usize> = (0..order.len()).filter(|&i| whole.starts_with(&order[i])).collect();
             assert_eq!(walk(&record, &rows, address).unwrap().visited, begin);
-            assert!(found.reads == begin.len() as u32 && found.reads <= width / 4 + 1);
+            assert!(found.reads() == begin.len() as u32 && found.reads() <= width / 4 + 1);
         }
     }
 }

@@ -3,16 +3,17 @@
 //! list (filled with nines); its answer is the outcome, the record, scratch's zeros and sevens, and how many
 //! nines stand in each list past the record's counts. `print` prints the rows within the counts as
 //! internal/external/first child/first hop, and the hops. `look` asks one address of the last record and
-//! lists, `sweep` all addresses below a number, as hop/reads, or r with the refusal. A `record` line sets a
-//! record and lists of its own. A line with another word, or with a list longer than the program's room or
+//! lists, `sweep` all addresses below a number, as hop/reads (d for the hop of a discard), or r with the refusal. A
+//! `record` line sets a record and lists of its own. A line with another word, or with a list longer than the program's room or
 //! than the rows or hops that it gives, is a bad line and changes nothing.
 
 mod harmed;
 
 use super::choosers::SCRATCH;
-use super::tables::{damaged, width};
-use super::{eight, of, outcome, table_line, Rising, Vectors, PLACES};
+use super::tables::{damaged, width, FAULTS};
+use super::{answered, discards, eight, of, outcome, swept, table_line, Rising, Vectors, PLACES};
 use crate::bitmap::{build, lookup, nodes, walk, Bitmap, Damage, Supernodes, NODE_ROW, STRIDE};
+use crate::lookup::Found;
 use crate::random::Random;
 use crate::table::Table;
 
@@ -31,6 +32,7 @@ const WANTED: &[&str] = &[
     "refused for supernode rows",
     "refused for hop rows",
     "lookup match",
+    "lookup discard",
     "lookup no route",
     "lookup refused 1",
     "lookup refused 8",
@@ -188,40 +190,29 @@ fn count_large(vectors: &mut Vectors, rows: &Supernodes, damage: Damage) {
 
 /// Counts what a lookup met.
 fn count(vectors: &mut Vectors, left: &Left, address: u32) {
-    match lookup(&left.record, &left.rows, address) {
-        Ok(found) => {
-            vectors.hit(if found.hop > 0 { "lookup match" } else { "lookup no route" });
-            count_path(vectors, left, address, found.hop);
+    let answer = lookup(&left.record, &left.rows, address);
+    vectors.hit(&answered(answer).1);
+    match answer {
+        Ok(found) => count_path(vectors, left, address, found.hop()),
+        Err(refusal) if refusal.number == 9 => {
+            let damage = walk(&left.record, &left.rows, address).unwrap_err();
+            vectors.hit(&format!("damage {damage:?}"));
+            count_large(vectors, &left.rows, damage);
         }
-        Err(refusal) => {
-            vectors.hit(&format!("lookup refused {}", refusal.number));
-            if refusal.number == 9 {
-                let damage = walk(&left.record, &left.rows, address).unwrap_err();
-                vectors.hit(&format!("damage {damage:?}"));
-                count_large(vectors, &left.rows, damage);
-            }
-        }
+        Err(_) => (),
     }
 }
 
 fn look(vectors: &mut Vectors, left: &Left, address: u32) {
     count(vectors, left, address);
-    let answer = match lookup(&left.record, &left.rows, address) {
-        Ok(found) if found.hop > 0 => format!("match {} reads {}", found.hop, found.reads),
-        Ok(found) => format!("none reads {}", found.reads),
-        Err(refusal) => format!("refused {}", refusal.number),
-    };
-    vectors.case(format!("look {address}"), answer);
+    vectors.case(format!("look {address}"), answered(lookup(&left.record, &left.rows, address)).0);
 }
 
 fn sweep(vectors: &mut Vectors, left: &Left, below: u32) {
     let mut answers = "sweep".to_string();
     for address in 0..below {
         count(vectors, left, address);
-        answers += &match lookup(&left.record, &left.rows, address) {
-            Ok(found) => format!(" {}/{}", found.hop, found.reads),
-            Err(refusal) => format!(" r{}", refusal.number),
-        };
+        answers += &swept(lookup(&left.record, &left.rows, address));
     }
     vectors.case(format!("sweep {below}"), answers);
 }
@@ -229,7 +220,7 @@ fn sweep(vectors: &mut Vectors, left: &Left, below: u32) {
 /// An answer of an accepted build is that of longest match, with few enough reads.
 fn hold(table: &Table, left: &Left, address: u32) {
     let found = lookup(&left.record, &left.rows, address).expect("an accepted build is not damaged");
-    assert!(found.hop == table.answer(address) && found.reads <= table.width / 4 + 1);
+    assert!(found == Found::of(table.answer(address), found.reads()) && found.reads() <= table.width / 4 + 1);
 }
 
 fn sweep_all(vectors: &mut Vectors, table: &Table, left: &Left) {
@@ -325,6 +316,15 @@ fn edges(vectors: &mut Vectors, random: &mut Random) {
         }
         built(vectors, &made, Lent { rows: [0; 4], hops: 0, ..needed(&made) });
         built(vectors, &made, Lent { words: 0, rows: [9, 10, 11, 12], hops: 13 });
+    }
+}
+
+/// Tables with discards, and all addresses one by one.
+fn discarding(vectors: &mut Vectors) {
+    for made in discards() {
+        whole(vectors, &made);
+        let left = built(vectors, &made, needed(&made));
+        (0..1 << made.width).for_each(|address| look(vectors, &left, address));
     }
 }
 
@@ -471,7 +471,7 @@ fn most(vectors: &mut Vectors) {
 /// Refusals of the build, and room that is just enough or just too little.
 fn refusals(vectors: &mut Vectors, random: &mut Random) {
     for turn in 0..270 {
-        let kind = turn % 9;
+        let kind = turn % FAULTS;
         let width = if kind == 3 { width(random).min(31) } else { width(random) };
         let n = random.within(6, 12) as usize;
         let mut made = random.table(width, n);
@@ -549,6 +549,7 @@ pub fn write(top: &str) {
     let mut random = Random::new(6);
     examples(&mut vectors);
     edges(&mut vectors, &mut random);
+    discarding(&mut vectors);
     every(&mut vectors);
     dense(&mut vectors);
     small(&mut vectors, &mut random);

@@ -4,17 +4,19 @@
 //! element lists hop, link and stride (filled with nines); its answer is the outcome, the record, scratch's
 //! zeros and sevens, and how many nines stand in each element list past row E. `print` prints rows 0 to E-1
 //! as hop/link/stride. `look` asks one address of the last record and lists, `sweep` all addresses below a
-//! number, as hop/reads, or r with the refusal. A `record` line sets a record and lists of its own, the
+//! number, as hop/reads (d for the hop of a discard), or r with the refusal. A `record` line sets a record and lists of its own, the
 //! rows as link/stride>hop; of its strides all but the first are the number called others. A line with another
 //! word, or with a list longer than the program's room or than the rows that it gives, is a bad line and changes
 //! nothing.
 
 use super::choosers::{name, KINDS, SCRATCH};
-use super::tables::{damaged, width};
-use super::{any_levels, chain, deep, eight, of, outcome, table_line, Rising, Vectors, PLACES};
+use super::tables::{damaged, width, FAULTS};
+use super::{
+    answered, any_levels, chain, deep, discards, eight, of, outcome, swept, table_line, Rising, Vectors, PLACES,
+};
 use crate::build::{build, Elements, Record, SCRATCH_ROW};
 use crate::choices::{Kind, LEVELS};
-use crate::lookup::{lookup, walk, Damage};
+use crate::lookup::{lookup, walk, Damage, Found};
 use crate::random::Random;
 use crate::table::Table;
 use crate::trie::Trie;
@@ -40,6 +42,7 @@ const WANTED: &[&str] = &[
     "variable refused 6",
     "variable refused 7",
     "lookup match",
+    "lookup discard",
     "lookup no route",
     "lookup refused 1",
     "lookup refused 2",
@@ -117,40 +120,26 @@ fn rows(vectors: &mut Vectors, left: &Left) {
 /// Counts what a lookup met.
 fn count(vectors: &mut Vectors, left: &Left, address: u32) {
     let answer = lookup(&left.record, &left.rows, address);
-    if answer.is_ok_and(|found| found.reads == 32) {
+    if answer.is_ok_and(|found| found.reads() == 32) {
         vectors.hit("32 reads");
     }
-    match answer {
-        Ok(found) if found.hop > 0 => vectors.hit("lookup match"),
-        Ok(_) => vectors.hit("lookup no route"),
-        Err(refusal) => {
-            vectors.hit(&format!("lookup refused {}", refusal.number));
-            if refusal.number == 9 {
-                let damage: Damage = walk(&left.record, &left.rows, address).unwrap_err();
-                vectors.hit(&format!("damage {damage:?}"));
-            }
-        }
+    vectors.hit(&answered(answer).1);
+    if answer.is_err_and(|refusal| refusal.number == 9) {
+        let damage: Damage = walk(&left.record, &left.rows, address).unwrap_err();
+        vectors.hit(&format!("damage {damage:?}"));
     }
 }
 
 fn look(vectors: &mut Vectors, left: &Left, address: u32) {
     count(vectors, left, address);
-    let answer = match lookup(&left.record, &left.rows, address) {
-        Ok(found) if found.hop > 0 => format!("match {} reads {}", found.hop, found.reads),
-        Ok(found) => format!("none reads {}", found.reads),
-        Err(refusal) => format!("refused {}", refusal.number),
-    };
-    vectors.case(format!("look {address}"), answer);
+    vectors.case(format!("look {address}"), answered(lookup(&left.record, &left.rows, address)).0);
 }
 
 fn sweep(vectors: &mut Vectors, left: &Left, below: u32) {
     let mut answers = "sweep".to_string();
     for address in 0..below {
         count(vectors, left, address);
-        answers += &match lookup(&left.record, &left.rows, address) {
-            Ok(found) => format!(" {}/{}", found.hop, found.reads),
-            Err(refusal) => format!(" r{}", refusal.number),
-        };
+        answers += &swept(lookup(&left.record, &left.rows, address));
     }
     vectors.case(format!("sweep {below}"), answers);
 }
@@ -159,7 +148,7 @@ fn sweep(vectors: &mut Vectors, left: &Left, below: u32) {
 fn sweep_all(vectors: &mut Vectors, table: &Table, left: &Left) {
     for address in 0..1u32 << table.width {
         let found = lookup(&left.record, &left.rows, address).expect("an accepted build is not damaged");
-        assert!(found.hop == table.answer(address) && found.reads <= left.record.levels);
+        assert!(found == Found::of(table.answer(address), found.reads()) && found.reads() <= left.record.levels);
     }
     sweep(vectors, left, 1 << table.width);
 }
@@ -257,6 +246,36 @@ fn edges(vectors: &mut Vectors) {
     }
 }
 
+/// Tables with discards, by both kinds and every number of levels, and all addresses; and 02's example in a record of its own, with the
+/// hops about that of a discard for its floor and for a row.
+fn discarding(vectors: &mut Vectors) {
+    for made in discards() {
+        table(vectors, &made);
+        for kind in KINDS {
+            for levels in 1..=made.width + 1 {
+                let left = built(vectors, &made, kind, levels, (nodes(&made), 16, 16, 16));
+                rows(vectors, &left);
+                sweep_all(vectors, &made, &left);
+                for address in 0..1 << made.width {
+                    look(vectors, &left, address);
+                }
+            }
+        }
+    }
+    for edge in [0, 1, 65533, 65534, 65535] {
+        let hop = vec![0, 0, 1, 0, 0, edge, 65535, 0];
+        let rows = Elements { hop, link: vec![0, 0, 4, 0, 0, 0, 0, 0], stride: vec![0, 0, 2, 0, 0, 0, 0, 0] };
+        for elements in [0, 8] {
+            let mut strides = [0; LEVELS];
+            strides[0] = if elements == 0 { 0 } else { 2 };
+            let record_of = Record { width: 4, levels: 2, elements, floor: edge, strides };
+            let mut left = Left { record: record_of, rows: rows.clone() };
+            record(vectors, &mut left, 0);
+            (0..17).for_each(|address| look(vectors, &left, address));
+        }
+    }
+}
+
 /// Chains of 32 nodes, and other tables of 32 levels, about the largest level limit: at each level an address leaves the chain.
 fn levels(vectors: &mut Vectors, random: &mut Random) {
     let tables = [chain(), deep(random, 0), deep(random, 0), deep(random, 6), deep(random, 6)];
@@ -271,7 +290,7 @@ fn levels(vectors: &mut Vectors, random: &mut Random) {
                 }
                 for address in (0..32).map(|bit| last ^ 1 << bit).chain([last]) {
                     look(vectors, &left, address);
-                    assert!(lookup(&left.record, &left.rows, address).unwrap().hop == made.answer(address));
+                    assert!(lookup(&left.record, &left.rows, address).unwrap().hop() == made.answer(address));
                 }
             }
         }
@@ -336,7 +355,7 @@ fn wide(vectors: &mut Vectors, random: &mut Random) {
                     look(vectors, &left, address);
                     if (address as u64) < 1 << width {
                         let found = lookup(&left.record, &left.rows, address).unwrap();
-                        assert!(found.hop == made.answer(address));
+                        assert!(found.hop() == made.answer(address));
                     }
                 }
             }
@@ -381,7 +400,7 @@ fn most(vectors: &mut Vectors) {
 /// Refusals of the build, and room that is just enough or just too little.
 fn refusals(vectors: &mut Vectors, random: &mut Random) {
     for turn in 0..180 {
-        let kind = turn % 9;
+        let kind = turn % FAULTS;
         let width = if kind == 3 { width(random).min(31) } else { width(random) };
         let n = random.within(6, 12) as usize;
         let mut made = random.table(width, n);
@@ -576,6 +595,7 @@ pub fn write(top: &str) {
     let mut random = Random::new(5);
     examples(&mut vectors);
     edges(&mut vectors);
+    discarding(&mut vectors);
     levels(&mut vectors, &mut random);
     loops(&mut vectors);
     small(&mut vectors, &mut random);

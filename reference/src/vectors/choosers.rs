@@ -3,10 +3,10 @@
 //! the program fills with sevens. The answer is the outcome, cost and strides, and how many zeros and how
 //! many sevens scratch then holds. Where the trie is small, the answer is that of brute force.
 
-use super::tables::{damaged, width};
+use super::tables::{damaged, width, FAULTS};
 use super::{
-    any_levels, chain, deep, eight, full, lengths_line, of, outcome, over, table_line, with_lengths, Rising, Vectors,
-    PLACES,
+    any_levels, chain, deep, discards, eight, full, lengths_line, of, outcome, over, table_line, with_lengths, Rising,
+    Vectors, PLACES,
 };
 use crate::build::{chosen, SCRATCH_ROW};
 use crate::choices::{
@@ -152,9 +152,9 @@ fn eight_prefixes(vectors: &mut Vectors) {
     }
 }
 
-/// No node, one path, and costs above 16,777,216.
+/// No node, one path, costs above 16,777,216, and routes that discard.
 fn edges(vectors: &mut Vectors) {
-    let tables = [
+    let mut tables = vec![
         of(7, &[]),
         of(7, &[(0, 0, 1)]),
         of(1, &[(0, 1, 1)]),
@@ -167,6 +167,7 @@ fn edges(vectors: &mut Vectors) {
         of(0, &[]),
         of(33, &[]),
     ];
+    tables.extend(discards());
     for made in tables {
         table(vectors, &made);
         let places = if made.check().is_ok() { enough(&made) } else { 2 * SCRATCH_ROW };
@@ -309,7 +310,7 @@ fn faults(vectors: &mut Vectors) {
 /// Damaged tables, bad level limits and short scratch, often two at once: the first test decides.
 fn broken(vectors: &mut Vectors, random: &mut Random) {
     for turn in 0..270 {
-        let kind = turn % 9;
+        let kind = turn % FAULTS;
         let width = if kind == 3 { width(random).min(31) } else { width(random) };
         let n = random.within(6, 12) as usize;
         let mut made = random.table(width, n);

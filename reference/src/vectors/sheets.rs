@@ -1,9 +1,9 @@
 //! The cases of the tablet's text. A case is the word `text` with the number of bytes, a line end, the bytes
 //! themselves and a line end; its answer is the whole report and a line `end`.
 
-use super::{any_levels, Vectors};
+use super::{any_levels, discards, Vectors};
 use crate::random::Random;
-use crate::table::bits;
+use crate::table::{bits, DISCARD};
 use crate::tablet::{self, SCRATCH_ROWS};
 use std::collections::BTreeSet;
 
@@ -26,6 +26,7 @@ const WANTED: &[&str] = &[
     "bad queries line",
     "bad address line",
     "text after the end",
+    "hop=65535 printed",
 ];
 
 fn text(vectors: &mut Vectors, text: &[u8]) {
@@ -252,11 +253,11 @@ fn order(vectors: &mut Vectors, random: &mut Random) {
 
 /// A fault of the build or of an address, some with a second one of another number.
 fn faults(vectors: &mut Vectors, random: &mut Random) {
-    for turn in 0..230 {
+    for turn in 0..220 {
         let mut made = any_draft(random);
-        fault(random, &mut made, turn % 11);
+        fault(random, &mut made, turn % 10);
         if random.one_in(3) {
-            let other = random.within(0, 10);
+            let other = random.within(0, 9);
             fault(random, &mut made, other);
         }
         text(vectors, &made.text());
@@ -295,30 +296,29 @@ fn fault(random: &mut Random, made: &mut Draft, kind: u64) {
             made.lines[at] = format!("bits={}", "01".repeat(16));
         }
         3 => made.lines[one_of(random, &hops)] = "hop=0".to_string(),
-        4 => made.lines[one_of(random, &hops)] = "hop=65535".to_string(),
-        5 | 6 => {
+        4 | 5 => {
             let (a, b) = (one_of(random, &all_bits), one_of(random, &all_bits));
-            if kind == 5 {
+            if kind == 4 {
                 made.lines.swap(a, b);
             } else {
                 made.lines[b] = made.lines[a].clone();
             }
         }
-        7 | 8 => {
+        6 | 7 => {
             let at = one_of(random, &addresses);
             made.lines[at] = format!("address={}", "1".repeat(random.within(1, 32) as usize));
         }
-        9 => made.lines[0] = format!("width={}", random.within(1, 32)),
+        8 => made.lines[0] = format!("width={}", random.within(1, 32)),
         _ => made.lines[2] = "levels=1".to_string(),
     }
 }
 
-/// A text of these entries' bits, each with a hop of five digits, and these addresses.
+/// A text of these entries' bits, each with a hop of five digits, the first that of a discard, and these addresses.
 fn text_of(head: [&str; 3], bits: &[String], addresses: &[String]) -> String {
     let [width, kind, levels] = head;
     let mut lines = format!("width={width}\nkind={kind}\nlevels={levels}\nentries={}\n", bits.len());
     for (i, b) in bits.iter().enumerate() {
-        lines += &format!("bits={b}\nhop={}\n", 65534 - i);
+        lines += &format!("bits={b}\nhop={}\n", 65535 - i);
     }
     lines += &format!("queries={}\n", addresses.len());
     for a in addresses {
@@ -389,6 +389,24 @@ fn levels(vectors: &mut Vectors) {
     }
 }
 
+/// Tables with discards, by both kinds and every number of levels, asked at all addresses: hop=65535 is printed where the longest entry
+/// discards, and nowhere else.
+fn discarding(vectors: &mut Vectors) {
+    for made in discards() {
+        let entries: String =
+            (0..made.hop.len()).map(|i| format!("bits={}\nhop={}\n", made.entry(i), made.hop[i])).collect();
+        let all = 0..1u32 << made.width;
+        let asked: String = all.clone().map(|a| format!("address={}\n", bits(made.width, a, made.width))).collect();
+        let tail = format!("entries={}\n{entries}queries={}\n{asked}", made.hop.len(), all.len());
+        let discarded = all.filter(|address| made.answer(*address) == DISCARD).count();
+        for (kind, levels) in (1..=made.width + 1).flat_map(|levels| [("fst", levels), ("vst", levels)]) {
+            let report = lent_case(vectors, &format!("width={}\nkind={kind}\nlevels={levels}\n{tail}", made.width));
+            assert!(discarded > 0 && report.matches("hop=65535\n").count() == discarded, "{report}");
+            vectors.hit("hop=65535 printed");
+        }
+    }
+}
+
 fn lent_case(vectors: &mut Vectors, given: &str) -> String {
     text(vectors, given.as_bytes());
     tablet::run(given.as_bytes())
@@ -441,6 +459,7 @@ pub fn write(top: &str) {
     malformed(&mut vectors, &mut random);
     order(&mut vectors, &mut random);
     faults(&mut vectors, &mut random);
+    discarding(&mut vectors);
     lent(&mut vectors);
     levels(&mut vectors);
     shown(&mut vectors, top);

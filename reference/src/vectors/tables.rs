@@ -1,7 +1,9 @@
 //! The cases of the crate `table`: its check, zones and shared lengths. A `table` line sets the table of
 //! the `zone` lines below it.
 
-use super::{eight, full, lengths_line, of, outcome, over, refused, table_line, with_lengths, Rising, Vectors, PLACES};
+use super::{
+    discards, eight, full, lengths_line, of, outcome, over, refused, table_line, with_lengths, Rising, Vectors, PLACES,
+};
 use crate::random::{cut, Random};
 use crate::table::{shared_length, Table};
 
@@ -33,7 +35,6 @@ const WANTED: &[&str] = &[
     "damage value too large",
     "damage bit past the length",
     "damage hop 0",
-    "damage hop 65535",
     "damage entry twice",
     "damage entries exchanged",
 ];
@@ -112,7 +113,7 @@ fn edges(vectors: &mut Vectors) {
         table(vectors, &empty);
         zone(vectors, &empty, 0, 0);
         zone(vectors, &empty, 1, 1);
-        let floor = of(width, &[(0, 0, 65534)]);
+        let floor = of(width, &[(0, 0, 65535)]);
         table(vectors, &floor);
         zone(vectors, &floor, 0, 0);
         zone(vectors, &floor, 0, 1);
@@ -125,6 +126,12 @@ fn edges(vectors: &mut Vectors) {
             table(vectors, &table_of);
             zone(vectors, &table_of, 0, 1);
         }
+    }
+    for made in discards() {
+        assert!(made.check().is_ok());
+        table(vectors, &made);
+        zone(vectors, &made, made.value[0], made.length[0]);
+        zone(vectors, &made, 0, 0);
     }
     let top = of(
         32,
@@ -153,8 +160,10 @@ fn large(vectors: &mut Vectors, random: &mut Random) {
         zone(vectors, &most, prefix, length);
     }
     let mut hop = most.clone();
-    hop.hop[4095] = 65535;
-    table(vectors, &hop);
+    for last in [0, 65535] {
+        hop.hop[4095] = last;
+        table(vectors, &hop);
+    }
     let mut order = some(4095);
     order.value.push(8188);
     order.length.push(12);
@@ -311,6 +320,9 @@ fn sound(vectors: &mut Vectors, random: &mut Random) {
     }
 }
 
+/// How many kinds of fault `damaged` knows.
+pub(super) const FAULTS: u64 = 8;
+
 /// One thing wrong with a good table of at least two entries, and its name.
 pub(super) fn damaged(random: &mut Random, made: &mut Table, kind: u64) -> &'static str {
     let (width, n) = (made.width as u64, made.value.len() as u64);
@@ -351,10 +363,6 @@ pub(super) fn damaged(random: &mut Random, made: &mut Table, kind: u64) -> &'sta
             "damage hop 0"
         }
         6 => {
-            made.hop[i] = 65535;
-            "damage hop 65535"
-        }
-        7 => {
             made.value.insert(i, made.value[i]);
             made.length.insert(i, made.length[i]);
             made.hop.insert(i, 7);
@@ -371,7 +379,7 @@ pub(super) fn damaged(random: &mut Random, made: &mut Table, kind: u64) -> &'sta
 
 fn broken(vectors: &mut Vectors, random: &mut Random) {
     for turn in 0..360 {
-        let kind = turn % 9;
+        let kind = turn % FAULTS;
         let mut width = width(random);
         if kind == 3 {
             width = width.min(31);
@@ -390,7 +398,7 @@ fn broken(vectors: &mut Vectors, random: &mut Random) {
             && made.value.len() == made.length.len()
             && made.value.len() == made.hop.len()
         {
-            let second = random.within(0, 8);
+            let second = random.within(0, FAULTS - 1);
             if second != 3 || width < 32 {
                 damaged(random, &mut made, second);
             }

@@ -4,8 +4,6 @@ use super::WIDTH;
 
 /// The most entries.
 const ENTRIES: usize = 65_536;
-/// The hop that is no hop of an entry, besides 0.
-const NO_HOP: u16 = 65535;
 
 #[derive(Clone, Copy)]
 pub struct Table<'a> {
@@ -26,7 +24,7 @@ impl Table<'_> {
             return Err((3, 0));
         }
         for i in 0..n {
-            if self.is_malformed(i) || self.hop[i] == 0 || self.hop[i] == NO_HOP {
+            if self.is_malformed(i) || self.hop[i] == 0 {
                 return Err((4, i as u64));
             }
             if i > 0 && (self.value[i - 1], self.length[i - 1]) >= (self.value[i], self.length[i]) {

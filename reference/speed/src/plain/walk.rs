@@ -1,11 +1,12 @@
 //! The lookup: tests 1, 2, 8, 9, then one row a block.
 
-use super::{LEVELS, WIDTH};
+use super::{DISCARD, LEVELS, WIDTH};
 use hongsamuk::{raw, Record};
 
 #[derive(Clone, Copy, PartialEq, Eq, Debug)]
 pub enum Answer {
     Match { hop: u16, reads: u32 },
+    Discard { reads: u32 },
     NoRoute { reads: u32 },
     Refused { number: u32 },
 }
@@ -16,6 +17,7 @@ impl Answer {
     fn numbers(self) -> (u32, u16, u32) {
         match self {
             Answer::Match { hop, reads } => (0, hop, reads),
+            Answer::Discard { reads } => (0, DISCARD, reads),
             Answer::NoRoute { reads } => (0, 0, reads),
             Answer::Refused { number } => (number, 0, 0),
         }
@@ -26,6 +28,7 @@ impl Answer {
     pub fn sum(self) -> u64 {
         match self {
             Answer::Match { hop, reads } => u64::from(hop) + u64::from(reads),
+            Answer::Discard { reads } => u64::from(DISCARD) + u64::from(reads),
             Answer::NoRoute { reads } => u64::from(reads),
             Answer::Refused { number } => u64::from(number),
         }
@@ -51,10 +54,10 @@ pub(super) const DAMAGED: Answer = Answer::Refused { number: 9 };
 
 #[inline(always)]
 pub(super) fn finish(hop: u16, reads: u32) -> Answer {
-    if hop == 0 {
-        Answer::NoRoute { reads }
-    } else {
-        Answer::Match { hop, reads }
+    match hop {
+        0 => Answer::NoRoute { reads },
+        DISCARD => Answer::Discard { reads },
+        _ => Answer::Match { hop, reads },
     }
 }
 
