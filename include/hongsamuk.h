@@ -6,7 +6,7 @@
  *    1  the width is 0 or above 32                                detail 0
  *    2  the level limit is 0 or above 32                          detail 0
  *    3  lists of unequal length, or more than 65,536 entries      detail 0
- *    4  an entry is no prefix of that width, or has a bad hop     detail: its index
+ *    4  an entry is no prefix of that width, or has hop 0         detail: its index
  *    5  an entry does not stand above the one before              detail: its index
  *    6  scratch has too few whole rows for the table's trie       detail: the rows needed
  *    7  too little room for elements, or above 16,777,216;        detail: the elements needed;
@@ -18,6 +18,9 @@
  * A list is a pointer to its first number and, behind it, how many numbers it has. A pointer may be null where there are none.
  * All lists belong to the caller before, during and after a call; no call keeps a pointer, allocates, or has a state of its
  * own, so calls on different lists may run at the same time. A list that a call writes must not overlap another list of that call.
+ *
+ * An entry's hop is 1 to 65,535. HONGSAMUK_DISCARD is the hop of a route that discards packets: an entry like any other, and where
+ * it is the longest that begins an address, the answer. It is not hop 0, which says that no entry begins the address.
  *
  * A table can be laid out in two ways: in elements, as few as a level limit allows, or as a tree bitmap, in supernodes of four
  * levels and hops. Both give every address the same hop.
@@ -59,6 +62,7 @@ enum {
     HONGSAMUK_WIDTH = 32,          /* the most bits of an address */
     HONGSAMUK_LEVELS = 32,         /* the most levels */
     HONGSAMUK_ENTRIES = 65536,     /* the most entries of a table */
+    HONGSAMUK_DISCARD = 65535,     /* the hop of a route that discards packets */
     HONGSAMUK_ELEMENTS = 16777216, /* the most elements of a build */
     HONGSAMUK_ROW = 72,            /* numbers in a scratch row of a chooser or of a build of elements */
     HONGSAMUK_NODE_ROW = 4         /* numbers in a scratch row of a build of a bitmap */
@@ -118,7 +122,7 @@ typedef struct hongsamuk_built_bitmap {
 
 typedef struct hongsamuk_answer {
     uint32_t number;                     /* 0, 1, 2, 8 or 9, whose detail is always 0 */
-    uint16_t hop;                        /* 0: no route, or refused */
+    uint16_t hop;                        /* 0: no route, or refused; HONGSAMUK_DISCARD: discard */
     uint32_t reads;                      /* blocks, or supernodes, read; refused: 0 */
 } hongsamuk_answer;
 
@@ -182,8 +186,8 @@ hongsamuk_built hongsamuk_build_variable(
     uint8_t *row_stride, size_t row_strides);
 
 /* One lookup: tests 1, 2, 8, 9. Over a record and element lists that one accepted build left together: the hop of the table's
- * longest prefix that begins the address, or 0 where none does. Over any other: the latest hop that is not 0 of the rows on the
- * address's path, else the floor, as they are found there. No list changes. */
+ * longest prefix that begins the address, a discard's too, or 0 where none does. Over any other: the latest hop that is not 0 of the
+ * rows on the address's path, else the floor, as they are found there. No list changes. */
 hongsamuk_answer hongsamuk_lookup(
     hongsamuk_record record,
     const uint16_t *row_hop, size_t row_hops,
@@ -228,8 +232,8 @@ hongsamuk_built_bitmap hongsamuk_build_bitmap(
     uint16_t *hop_row, size_t hop_rows);
 
 /* One lookup in a tree bitmap: tests 1, 8, 9; at most width / 4 + 1 reads. Over a record and lists that one accepted build left
- * together: the hop of the table's longest prefix that begins the address, or 0 where none does. Over any other: the hop of the
- * longest entry that the internal maps on the address's path have, as it is found there. No list changes. */
+ * together: the hop of the table's longest prefix that begins the address, a discard's too, or 0 where none does. Over any other: the
+ * hop of the longest entry that the internal maps on the address's path have, as it is found there. No list changes. */
 hongsamuk_answer hongsamuk_lookup_bitmap(
     hongsamuk_bitmap record,
     const uint16_t *internal, size_t internals,

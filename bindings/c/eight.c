@@ -1,6 +1,7 @@
 /* The eight-prefix table: builds it with variable strides and two levels, looks addresses up one by one and in a batch, and asks
- * for a zone. Then a route of 32 bits with a level for each bit, one level and one entry too many, and the same calls with no lists
- * at all: a null pointer with length 0 is a list. Exits with 1 where an answer is not the one expected. */
+ * for a zone. Then a wide route with a corner that is discarded, a route of 32 bits with a level for each bit, one level and one entry
+ * too many, and the same calls with no lists at all: a null pointer with length 0 is a list. Exits with 1 where an answer is not the
+ * one expected. */
 #include <stdio.h>
 #include "hongsamuk.h"
 
@@ -81,6 +82,24 @@ static void ask_the_table(void)
     expect(built.number == 7 && built.detail == 32 && built.record.elements == 0, "too little room");
 }
 
+static void discard_a_corner(void)
+{
+    static const uint32_t values[] = { 8, 10 };
+    static const uint8_t lengths[] = { 2, 4 };
+    static const uint16_t own[] = { 1, HONGSAMUK_DISCARD };
+    hongsamuk_built built = hongsamuk_build_variable(4, LEVELS, LIST(values), LIST(lengths), LIST(own), LIST(scratch),
+                                                     LIST(row_hop), LIST(row_link), LIST(row_stride));
+    expect(built.number == 0, "the build of a discard");
+    hongsamuk_answer corner = hongsamuk_lookup(built.record, LIST(row_hop), LIST(row_link), LIST(row_stride), 10);
+    hongsamuk_answer beside = hongsamuk_lookup(built.record, LIST(row_hop), LIST(row_link), LIST(row_stride), 11);
+    hongsamuk_answer outside = hongsamuk_lookup(built.record, LIST(row_hop), LIST(row_link), LIST(row_stride), 7);
+    printf("corner: hop=%u reads=%u; beside it: hop=%u; outside: hop=%u\n", (unsigned)corner.hop, (unsigned)corner.reads,
+           (unsigned)beside.hop, (unsigned)outside.hop);
+    expect(corner.number == 0 && corner.hop == HONGSAMUK_DISCARD && corner.reads == 2, "the corner is discarded");
+    expect(beside.number == 0 && beside.hop == 1, "beside it the wide route goes on");
+    expect(outside.number == 0 && outside.hop == 0, "outside there is no route");
+}
+
 static void go_to_the_limits(void)
 {
     static const uint32_t host[] = { 0xc0a80101 };
@@ -143,6 +162,7 @@ int main(void)
     look(record);
     look_in_a_batch(record);
     ask_the_table();
+    discard_a_corner();
     go_to_the_limits();
     lend_nothing();
     return wrong;

@@ -2,7 +2,7 @@
 //! address gets the same hop.
 
 use hongsamuk::{build, build_bitmap, lookup, lookup_bitmap, Answer, Bitmap, BitmapRows, BitmapRowsMut};
-use hongsamuk::{BuiltBitmap, Kind, Outcome, Record, Rows, RowsMut, Table, NODE_ROW, SCRATCH_ROW};
+use hongsamuk::{BuiltBitmap, Kind, Outcome, Record, Rows, RowsMut, Table, DISCARD, NODE_ROW, SCRATCH_ROW};
 
 const TABLE: Table = Table {
     width: 7,
@@ -82,6 +82,7 @@ fn elements() -> (Record, Vec<u16>, Vec<u32>, Vec<u8>) {
 fn hop_and_reads(answer: Answer) -> (u16, u32) {
     match answer {
         Answer::Match { hop, reads } => (hop, reads),
+        Answer::Discard { reads } => (DISCARD, reads),
         Answer::NoRoute { reads } => (0, reads),
         Answer::Refused { number } => panic!("refused by {number}"),
     }

@@ -30,7 +30,8 @@ fn main() {
     for address in ADDRESSES {
         match lookup(&built.record, rows, address) {
             Answer::Match { hop, reads } => println!("address={address:07b} hop={hop} reads={reads}"),
-            Answer::NoRoute { reads } => println!("address={address:07b} hop=0 reads={reads}"),
+            Answer::Discard { reads } => println!("address={address:07b} discarded, reads={reads}"),
+            Answer::NoRoute { reads } => println!("address={address:07b} no route, reads={reads}"),
             Answer::Refused { number } => println!("address={address:07b} refused by {number}"),
         }
     }

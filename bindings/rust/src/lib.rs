@@ -8,7 +8,7 @@
 //! | 1 | the width is 0 or above 32 | 0 |
 //! | 2 | the level limit is 0 or above 32 | 0 |
 //! | 3 | lists of unequal length, or more than 65,536 entries | 0 |
-//! | 4 | an entry is no prefix of that width, or has a bad hop | its index |
+//! | 4 | an entry is no prefix of that width, or has hop 0 | its index |
 //! | 5 | an entry does not stand above the one before | its index |
 //! | 6 | scratch has too few whole rows for the table's trie | the rows needed |
 //! | 7 | too little room for elements, or above 16,777,216; of a bitmap too little for supernodes, then for hops | those needed |
@@ -24,6 +24,8 @@ pub const WIDTH: u32 = 32;
 pub const LEVELS: usize = 32;
 /// The most entries of a table.
 pub const ENTRIES: usize = 65_536;
+/// The hop of a route that discards packets: an entry like any other.
+pub const DISCARD: u16 = 65_535;
 /// The most elements of a build.
 pub const ELEMENTS: u32 = 16_777_216;
 /// Numbers in a scratch row; a build needs one row for each node of the table's 1-bit trie.
@@ -63,9 +65,21 @@ pub enum Span {
 /// What a lookup answers.
 #[derive(Clone, Copy, PartialEq, Eq, Debug)]
 pub enum Answer {
-    Match { hop: u16, reads: u32 },
-    NoRoute { reads: u32 },
-    Refused { number: u32 },
+    Match {
+        hop: u16,
+        reads: u32,
+    },
+    /// The longest prefix that begins the address discards.
+    Discard {
+        reads: u32,
+    },
+    /// No prefix begins the address.
+    NoRoute {
+        reads: u32,
+    },
+    Refused {
+        number: u32,
+    },
 }
 
 /// What a build hands back beside its element rows; all of it is lent to each lookup. Any numbers may stand in it.
@@ -191,6 +205,7 @@ impl From<raw::Answer> for Answer {
     fn from(answer: raw::Answer) -> Answer {
         match answer {
             raw::Answer { number: 0, hop: 0, reads } => Answer::NoRoute { reads },
+            raw::Answer { number: 0, hop: DISCARD, reads } => Answer::Discard { reads },
             raw::Answer { number: 0, hop, reads } => Answer::Match { hop, reads },
             raw::Answer { number, .. } => Answer::Refused { number },
         }
@@ -309,8 +324,8 @@ pub fn build(kind: Kind, levels: u32, table: Table, scratch: &mut [u64], rows: R
 }
 
 /// One lookup: tests 1, 2, 8, 9. Over a record and rows that one accepted build left together: a match with the hop of the table's
-/// longest prefix that begins the address, or no route where none does. Over any other: the latest hop that is not 0 of the rows on
-/// the address's path, else the floor, as they are found there.
+/// longest prefix that begins the address, a discard where that prefix discards, or no route where there is none. Over any other: by
+/// the latest hop that is not 0 of the rows on the address's path, else by the floor, as they are found there.
 #[inline]
 pub fn lookup(record: &Record, rows: Rows, address: u32) -> Answer {
     // SAFETY: pointers and lengths are those of slices, which the call only reads.
@@ -387,8 +402,9 @@ pub fn build_bitmap(table: Table, scratch: &mut [u64], rows: BitmapRowsMut) -> B
 }
 
 /// One lookup in a tree bitmap: tests 1, 8, 9. Over a record and rows that one accepted build left together: a match with the hop
-/// of the table's longest prefix that begins the address, or no route where none does. Over any other: the hop of the longest entry
-/// that the internal maps on the address's path have, as it is found there. Reads are the supernodes read.
+/// of the table's longest prefix that begins the address, a discard where that prefix discards, or no route where there is none. Over
+/// any other: by the hop of the longest entry that the internal maps on the address's path have, as it is found there. Reads are the
+/// supernodes read.
 #[inline]
 pub fn lookup_bitmap(record: &Bitmap, rows: BitmapRows, address: u32) -> Answer {
     // SAFETY: pointers and lengths are those of slices, which the call only reads.

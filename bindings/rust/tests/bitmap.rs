@@ -99,6 +99,7 @@ fn the_same_hops_as_from_elements() {
     let rows = Rows { hop: &hop, link: &link, stride: &stride };
     let hop_of = |answer| match answer {
         Answer::Match { hop, .. } => hop,
+        Answer::Discard { .. } => DISCARD,
         Answer::NoRoute { .. } => 0,
         Answer::Refused { number } => panic!("refused by {number}"),
     };
@@ -112,7 +113,7 @@ fn refusals_of_a_build() {
     let built = |table, words, supernodes, hops| make(table, words, supernodes, hops).built;
     assert_eq!(built(Table { width: 33, ..EIGHT }, WORDS, 3, 8), refused(1, 0));
     assert_eq!(built(Table { hop: &EIGHT.hop[1..], ..EIGHT }, WORDS, 3, 8), refused(3, 0));
-    assert_eq!(built(Table { hop: &[1, 2, 5, 4, 3, 65535, 7, 8], ..EIGHT }, WORDS, 3, 8), refused(4, 5));
+    assert_eq!(built(Table { hop: &[1, 2, 5, 4, 3, 0, 7, 8], ..EIGHT }, WORDS, 3, 8), refused(4, 5));
     assert_eq!(built(Table { length: &[1, 1, 5, 4, 4, 4, 6, 7], ..EIGHT }, WORDS, 3, 8), refused(5, 5));
     assert_eq!(built(EIGHT, WORDS - 1, 3, 8), refused(6, 14));
     assert_eq!(built(EIGHT, WORDS, 2, 7), refused(7, 3));
@@ -167,6 +168,7 @@ fn damaged_rows() {
     assert_eq!(change(|made| made.first_hop[2] = u32::MAX), (damaged, sound));
     assert_eq!(change(|made| made.external[2] = 4), (damaged, sound));
     assert_eq!(change(|made| made.hop_row[6] = 0), (Answer::NoRoute { reads: 2 }, sound));
+    assert_eq!(change(|made| made.hop_row[6] = DISCARD), (Answer::Discard { reads: 2 }, sound));
     let width = Answer::Refused { number: 1 };
     assert_eq!(change(|made| made.built.record.width = 0), (width, width));
     let none = Answer::NoRoute { reads: 0 };

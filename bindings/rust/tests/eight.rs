@@ -109,7 +109,7 @@ fn refusals_of_a_build() {
     assert_eq!(outcome(Table { width: 33, ..EIGHT }, 2, WORDS, 26), refused(1, 0));
     assert_eq!(outcome(EIGHT, 33, WORDS, 26), refused(2, 0));
     assert_eq!(outcome(Table { hop: &EIGHT.hop[1..], ..EIGHT }, 2, WORDS, 26), refused(3, 0));
-    assert_eq!(outcome(Table { hop: &[1, 2, 5, 4, 3, 65535, 7, 8], ..EIGHT }, 2, WORDS, 26), refused(4, 5));
+    assert_eq!(outcome(Table { hop: &[1, 2, 5, 4, 3, 0, 7, 8], ..EIGHT }, 2, WORDS, 26), refused(4, 5));
     assert_eq!(outcome(Table { length: &[1, 1, 5, 4, 4, 4, 6, 7], ..EIGHT }, 2, WORDS, 26), refused(5, 5));
     assert_eq!(outcome(EIGHT, 2, WORDS - 1, 26), refused(6, 10));
     assert_eq!(outcome(EIGHT, 2, WORDS, 25), refused(7, 26));

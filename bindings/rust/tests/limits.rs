@@ -27,8 +27,16 @@ impl Routes {
     }
 }
 
+/// Entry 65,534 discards.
 fn own_hop(i: u32) -> u16 {
-    (1 + i % 65_534) as u16
+    (1 + i % 65_535) as u16
+}
+
+fn own_answer(i: u32, reads: u32) -> Answer {
+    match own_hop(i) {
+        DISCARD => Answer::Discard { reads },
+        hop => Answer::Match { hop, reads },
+    }
 }
 
 fn refused(number: u32, detail: u64) -> Outcome {
@@ -62,7 +70,7 @@ fn the_most_entries_in_elements() {
         assert!(scratch.iter().all(|x| *x == 0));
         let rows = Rows { hop: &hop, link: &link, stride: &stride };
         for address in 0..MOST {
-            assert_eq!(lookup(&record, rows, address), Answer::Match { hop: own_hop(address), reads: 2 });
+            assert_eq!(lookup(&record, rows, address), own_answer(address, 2));
         }
         assert_eq!(lookup(&record, rows, MOST), Answer::NoRoute { reads: 1 });
         scratch.fill(7);
@@ -101,7 +109,7 @@ fn the_most_entries_in_a_bitmap() {
         hop_row: &hop_row,
     };
     for address in 0..MOST {
-        assert_eq!(lookup_bitmap(&built.record, rows, address), Answer::Match { hop: own_hop(address), reads: 5 });
+        assert_eq!(lookup_bitmap(&built.record, rows, address), own_answer(address, 5));
     }
     assert_eq!(lookup_bitmap(&built.record, rows, MOST), Answer::NoRoute { reads: 1 });
 }

@@ -1,0 +1,115 @@
+//! Routes that discard packets (02, [4]): 02's own example in elements of both kinds and as a tree bitmap, and the hop of a discard
+//! wherever else a lookup finds it.
+
+use hongsamuk::*;
+
+/// 10 to hop 1, and 1010 discarded.
+const CORNER: Table = Table { width: 4, value: &[0b1000, 0b1010], length: &[2, 4], hop: &[1, DISCARD] };
+const ELEMENTS: usize = 16;
+
+struct Made {
+    record: Record,
+    hop: Vec<u16>,
+    link: Vec<u32>,
+    stride: Vec<u8>,
+}
+
+impl Made {
+    fn of(kind: Kind, levels: u32, table: Table) -> Made {
+        let (mut hop, mut link, mut stride) = (vec![9; ELEMENTS], vec![9; ELEMENTS], vec![9; ELEMENTS]);
+        let rows = RowsMut { hop: &mut hop, link: &mut link, stride: &mut stride };
+        let built = build(kind, levels, table, &mut [7; 4 * SCRATCH_ROW], rows);
+        assert_eq!(built.outcome, Outcome::Accepted);
+        Made { record: built.record, hop, link, stride }
+    }
+
+    fn rows(&self) -> Rows<'_> {
+        Rows { hop: &self.hop, link: &self.link, stride: &self.stride }
+    }
+
+    fn lookup(&self, address: u32) -> Answer {
+        lookup(&self.record, self.rows(), address)
+    }
+}
+
+#[test]
+fn a_discarded_corner_in_elements() {
+    for kind in [Kind::Fixed, Kind::Variable] {
+        for levels in 1..=LEVELS as u32 {
+            let made = Made::of(kind, levels, CORNER);
+            assert!(matches!(made.lookup(0b1010), Answer::Discard { reads } if (1..=levels).contains(&reads)));
+            for address in [0b1000, 0b1001, 0b1011] {
+                assert!(matches!(made.lookup(address), Answer::Match { hop: 1, .. }), "{address}");
+            }
+            assert!(matches!(made.lookup(0b0111), Answer::NoRoute { .. }));
+        }
+    }
+}
+
+#[test]
+fn rows_of_the_corner() {
+    let made = Made::of(Kind::Variable, 2, CORNER);
+    assert_eq!((made.record.elements, made.record.strides[0]), (8, 2));
+    assert_eq!(made.hop[..8], [0, 0, 1, 0, 0, 0, DISCARD, 0]);
+    assert_eq!(made.lookup(0b1010), Answer::Discard { reads: 2 });
+    assert_eq!(made.lookup(0b1011), Answer::Match { hop: 1, reads: 2 });
+}
+
+#[test]
+fn a_discarded_corner_in_a_bitmap() {
+    let (mut internal, mut external) = ([9; 2], [9; 2]);
+    let (mut first_child, mut first_hop, mut hop_row) = ([9; 2], [9; 2], [9; 2]);
+    let room = BitmapRowsMut {
+        internal: &mut internal,
+        external: &mut external,
+        first_child: &mut first_child,
+        first_hop: &mut first_hop,
+        hop_row: &mut hop_row,
+    };
+    let built = build_bitmap(CORNER, &mut [7; 5 * NODE_ROW], room);
+    assert_eq!((built.outcome, hop_row), (Outcome::Accepted, [1, DISCARD]));
+    let rows = BitmapRows {
+        internal: &internal,
+        external: &external,
+        first_child: &first_child,
+        first_hop: &first_hop,
+        hop_row: &hop_row,
+    };
+    assert_eq!(lookup_bitmap(&built.record, rows, 0b1010), Answer::Discard { reads: 2 });
+    assert_eq!(lookup_bitmap(&built.record, rows, 0b1011), Answer::Match { hop: 1, reads: 1 });
+    assert_eq!(lookup_bitmap(&built.record, rows, 0b0111), Answer::NoRoute { reads: 1 });
+}
+
+/// A batch tells them by number and hop.
+#[test]
+fn a_batch() {
+    let made = Made::of(Kind::Fixed, 2, CORNER);
+    let (mut number, mut hop, mut reads) = ([9; 4], [9; 4], [9; 4]);
+    let room = AnswersMut { number: &mut number, hop: &mut hop, reads: &mut reads };
+    assert_eq!(lookup_batch(&made.record, made.rows(), &[0b1010, 0b1011, 0b0111, 16], room), 4);
+    assert_eq!((number, hop, reads), ([0, 0, 0, 8], [DISCARD, 1, 0, 0], [2, 2, 1, 0]));
+}
+
+/// A floor that discards, and the hop of a discard in rows and records that no build left.
+#[test]
+fn wherever_it_is_found() {
+    let floor = Table { width: 4, value: &[0], length: &[0], hop: &[DISCARD] };
+    assert_eq!(Made::of(Kind::Variable, 1, floor).lookup(5), Answer::Discard { reads: 0 });
+    let mut made = Made::of(Kind::Variable, 2, CORNER);
+    made.record.floor = DISCARD;
+    assert_eq!(made.lookup(0b0111), Answer::Discard { reads: 1 });
+    made.hop[1] = DISCARD - 1;
+    assert_eq!(made.lookup(0b0111), Answer::Match { hop: DISCARD - 1, reads: 1 });
+    made.hop[2] = DISCARD;
+    assert_eq!(made.lookup(0b1011), Answer::Discard { reads: 2 });
+}
+
+/// Of all hops only 0 is refused by 4.
+#[test]
+fn hops_of_a_table() {
+    let table = |hop| Table { width: 4, value: &[0b1000, 0b1010], length: &[2, 4], hop };
+    for hop in [1, 65_533, 65_534, DISCARD] {
+        assert_eq!(check(table(&[hop, hop])), Outcome::Accepted);
+    }
+    assert_eq!(check(table(&[DISCARD, 0])), Outcome::Refused { number: 4, detail: 1 });
+}
