@@ -107,9 +107,8 @@ fn wherever_it_is_found() {
 /// Of all hops only 0 is refused by 4.
 #[test]
 fn hops_of_a_table() {
-    let table = |hop| Table { width: 4, value: &[0b1000, 0b1010], length: &[2, 4], hop };
     for hop in [1, 65_533, 65_534, DISCARD] {
-        assert_eq!(check(table(&[hop, hop])), Outcome::Accepted);
+        assert_eq!(check(Table { hop: &[hop, hop], ..CORNER }), Outcome::Accepted);
     }
-    assert_eq!(check(table(&[DISCARD, 0])), Outcome::Refused { number: 4, detail: 1 });
+    assert_eq!(check(Table { hop: &[DISCARD, 0], ..CORNER }), Outcome::Refused { number: 4, detail: 1 });
 }

@@ -145,6 +145,7 @@ fn the_headers_limits() {
         ("WIDTH", hongsamuk::WIDTH as usize),
         ("LEVELS", hongsamuk::LEVELS),
         ("ENTRIES", hongsamuk::ENTRIES),
+        ("DISCARD", hongsamuk::DISCARD as usize),
         ("ELEMENTS", hongsamuk::ELEMENTS as usize),
         ("ROW", hongsamuk::SCRATCH_ROW),
         ("NODE_ROW", hongsamuk::NODE_ROW),
