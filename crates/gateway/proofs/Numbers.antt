@@ -26,7 +26,8 @@ use Rattle.visits.specs.Rows.{RowLists, rowRoom}
 use Rattle.visits.specs.Meaning.{BitmapTested, LookedBitmap}
 use Rattle.supernodes.specs.Build.{bitmapTests}
 use Rattle.supernodes.proofs.Demands.{numbered-bitmap}
-use Rattle.gateway.specs.Numbers.{Told, outcomeNumbers, sharedNumbers, spanNumbers, choiceNumbers, buildNumbers, bitmapNumbers, answerNumbers}
+use Rattle.walk.specs.Answers.{Told, answerNumbers}
+use Rattle.gateway.specs.Numbers.{outcomeNumbers, sharedNumbers, spanNumbers, choiceNumbers, buildNumbers, bitmapNumbers}
 use Rattle.gateway.specs.Allowed.{AllowedChoice, AllowedBuild, AllowedBitmap}
 use Rattle.gateway.specs.declared.bitmaps.BuiltBitmapNumbers.{BuiltBitmapNumbers}
 use Rattle.gateway.specs.declared.entries.Checked.{Checked}
@@ -34,7 +35,7 @@ use Rattle.gateway.specs.declared.entries.SharedNumbers.{SharedNumbers}
 use Rattle.gateway.specs.declared.entries.SpanNumbers.{SpanNumbers}
 use Rattle.gateway.specs.declared.choosing.ChosenNumbers.{ChosenNumbers}
 use Rattle.gateway.specs.declared.making.BuiltNumbers.{BuiltNumbers}
-use Rattle.gateway.specs.declared.looking.AnswerNumbers.{AnswerNumbers}
+use Rattle.walk.specs.declared.numbers.AnswerNumbers.{AnswerNumbers}
 
 -- ---- each call's numbers
 

@@ -25,7 +25,8 @@ use Rattle.supernodes.proofs.Unique.{bitmap-unique}
 use Rattle.choosers.proofs.Choosing.{chooses-unique}
 use Rattle.tries.proofs.Unique.{builds-unique}
 use Rattle.walk.proofs.Unique.{looked-unique}
-use Rattle.gateway.specs.Numbers.{Told, outcomeNumbers, sharedNumbers, spanNumbers, choiceNumbers, buildNumbers, bitmapNumbers, answerNumbers}
+use Rattle.walk.specs.Answers.{Told, answerNumbers}
+use Rattle.gateway.specs.Numbers.{outcomeNumbers, sharedNumbers, spanNumbers, choiceNumbers, buildNumbers, bitmapNumbers}
 use Rattle.gateway.specs.Allowed.{AllowedChoice, AllowedBuild, AllowedBitmap}
 use Rattle.gateway.specs.Batch.{Columns, columns, answerAt, BatchWritten, Answered}
 use Rattle.gateway.specs.declared.bitmaps.BuiltBitmapNumbers.{BuiltBitmapNumbers}
@@ -34,7 +35,7 @@ use Rattle.gateway.specs.declared.entries.SharedNumbers.{SharedNumbers}
 use Rattle.gateway.specs.declared.entries.SpanNumbers.{SpanNumbers}
 use Rattle.gateway.specs.declared.choosing.ChosenNumbers.{ChosenNumbers}
 use Rattle.gateway.specs.declared.making.BuiltNumbers.{BuiltNumbers}
-use Rattle.gateway.specs.declared.looking.AnswerNumbers.{AnswerNumbers}
+use Rattle.walk.specs.declared.numbers.AnswerNumbers.{AnswerNumbers}
 
 -- one answer is allowed, so one answer is told
 told-unique : {A B : Type 0} {Allows : A → Type 0} {numbers : A → B} → ((a b : A) → Allows a → Allows b → a ≡ b) → {r r′ : B}

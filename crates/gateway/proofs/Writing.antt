@@ -12,9 +12,9 @@ use Rattle.walk.specs.Rows.{Lists}
 use Rattle.walk.specs.Meaning.{Looked}
 use Rattle.walk.specs.declared.record.Record.{Record}
 use Rattle.walk.specs.declared.walk.Answer.{Answer}
-use Rattle.gateway.specs.Numbers.{Told, answerNumbers}
+use Rattle.walk.specs.Answers.{Told, answerNumbers}
 use Rattle.gateway.specs.Batch.{Columns, columns, answerAt, ExactAnswer, BatchWritten}
-use Rattle.gateway.specs.declared.looking.AnswerNumbers.{AnswerNumbers}
+use Rattle.walk.specs.declared.numbers.AnswerNumbers.{AnswerNumbers}
 
 -- both clauses of the lookup's promise
 abbrev pub Promised : Record → Lists → (address : ℕ) → Answer → Type 0

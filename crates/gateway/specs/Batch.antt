@@ -9,8 +9,8 @@ use Rattle.walk.specs.Rows.{Lists}
 use Rattle.walk.specs.Lookup.{lookupOf}
 use Rattle.walk.specs.declared.record.Record.{Record}
 use Rattle.walk.specs.declared.walk.Answer.{Answer}
-use Rattle.gateway.specs.Numbers.{Told, answerNumbers}
-use Rattle.gateway.specs.declared.looking.AnswerNumbers.{AnswerNumbers}
+use Rattle.walk.specs.Answers.{Told, answerNumbers}
+use Rattle.walk.specs.declared.numbers.AnswerNumbers.{AnswerNumbers}
 
 -- the answer lists
 pub record Columns : Type 0 where

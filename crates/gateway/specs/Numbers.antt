@@ -1,15 +1,12 @@
 -- Each answer as the C caller sees it: for each case of an answer the refusal's number, 0 where it is accepted, the detail, and
--- the values, which are 0 where it is refused.
-use mathlib.Core.Path.{_≡_}
+-- the values, which are 0 where it is refused. (A lookup's answer in numbers is walk's `answerNumbers`.)
 use Rattle.table.specs.Refusals.{outcomeNumber, outcomeDetail}
 use Rattle.table.specs.Answers.{sharedOutcome, sharedBits, spanOutcome, spanIndex, spanCount}
 use Rattle.table.specs.declared.entry.Outcome.{Outcome}
 use Rattle.table.specs.declared.sharing.Shared.{Shared}
 use Rattle.table.specs.declared.zoning.Span.{Span}
-use Rattle.walk.specs.Answers.{numberOf, hopOf, readsOf}
 use Rattle.choosers.specs.declared.chooser.Chosen.{Chosen}
 use Rattle.tries.specs.declared.building.Built.{Built}
-use Rattle.walk.specs.declared.walk.Answer.{Answer}
 use Rattle.supernodes.specs.declared.building.BuiltBitmap.{BuiltBitmap}
 use Rattle.gateway.specs.declared.bitmaps.BuiltBitmapNumbers.{BuiltBitmapNumbers}
 use Rattle.gateway.specs.declared.entries.Checked.{Checked}
@@ -17,11 +14,6 @@ use Rattle.gateway.specs.declared.entries.SharedNumbers.{SharedNumbers}
 use Rattle.gateway.specs.declared.entries.SpanNumbers.{SpanNumbers}
 use Rattle.gateway.specs.declared.choosing.ChosenNumbers.{ChosenNumbers}
 use Rattle.gateway.specs.declared.making.BuiltNumbers.{BuiltNumbers}
-use Rattle.gateway.specs.declared.looking.AnswerNumbers.{AnswerNumbers}
-
--- r is the numbers of an answer that the promise allows
-abbrev pub Told : {A B : Type 0} → (Allows : A → Type 0) (numbers : A → B) → B → Type 0
-Told {A} Allows numbers r = (a : A) × Allows a × (r ≡ numbers a)
 
 abbrev pub outcomeNumbers : Outcome → Checked
 outcomeNumbers o = record { number = outcomeNumber o; detail = outcomeDetail o }
@@ -43,6 +35,3 @@ buildNumbers b = record { number = outcomeNumber (b .outcome); detail = outcomeD
 
 abbrev pub bitmapNumbers : BuiltBitmap → BuiltBitmapNumbers
 bitmapNumbers b = record { number = outcomeNumber (b .outcome); detail = outcomeDetail (b .outcome); «record» = b .record }
-
-abbrev pub answerNumbers : Answer → AnswerNumbers
-answerNumbers a = record { number = numberOf a; hop = hopOf a; reads = readsOf a }

@@ -4,13 +4,13 @@ ghost use Rattle.walk.specs.Limits.{WIDTH};
 ghost use Rattle.visits.specs.Rows.{rowLists};
 ghost use Rattle.visits.specs.Lookup.{lookupBitmapOf};
 ghost use Rattle.visits.specs.Meaning.{LookedBitmap};
-ghost use Rattle.gateway.specs.Numbers.{Told, answerNumbers, bitmapNumbers};
+ghost use Rattle.walk.specs.Answers.{Told, answerNumbers};
+ghost use Rattle.gateway.specs.Numbers.{bitmapNumbers};
 ghost use Rattle.gateway.specs.Allowed.{ExactBitmap, AllowedBitmap};
 use crate::entries::outcome_numbers;
-use crate::looking::AnswerNumbers;
-use crate::looking::answer_numbers;
 use supernodes::BuiltBitmap;
 use visits::Bitmap;
+use walk::AnswerNumbers;
 
 #[repr(C)]
 pub struct BuiltBitmapNumbers {
@@ -74,7 +74,7 @@ pub extern "C" fn hongsamuk_build_bitmap(
 }
 
 // Looks the address up in rows of supernodes: tests 1, 8, 9. Over the record and lists that one accepted build left together it is the
-// hop of the longest prefix that begins the address, or none. No list changes.
+// hop of the longest prefix that begins the address, a discard's too, or none. No list changes.
 #[no_mangle]
 pub extern "C" fn hongsamuk_lookup_bitmap(
     rec: Bitmap,
@@ -93,5 +93,5 @@ pub extern "C" fn hongsamuk_lookup_bitmap(
         (rowLists (now (internal .entry)) (now (external .entry)) (now (child .entry)) (now (first .entry))) (now (hops .entry)) address)
         answerNumbers r ⌝ }
 {
-    answer_numbers(visits::lookup_bitmap(rec, internal, external, child, first, hops, address))
+    visits::lookup_bitmap_numbers(rec, internal, external, child, first, hops, address)
 }

@@ -19,7 +19,6 @@ pub use entries::SpanNumbers;
 pub use entries::hongsamuk_check;
 pub use entries::hongsamuk_shared_length;
 pub use entries::hongsamuk_zone_span;
-pub use looking::AnswerNumbers;
 pub use looking::hongsamuk_lookup;
 pub use looking::hongsamuk_lookup_batch;
 pub use making::BuiltNumbers;

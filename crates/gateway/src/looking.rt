@@ -2,64 +2,16 @@
 ghost use mathlib.Core.Path.{_≡_};
 ghost use Rattle.walk.specs.Limits.{WIDTH};
 ghost use Rattle.walk.specs.Rows.{lists};
-ghost use Rattle.walk.specs.Answers.{hopOf};
 ghost use Rattle.walk.specs.Lookup.{lookupOf};
 ghost use Rattle.walk.specs.Meaning.{Looked};
-ghost use Rattle.gateway.specs.Numbers.{Told, answerNumbers};
+ghost use Rattle.walk.specs.Answers.{Told, answerNumbers};
 ghost use Rattle.gateway.specs.Batch.{columns, ExactAnswer, Answered};
-use table::DISCARD;
 use table::smaller;
-use tries::Answer;
-use tries::Record;
-
-#[repr(C)]
-pub struct AnswerNumbers {
-    pub number: u32,
-    pub hop: u16,
-    pub reads: u32,
-}
-
-pub(crate) fn answer_numbers(answer: Answer) -> AnswerNumbers
-    ensures { λ r. ⌜ r ≡ answerNumbers answer ⌝ }
-{
-    match answer {
-        Answer::Match { hop, reads } => AnswerNumbers {
-            number: 0,
-            hop,
-            reads,
-        },
-        Answer::Discard { reads } => AnswerNumbers {
-            number: 0,
-            hop: DISCARD,
-            reads,
-        },
-        Answer::NoRoute { reads } => AnswerNumbers {
-            number: 0,
-            hop: 0,
-            reads,
-        },
-        Answer::Refused { number } => AnswerNumbers {
-            number,
-            hop: 0,
-            reads: 0,
-        },
-    }
-}
-
-// The hop alone: compiled, a choice without a jump, since whether there is a route is hard to foresee.
-fn hop_of(answer: Answer) -> u16
-    ensures { λ r. ⌜ r ≡ hopOf answer ⌝ }
-{
-    match answer {
-        Answer::Match { hop, reads: _ } => hop,
-        Answer::Discard { reads: _ } => DISCARD,
-        Answer::NoRoute { reads: _ } => 0,
-        Answer::Refused { number: _ } => 0,
-    }
-}
+use walk::AnswerNumbers;
+use walk::Record;
 
 // Looks the address up: tests 1, 2, 8, 9. Over the record and lists that one accepted build left together it is the hop of the longest
-// prefix that begins the address, or none. No list changes.
+// prefix that begins the address, a discard's too, or none. No list changes.
 #[no_mangle]
 pub extern "C" fn hongsamuk_lookup(
     rec: Record,
@@ -72,13 +24,7 @@ pub extern "C" fn hongsamuk_lookup(
     ensures meaning { λ r. ⌜
         Told (Looked WIDTH rec (lists (now (hops .entry)) (now (links .entry)) (now (strides .entry))) address) answerNumbers r ⌝ }
 {
-    let answer = tries::lookup(rec, hops, links, strides, address);
-    let found = answer_numbers(answer);
-    AnswerNumbers {
-        number: found.number,
-        hop: hop_of(answer),
-        reads: found.reads,
-    }
+    walk::lookup_numbers(rec, hops, links, strides, address)
 }
 
 // Lookups one after the other: as many as the shortest of the address list and the three answer lists has. Number, hop and reads
@@ -109,7 +55,7 @@ pub extern "C" fn hongsamuk_lookup_batch(
     );
     let mut i = 0;
     while i < n {
-        let found = answer_numbers(tries::lookup(rec, hops, links, strides, address[i]));
+        let found = walk::lookup_numbers(rec, hops, links, strides, address[i]);
         number[i] = found.number;
         hop[i] = found.hop;
         reads[i] = found.reads;

@@ -15,7 +15,8 @@ use Rattle.walk.specs.declared.walk.Answer.{Answer}
 use Rattle.walk.specs.declared.walk.Answer.the-variants.{Refused}
 use Rattle.walk.specs.Limits.{Within}
 use Rattle.walk.specs.Refusals.{fails, passes}
-use Rattle.walk.specs.Answers.{numberOf, answer}
+use Rattle.walk.specs.declared.numbers.AnswerNumbers.{AnswerNumbers}
+use Rattle.walk.specs.Answers.{numberOf, answer, answerNumbers, Told}
 use Rattle.walk.proofs.Tests.{within-not}
 use Rattle.walk.proofs.Answers.{answer-has, answer-number, answer-case}
 use Rattle.pieces.specs.Maps.{STEP}
@@ -106,7 +107,11 @@ module _ (most : ℕ) (rec : Bitmap) (rows : RowLists) (hops : List ℕ) (addres
       (λ w a d. refused-looked (nine w a (⊎-elim rows-short hops-short d)) (omega arith))
       past-tests
 
-  -- the promise's two clauses, from the first
+  -- the promise's two clauses, from the first: in numbers, and as an answer
+  pub promised-bitmap-numbers : {r : AnswerNumbers} → r ≡ answerNumbers (lookupBitmapOf most rec rows hops address)
+      → (r ≡ answerNumbers (lookupBitmapOf most rec rows hops address)) × Told (LookedBitmap most rec rows hops address) answerNumbers r
+  promised-bitmap-numbers e = (e, (lookupBitmapOf most rec rows hops address, looked-bitmap, e))
+
   pub promised-bitmap : {a : Answer} → a ≡ lookupBitmapOf most rec rows hops address
       → (a ≡ lookupBitmapOf most rec rows hops address) × LookedBitmap most rec rows hops address a
   promised-bitmap e = (e, rw e looked-bitmap)

@@ -10,4 +10,5 @@ pub use limits::INTERNAL;
 pub use limits::STEP;
 pub use looking::Best;
 pub use looking::lookup_bitmap;
+pub use looking::lookup_bitmap_numbers;
 pub use record::Bitmap;

@@ -7,6 +7,7 @@ ghost use lib.ListN.{length};
 ghost use lib.Dec.{ltb};
 ghost use Rattle.table.specs.Table.{at};
 ghost use Rattle.walk.specs.Limits.{WIDTH};
+ghost use Rattle.walk.specs.Answers.{Told, answerNumbers};
 ghost use Rattle.pieces.specs.Maps.{STEP, maskOf};
 ghost use Rattle.visits.specs.Rows.{rowLists, rowRoom, supernodeAt};
 ghost use Rattle.visits.specs.Lookup.{betterOf, tellBest, visitFrom, listsShort, bitmapRefusal, lookupBitmapOf};
@@ -24,8 +25,11 @@ use table::WIDTH;
 use table::is_outside;
 use table::smaller;
 use walk::Answer;
-use walk::finish;
+use walk::AnswerNumbers;
+use walk::answer_of;
+use walk::ended;
 use walk::is_beyond;
+use walk::refused;
 
 // The longest match so far: the number of its hop.
 pub enum Best {
@@ -48,17 +52,17 @@ fn better(map: u16, first: u32, mask: u16, left: u32, best: Best) -> Best
 }
 
 // What the best says: its hop's number is below the count, or that is damage.
-fn told(best: Best, reads: u32, hops: &[u16], count: usize) -> Answer
+fn told(best: Best, reads: u32, hops: &[u16], count: usize) -> AnswerNumbers
     requires { ⌜ count ≤ length (now hops) ⌝ }
-    ensures { λ r. ⌜ r ≡ tellBest count (at (now (hops .entry))) best reads ⌝ }
+    ensures { λ r. ⌜ r ≡ answerNumbers (tellBest count (at (now (hops .entry))) best reads) ⌝ }
 {
     match best {
-        Best::Missing => finish(0, reads),
+        Best::Missing => ended(0, reads),
         Best::Won { place } => {
             if count <= place {
-                return Answer::Refused { number: 9 };
+                return refused(9);
             }
-            finish(hops[place], reads)
+            ended(hops[place], reads)
         }
     }
 }
@@ -75,14 +79,14 @@ fn follow(
     child: &[u32],
     first: &[u32],
     hops: &[u16],
-) -> Answer
+) -> AnswerNumbers
     requires { ⌜
         (width ≤ WIDTH) × (supernodes ≤ rowRoom (rowLists (now internal) (now external) (now child) (now first)))
         × (winners ≤ length (now hops)) ⌝ }
     ensures { λ r. ⌜
-        r ≡ visitFrom supernodes winners address
+        r ≡ answerNumbers (visitFrom supernodes winners address
         (supernodeAt (rowLists (now (internal .entry)) (now (external .entry)) (now (child .entry)) (now (first .entry))))
-        (at (now (hops .entry))) (suc (width / STEP)) 0 width Missing 0 ⌝ }
+        (at (now (hops .entry))) (suc (width / STEP)) 0 width Missing 0) ⌝ }
 {
     let table = masks();
     let mut i: usize = 0;
@@ -98,12 +102,12 @@ fn follow(
             return told(best, reads, hops, winners);
         }
         if left < STEP {
-            return Answer::Refused { number: 9 };
+            return refused(9);
         }
         left -= STEP;
         i = child[i] as usize + ones_before(map, p) as usize;
     }
-    Answer::Refused { number: 9 }
+    refused(9)
 }
 
 // Refusal 9 before a row is read: a count exceeds its list.
@@ -129,8 +133,50 @@ fn first_refusal(rec: Bitmap, rows: usize, places: usize, address: u32) -> u32
     0
 }
 
-// One lookup over supernodes, any record and any lists. It answers a match with its hop and reads, a discard or no route with its
-// reads, or a refusal: 1 (width), 8 (address) or 9 (damaged record or rows). No list changes.
+// One lookup over supernodes, any record and any lists, in numbers: 0, hop and reads; or the number of a refusal, 1 (width), 8 (address) or
+// 9 (damaged record or rows), and hop and reads 0. No list changes.
+pub fn lookup_bitmap_numbers(
+    rec: Bitmap,
+    internal: &[u16],
+    external: &[u16],
+    child: &[u32],
+    first: &[u32],
+    hops: &[u16],
+    address: u32,
+) -> AnswerNumbers
+    ensures exact { λ r. ⌜
+        r ≡ answerNumbers (lookupBitmapOf WIDTH rec
+        (rowLists (now (internal .entry)) (now (external .entry)) (now (child .entry)) (now (first .entry))) (now (hops .entry)) address) ⌝ }
+    ensures meaning { λ r. ⌜
+        Told (LookedBitmap WIDTH rec
+        (rowLists (now (internal .entry)) (now (external .entry)) (now (child .entry)) (now (first .entry))) (now (hops .entry)) address)
+        answerNumbers r ⌝ }
+{
+    let rows = smaller(
+        smaller(internal.len(), external.len()),
+        smaller(child.len(), first.len()),
+    );
+    let refusal = first_refusal(rec, rows, hops.len(), address);
+    if refusal != 0 {
+        return refused(refusal);
+    }
+    if rec.supernodes == 0 {
+        return ended(0, 0);
+    }
+    follow(
+        rec.supernodes as usize,
+        rec.hops as usize,
+        address,
+        rec.width,
+        internal,
+        external,
+        child,
+        first,
+        hops,
+    )
+}
+
+// The same as an answer: a match with its hop and reads, a discard or no route with its reads, or a refusal.
 pub fn lookup_bitmap(
     rec: Bitmap,
     internal: &[u16],
@@ -147,26 +193,5 @@ pub fn lookup_bitmap(
         LookedBitmap WIDTH rec (rowLists (now (internal .entry)) (now (external .entry)) (now (child .entry)) (now (first .entry)))
         (now (hops .entry)) address r ⌝ }
 {
-    let rows = smaller(
-        smaller(internal.len(), external.len()),
-        smaller(child.len(), first.len()),
-    );
-    let refusal = first_refusal(rec, rows, hops.len(), address);
-    if refusal != 0 {
-        return Answer::Refused { number: refusal };
-    }
-    if rec.supernodes == 0 {
-        return finish(0, 0);
-    }
-    follow(
-        rec.supernodes as usize,
-        rec.hops as usize,
-        address,
-        rec.width,
-        internal,
-        external,
-        child,
-        first,
-        hops,
-    )
+    answer_of(lookup_bitmap_numbers(rec, internal, external, child, first, hops, address))
 }

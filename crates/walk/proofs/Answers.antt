@@ -11,7 +11,8 @@ use borrow.Author.Tests.{eqb-true, eqb-false, ne-eqb}
 use Rattle.table.specs.Limits.{discardHop}
 use Rattle.walk.specs.declared.walk.Answer.{Answer}
 use Rattle.walk.specs.declared.walk.Answer.the-variants.{Match, Discard, NoRoute, Refused}
-use Rattle.walk.specs.Answers.{numberOf, hopOf, readsOf, Case, answer}
+use Rattle.walk.specs.declared.numbers.AnswerNumbers.{AnswerNumbers}
+use Rattle.walk.specs.Answers.{numberOf, hopOf, readsOf, Case, answer, answerNumbers, answerOf}
 
 -- what `answer` makes is accepted, has the hop and the reads that it was made of, and is of the right case
 answer-parts : (best reads : ℕ) → let a = answer best reads in (numberOf a ≡ 0) × (hopOf a ≡ best) × (readsOf a ≡ reads) × Case a
@@ -33,6 +34,10 @@ answer-has best reads = let p = answer-parts best reads in (p .1, p .2)
 
 pub answer-case : (best reads : ℕ) → Case (answer best reads)
 answer-case best reads = answer-parts best reads .3
+
+-- so its numbers are those
+pub ended-numbers : (best reads : ℕ) → _≡_ {A = AnswerNumbers} (record { number = 0; hop = best; reads = reads }) (answerNumbers (answer best reads))
+ended-numbers best reads = let p = answer-parts best reads in rw (p .0, p .1, p .2)
 
 -- a refused lookup has no hop and 0 reads
 pub refused-none : (a : Answer) → 0 < numberOf a → (hopOf a ≡ 0) × (readsOf a ≡ 0)
@@ -68,3 +73,11 @@ discard-hop (Match h r) c = (λ (e : Match h r ≡ Discard r). ap hopOf e, λ (e
 discard-hop (Discard r) c = (λ e. refl, λ e. refl)
 discard-hop (NoRoute r) c = (λ (e : NoRoute r ≡ Discard r). ap hopOf e, λ (e : 0 ≡ discardHop). absurd (omega arith))
 discard-hop (Refused n) c = (λ (e : Refused n ≡ Discard 0). ap hopOf e, λ (e : 0 ≡ discardHop). absurd (omega arith))
+
+-- the numbers of an answer say that answer
+pub answer-again : (a : Answer) → Case a → answerOf (answerNumbers a) ≡ a
+unfolding answerOf answer
+answer-again (Match h r) c = sym (accepted-is (Match h r) refl c)
+answer-again (Discard r) c = refl
+answer-again (NoRoute r) c = refl
+answer-again (Refused n) c = simp (ne-eqb n 0 (λ (e : n ≡ 0). omega (arith, c)))

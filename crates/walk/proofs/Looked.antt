@@ -16,7 +16,8 @@ use Rattle.walk.specs.declared.walk.Answer.the-variants.{Refused}
 use Rattle.walk.specs.Limits.{LEVELS, Within}
 use Rattle.walk.specs.Refusals.{fails, passes}
 use Rattle.walk.specs.Rows.{Lists, shortest, rowAt, root}
-use Rattle.walk.specs.Answers.{numberOf, latest, answer, Case}
+use Rattle.walk.specs.declared.numbers.AnswerNumbers.{AnswerNumbers}
+use Rattle.walk.specs.Answers.{numberOf, latest, answer, Case, answerNumbers, Told}
 use Rattle.walk.specs.Lookup.{ended, tell, fromRoot, pathOf, lookupOf}
 use Rattle.walk.specs.Meaning.{Passed, FromRoot, Damage, short, rootless, breaks, OnPath, empty, walked, Tested, Looked}
 use Rattle.walk.proofs.Tests.{within-not, refusal-cases}
@@ -81,7 +82,11 @@ module _ (most : ℕ) (rec : Record) (ls : Lists) (address : ℕ) where
       (λ w k a d. refused-looked (nine w k a (⊎-elim short (λ (z : (root rec ≡ 0) × (0 < rec .elements)). rootless (z .0) (z .1)) d)) (omega arith))
       past-tests
 
-  -- the promise's two clauses, from the first
+  -- the promise's two clauses, from the first: in numbers, and as an answer
+  pub promised-numbers : {r : AnswerNumbers} → r ≡ answerNumbers (lookupOf most rec ls address)
+      → (r ≡ answerNumbers (lookupOf most rec ls address)) × Told (Looked most rec ls address) answerNumbers r
+  promised-numbers e = (e, (lookupOf most rec ls address, looked, e))
+
   pub promised : {a : Answer} → a ≡ lookupOf most rec ls address → (a ≡ lookupOf most rec ls address) × Looked most rec ls address a
   promised e = (e, rw e looked)
 

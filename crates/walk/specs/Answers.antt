@@ -8,6 +8,7 @@ use mathlib.Core.List.{List, [], _∷_}
 use lib.Dec.{eqb}
 use Rattle.walk.specs.declared.walk.Answer.{Answer}
 use Rattle.walk.specs.declared.walk.Answer.the-variants.{Match, Discard, NoRoute, Refused}
+use Rattle.walk.specs.declared.numbers.AnswerNumbers.{AnswerNumbers}
 use Rattle.table.specs.Limits.{discardHop}
 use Rattle.table.specs.Longest.{newer}
 use Rattle.walk.specs.Rows.{Row}
@@ -51,3 +52,15 @@ latest at best (r ∷ rs) = latest at (newer (at r .hop) best) rs
 -- hop 0 is no route, that of a discard a discard
 unfoldable pub answer : (best reads : ℕ) → Answer
 answer best reads = cond (eqb best 0) (NoRoute reads) (cond (eqb best discardHop) (Discard reads) (Match best reads))
+
+-- ---- in numbers
+abbrev pub answerNumbers : Answer → AnswerNumbers
+answerNumbers a = record { number = numberOf a; hop = hopOf a; reads = readsOf a }
+
+-- r is the numbers of an answer that the promise allows
+abbrev pub Told : {A B : Type 0} → (Allows : A → Type 0) (numbers : A → B) → B → Type 0
+Told {A} Allows numbers r = (a : A) × Allows a × (r ≡ numbers a)
+
+-- the answer that numbers say
+unfoldable pub answerOf : AnswerNumbers → Answer
+answerOf n = cond (eqb (n .number) 0) (answer (n .hop) (n .reads)) (Refused (n .number))

@@ -2,12 +2,17 @@
 // builder wrote and any damage besides, so it stands apart from the builders and sees the table's rules only.
 mod address;
 mod limits;
+mod numbers;
 mod record;
 mod walk;
 
 pub use address::is_beyond;
 pub use limits::LEVELS;
+pub use numbers::AnswerNumbers;
+pub use numbers::ended;
+pub use numbers::refused;
 pub use record::Record;
 pub use walk::Answer;
-pub use walk::finish;
+pub use walk::answer_of;
 pub use walk::lookup;
+pub use walk::lookup_numbers;

@@ -6,12 +6,15 @@ ghost use Prim.Native.Nat.{_≤_};
 ghost use Rattle.table.specs.Longest.{newer};
 ghost use Rattle.walk.specs.Limits.{WIDTH};
 ghost use Rattle.walk.specs.Rows.{lists, shortest, rowAt};
-ghost use Rattle.walk.specs.Answers.{answer};
+ghost use Rattle.walk.specs.Answers.{Told, answerNumbers, answerOf};
 ghost use Rattle.walk.specs.Lookup.{walk, unfit, refusalOf, lookupOf};
 ghost use Rattle.walk.specs.Meaning.{Looked};
 use crate::address::cut;
 use crate::address::is_beyond;
 use crate::limits::LEVELS;
+use crate::numbers::AnswerNumbers;
+use crate::numbers::ended;
+use crate::numbers::refused;
 use crate::record::Record;
 use table::DISCARD;
 use table::WIDTH;
@@ -32,19 +35,28 @@ fn newer(hop: u16, best: u16) -> u16
     if hop == 0 { best } else { hop }
 }
 
-// What a lookup answers where it ends with the hop `best` after so many reads: hop 0 is no route, DISCARD a discard.
-pub fn finish(best: u16, reads: u32) -> Answer
-    ensures { λ r. ⌜ r ≡ answer best reads ⌝ }
+// The answer that numbers say: hop 0 is no route, DISCARD a discard.
+pub fn answer_of(numbers: AnswerNumbers) -> Answer
+    ensures { λ r. ⌜ r ≡ answerOf numbers ⌝ }
 {
-    if best == 0 {
-        Answer::NoRoute { reads: reads }
-    } else if best == DISCARD {
-        Answer::Discard { reads: reads }
-    } else {
-        Answer::Match {
-            hop: best,
-            reads: reads,
-        }
+    if numbers.number != 0 {
+        return Answer::Refused {
+            number: numbers.number,
+        };
+    }
+    if numbers.hop == 0 {
+        return Answer::NoRoute {
+            reads: numbers.reads,
+        };
+    }
+    if numbers.hop == DISCARD {
+        return Answer::Discard {
+            reads: numbers.reads,
+        };
+    }
+    Answer::Match {
+        hop: numbers.hop,
+        reads: numbers.reads,
     }
 }
 
@@ -60,10 +72,11 @@ fn follow(
     root: u32,
     width: u32,
     floor: u16,
-) -> Answer
+) -> AnswerNumbers
     requires { ⌜ (elements ≤ shortest (lists (now hop) (now link) (now stride))) × (width ≤ WIDTH) ⌝ }
     ensures { λ r. ⌜
-        r ≡ walk elements address (rowAt (lists (now (hop .entry)) (now (link .entry)) (now (stride .entry)))) levels 0 root width floor 0 ⌝ }
+        r ≡ answerNumbers
+        (walk elements address (rowAt (lists (now (hop .entry)) (now (link .entry)) (now (stride .entry)))) levels 0 root width floor 0) ⌝ }
 {
     let mut base: usize = 0;
     let mut s: u32 = root;
@@ -72,26 +85,26 @@ fn follow(
     let mut reads: u32 = 0;
     while reads < levels {
         if s == 0 {
-            return Answer::Refused { number: 9 };
+            return refused(9);
         }
         if left < s {
-            return Answer::Refused { number: 9 };
+            return refused(9);
         }
         left -= s;
         let row = base + cut(address, left, s);
         if elements <= row {
-            return Answer::Refused { number: 9 };
+            return refused(9);
         }
         best = newer(hop[row], best);
         reads += 1;
         let next = link[row];
         if next == 0 {
-            return finish(best, reads);
+            return ended(best, reads);
         }
         base = next as usize;
         s = stride[row] as u32;
     }
-    Answer::Refused { number: 9 }
+    refused(9)
 }
 
 // Refusal 9 before a row is read: E exceeds the rows of the lists, or the root's stride is 0 while E is not.
@@ -120,20 +133,28 @@ fn first_refusal(rec: Record, rows: usize, address: u32) -> u32
     0
 }
 
-// One lookup, over any record and any lists. It answers a match with its hop and reads, a discard or no route
-// with its reads, or a refusal: 1 (width), 2 (levels), 8 (address) or 9 (damaged record or rows). No list changes.
-pub fn lookup(rec: Record, hop: &[u16], link: &[u32], stride: &[u8], address: u32) -> Answer
-    ensures exact { λ r. ⌜ r ≡ lookupOf WIDTH rec (lists (now (hop .entry)) (now (link .entry)) (now (stride .entry))) address ⌝ }
-    ensures meaning { λ r. ⌜ Looked WIDTH rec (lists (now (hop .entry)) (now (link .entry)) (now (stride .entry))) address r ⌝ }
+// One lookup, over any record and any lists, in numbers: 0, hop and reads; or the number of a refusal, 1 (width), 2 (levels), 8 (address)
+// or 9 (damaged record or rows), and hop and reads 0. No list changes.
+pub fn lookup_numbers(
+    rec: Record,
+    hop: &[u16],
+    link: &[u32],
+    stride: &[u8],
+    address: u32,
+) -> AnswerNumbers
+    ensures exact { λ r. ⌜
+        r ≡ answerNumbers (lookupOf WIDTH rec (lists (now (hop .entry)) (now (link .entry)) (now (stride .entry))) address) ⌝ }
+    ensures meaning { λ r. ⌜
+        Told (Looked WIDTH rec (lists (now (hop .entry)) (now (link .entry)) (now (stride .entry))) address) answerNumbers r ⌝ }
 {
     let rows = smaller(hop.len(), smaller(link.len(), stride.len()));
     let refusal = first_refusal(rec, rows, address);
     if refusal != 0 {
-        return Answer::Refused { number: refusal };
+        return refused(refusal);
     }
     let root = rec.strides[0] as u32;
     if root == 0 {
-        return finish(rec.floor, 0);
+        return ended(rec.floor, 0);
     }
     follow(
         rec.elements as usize,
@@ -146,4 +167,12 @@ pub fn lookup(rec: Record, hop: &[u16], link: &[u32], stride: &[u8], address: u3
         rec.width,
         rec.floor,
     )
+}
+
+// The same as an answer: a match with its hop and reads, a discard or no route with its reads, or a refusal.
+pub fn lookup(rec: Record, hop: &[u16], link: &[u32], stride: &[u8], address: u32) -> Answer
+    ensures exact { λ r. ⌜ r ≡ lookupOf WIDTH rec (lists (now (hop .entry)) (now (link .entry)) (now (stride .entry))) address ⌝ }
+    ensures meaning { λ r. ⌜ Looked WIDTH rec (lists (now (hop .entry)) (now (link .entry)) (now (stride .entry))) address r ⌝ }
+{
+    answer_of(lookup_numbers(rec, hop, link, stride, address))
 }

@@ -1,9 +1,12 @@
 -- The first i lookups are written, by both clauses of the lookup's promise.
-use mathlib.Core.Path.{_≡_}
+use mathlib.Core.Path.{_≡_, refl}
 use Prim.Native.Nat.{_-_, _≤_}
 use native.Mathlib.Omega.{arith}
 use borrow.Author.Needs.{needs}
+use Rattle.walk.specs.Limits.{WIDTH}
 use Rattle.walk.specs.Rows.{lists}
+use Rattle.walk.specs.Lookup.{lookupOf}
+use Rattle.walk.proofs.Looked.{looked}
 use Rattle.gateway.specs.Batch.{columns, BatchWritten}
 use Rattle.gateway.proofs.Writing.{Promised, written-none, written-more, written-by}
 use Rattle.gateway.proofs.looking.hongsamuk_lookup_batch.Statement.{statement}
@@ -28,17 +31,14 @@ smaller-requires-3 c κs = search needs
 loop-holds : tie.Need-loop-holds Inv-loop μ-loop
 loop-holds c = (omega arith, written-none)
 
-mul-lookup : tie.Need-mul-lookup Inv-loop μ-loop
-mul-lookup c = search needs
+mul-lookup-numbers : tie.Need-mul-lookup-numbers Inv-loop μ-loop
+mul-lookup-numbers c = search needs
 
-shared-slice-read-lookup : tie.Need-shared-slice-read-lookup Inv-loop μ-loop
-shared-slice-read-lookup c = search needs
+shared-slice-read-lookup-numbers : tie.Need-shared-slice-read-lookup-numbers Inv-loop μ-loop
+shared-slice-read-lookup-numbers c = search needs
 
-lookup-requires : tie.Need-lookup-requires Inv-loop μ-loop
-lookup-requires c κs = search needs
-
-answer-numbers-requires : tie.Need-answer-numbers-requires Inv-loop μ-loop
-answer-numbers-requires c κs = search needs
+lookup-numbers-requires : tie.Need-lookup-numbers-requires Inv-loop μ-loop
+lookup-numbers-requires c κs = search needs
 
 mul-number : tie.Need-mul-number Inv-loop μ-loop
 mul-number c = search needs
@@ -66,8 +66,11 @@ loop-less c = search needs
 
 loop-again : tie.Need-loop-again Inv-loop μ-loop
 loop-again c =
-    let w = c .before .before .before .before .loop .inv .1 in
-    (omega arith, written-more w (omega (arith, w .numbers)) (omega (arith, w .hops)) (omega (arith, w .counts)) (c .before .lookup .result, c .before .lookup .ensures, c .answer-numbers .ensures))
+    let w = c .before .before .before .loop .inv .1 in (
+      omega arith,
+      written-more w (omega (arith, w .numbers)) (omega (arith, w .hops)) (omega (arith, w .counts))
+          (lookupOf WIDTH _ _ _, (refl, looked WIDTH _ _ _), c .lookup-numbers .ensures .0),
+    )
 
 same-length : tie.Need-same-length Inv-loop μ-loop
 same-length c = c .before .loop .inv .1 .numbers
@@ -96,10 +99,9 @@ hongsamuk-lookup-batch-spec =
     smaller-requires-2
     smaller-requires-3
     loop-holds
-    mul-lookup
-    shared-slice-read-lookup
-    lookup-requires
-    answer-numbers-requires
+    mul-lookup-numbers
+    shared-slice-read-lookup-numbers
+    lookup-numbers-requires
     mul-number
     slice-write-number
     mul-hop

@@ -1,10 +1,11 @@
-use mathlib.Core.Path.{_≡_, refl, sym, _∙_}
+use mathlib.Core.Path.{_≡_, refl, sym, ap, _∙_}
 use native.Mathlib.Omega.{arith}
 use Prim.Native.Nat.{suc, _+_, _/_, _≤_}
 use native.Mathlib.Nat.{le-refl}
 use borrow.Author.Needs.{needs}
 use borrow.Author.Tests.{not-true, not-false}
 use Rattle.table.specs.Table.{at}
+use Rattle.walk.specs.Answers.{answerNumbers}
 use Rattle.pieces.specs.Maps.{STEP}
 use Rattle.visits.specs.declared.looking.Best.the-variants.{Missing}
 use Rattle.visits.specs.Rows.{rowLists, supernodeAt}
@@ -76,19 +77,25 @@ returns c =
     let l = c .before .before .before .before .before .before .before .before .before .loop in
     let p = c .before .before .before .before .before .before .before .path-at .ensures in
     c .told .ensures
-    ∙ sym (visit-ends _ _ _ _ _ _ (l .i) (l .left) (l .best) (l .reads) refl (c .before .before .before .before .before .before .before .before .loop-test .taken) (p .0)
+    ∙ ap answerNumbers
+    (sym (visit-ends _ _ _ _ _ _ (l .i) (l .left) (l .best) (l .reads) refl (c .before .before .before .before .before .before .before .before .loop-test .taken) (p .0)
     (c .before .before .before .before .better .ensures _ (c .before .before .before .before .before .before .before .before .before .before .masks .ensures .each _ (p .1)))
     (c .before .before .is-set .ensures) (not-true _ (c .before .if1 .taken)))
-    ∙ l .inv .2
+    ∙ l .inv .2)
+
+refused-requires : tie.Need-refused-requires Inv-loop μ-loop
+refused-requires c κs = search needs
 
 returns-2 : tie.Need-returns-2 Inv-loop μ-loop
 returns-2 c =
-    let l = c .before .before .before .before .before .before .before .before .before .loop in
-    let p = c .before .before .before .before .before .before .before .path-at .ensures in
-    sym (visit-breaks _ _ _ _ _ _ (l .i) (l .left) (l .best) (l .reads) refl (c .before .before .before .before .before .before .before .before .loop-test .taken) (p .0)
-    (c .before .before .before .before .better .ensures _ (c .before .before .before .before .before .before .before .before .before .before .masks .ensures .each _ (p .1)))
-    (c .before .before .is-set .ensures) (not-false _ (c .before .if1 .left)) (omega (arith, c .if2 .taken)))
-    ∙ l .inv .2
+    let l = c .before .before .before .before .before .before .before .before .before .before .loop in
+    let p = c .before .before .before .before .before .before .before .before .path-at .ensures in
+    c .refused .ensures
+    ∙ ap answerNumbers
+    (sym (visit-breaks _ _ _ _ _ _ (l .i) (l .left) (l .best) (l .reads) refl (c .before .before .before .before .before .before .before .before .before .loop-test .taken) (p .0)
+    (c .before .before .before .before .before .better .ensures _ (c .before .before .before .before .before .before .before .before .before .before .before .masks .ensures .each _ (p .1)))
+    (c .before .before .before .is-set .ensures) (not-false _ (c .before .before .if1 .left)) (omega (arith, c .before .if2 .taken)))
+    ∙ l .inv .2)
 
 mul-i : tie.Need-mul-i Inv-loop μ-loop
 mul-i c = search needs
@@ -129,10 +136,13 @@ loop-again c =
           ∙ l .inv .2,
     )
 
+refused-requires-2 : tie.Need-refused-requires-2 Inv-loop μ-loop
+refused-requires-2 c κs = search needs
+
 returns-3 : tie.Need-returns-3 Inv-loop μ-loop
 returns-3 c =
-    let l = c .before .loop in
-    sym (visit-stops _ _ _ _ _ _ (l .i) (l .left) (l .best) (l .reads) (c .loop-test .left)) ∙ l .inv .2
+    let l = c .before .before .loop in
+    c .refused2 .ensures ∙ ap answerNumbers (sym (visit-stops _ _ _ _ _ _ (l .i) (l .left) (l .best) (l .reads) (c .before .loop-test .left)) ∙ l .inv .2)
 
 pub follow-spec : {M : Type 1} → statement M
 follow-spec =
@@ -156,6 +166,7 @@ follow-spec =
     is-set-requires
     told-requires
     returns
+    refused-requires
     returns-2
     mul-i
     shared-slice-read-i
@@ -165,4 +176,5 @@ follow-spec =
     add-i
     loop-less
     loop-again
+    refused-requires-2
     returns-3)

@@ -1,69 +1,21 @@
-use mathlib.Core.Path.{_≡_, sym, _∙_}
+use mathlib.Core.Path.{_∙_, ap}
 use borrow.Author.Needs.{needs}
-use Rattle.walk.specs.Limits.{WIDTH}
-use Rattle.walk.specs.Rows.{lists, shortest}
-use Rattle.walk.specs.Lookup.{refusalOf}
-use Rattle.walk.proofs.Tests.{tests-passed}
-use Rattle.walk.proofs.Walks.{lookup-early, lookup-empty, lookup-walks}
-use Rattle.walk.proofs.Looked.{promised}
+use Rattle.walk.specs.Answers.{answerOf}
+use Rattle.walk.proofs.Answers.{answer-again}
+use Rattle.walk.proofs.Looked.{looked, promised}
 use Rattle.walk.proofs.walk.lookup.Statement.{statement}
 use Rattle.walk.proofs.walk.lookup.Tie as tie
 
--- the number that the tests gave is that of the shortest list
-number : (c : tie.After-first-refusal) → let a = c .before .before .before .before .before .before .args in
-    c .first-refusal .result ≡ refusalOf WIDTH (a .t1) (shortest (lists (a .hop .now) (a .link .now) (a .stride .now))) (a .address)
-number c = rw (c .before .smaller2 .ensures, c .before .before .smaller .ensures) at (c .first-refusal .ensures)
+lookup-numbers-requires : tie.Need-lookup-numbers-requires
+lookup-numbers-requires c κs = search needs
 
--- no test failed
-zero-number : (c : tie.Else1) → let a = c .before .before .before .before .before .before .before .args in
-    refusalOf WIDTH (a .t1) (shortest (lists (a .hop .now) (a .link .now) (a .stride .now))) (a .address) ≡ 0
-zero-number c = sym (number (c .before)) ∙ c .if1 .left
-
-smaller-requires : tie.Need-smaller-requires
-smaller-requires c κs = search needs
-
-smaller-requires-2 : tie.Need-smaller-requires-2
-smaller-requires-2 c κs = search needs
-
-first-refusal-requires : tie.Need-first-refusal-requires
-first-refusal-requires c κs = search needs
+answer-of-requires : tie.Need-answer-of-requires
+answer-of-requires c κs = search needs
 
 returns : tie.Need-returns
-returns c = promised _ _ _ _ (sym (lookup-early _ _ _ _ (number (c .before)) (c .if1 .taken)))
-
-element-copy-out-root : tie.Need-element-copy-out-root
-element-copy-out-root c = search needs
-
-cast-root : tie.Need-cast-root
-cast-root c = search needs
-
-finish-requires : tie.Need-finish-requires
-finish-requires c κs = search needs
-
-returns-2 : tie.Need-returns-2
-returns-2 c = promised _ _ _ _ (c .finish .ensures ∙ sym (lookup-empty _ _ _ _ (zero-number (c .before .before .before)) (c .before .if2 .taken)))
-
-cast-follow : tie.Need-cast-follow
-cast-follow c = search needs
-
-follow-requires : tie.Need-follow-requires
-follow-requires c κs = let p = tests-passed _ _ _ _ (zero-number (c .before .before)) in (p .enough, p .width .1)
-
-returns-3 : tie.Need-returns-3
-returns-3 c = promised _ _ _ _ (c .follow .ensures ∙ sym (lookup-walks _ _ _ _ (zero-number (c .before .before .before)) (c .before .if2 .left)))
+returns c =
+    promised _ _ _ _
+    (c .answer-of .ensures ∙ ap answerOf (c .before .lookup-numbers .ensures .0) ∙ answer-again _ (looked _ _ _ _ .case))
 
 pub lookup-spec : {M : Type 1} → statement M
-lookup-spec =
-    tie.close
-    (tie.spec
-    smaller-requires
-    smaller-requires-2
-    first-refusal-requires
-    returns
-    element-copy-out-root
-    cast-root
-    finish-requires
-    returns-2
-    cast-follow
-    follow-requires
-    returns-3)
+lookup-spec = tie.close (tie.spec lookup-numbers-requires answer-of-requires returns)

@@ -1,0 +1,78 @@
+use mathlib.Core.Path.{_≡_, sym, ap, _∙_}
+use borrow.Author.Needs.{needs}
+use Rattle.walk.specs.Limits.{WIDTH}
+use Rattle.walk.specs.Rows.{lists, shortest}
+use Rattle.walk.specs.Answers.{answerNumbers}
+use Rattle.walk.specs.Lookup.{refusalOf}
+use Rattle.walk.proofs.Tests.{tests-passed}
+use Rattle.walk.proofs.Walks.{lookup-early, lookup-empty, lookup-walks}
+use Rattle.walk.proofs.Looked.{promised-numbers}
+use Rattle.walk.proofs.walk.lookup_numbers.Statement.{statement}
+use Rattle.walk.proofs.walk.lookup_numbers.Tie as tie
+
+-- the number that the tests gave is that of the shortest list
+number : (c : tie.After-first-refusal) → let a = c .before .before .before .before .before .before .args in
+    c .first-refusal .result ≡ refusalOf WIDTH (a .t1) (shortest (lists (a .hop .now) (a .link .now) (a .stride .now))) (a .address)
+number c = rw (c .before .smaller2 .ensures, c .before .before .smaller .ensures) at (c .first-refusal .ensures)
+
+-- no test failed
+zero-number : (c : tie.Else1) → let a = c .before .before .before .before .before .before .before .args in
+    refusalOf WIDTH (a .t1) (shortest (lists (a .hop .now) (a .link .now) (a .stride .now))) (a .address) ≡ 0
+zero-number c = sym (number (c .before)) ∙ c .if1 .left
+
+smaller-requires : tie.Need-smaller-requires
+smaller-requires c κs = search needs
+
+smaller-requires-2 : tie.Need-smaller-requires-2
+smaller-requires-2 c κs = search needs
+
+first-refusal-requires : tie.Need-first-refusal-requires
+first-refusal-requires c κs = search needs
+
+refused-requires : tie.Need-refused-requires
+refused-requires c κs = search needs
+
+returns : tie.Need-returns
+returns c = promised-numbers _ _ _ _ (c .refused .ensures ∙ ap answerNumbers (sym (lookup-early _ _ _ _ (number (c .before .before)) (c .before .if1 .taken))))
+
+element-copy-out-root : tie.Need-element-copy-out-root
+element-copy-out-root c = search needs
+
+cast-root : tie.Need-cast-root
+cast-root c = search needs
+
+ended-requires : tie.Need-ended-requires
+ended-requires c κs = search needs
+
+returns-2 : tie.Need-returns-2
+returns-2 c =
+    promised-numbers _ _ _ _
+    (c .ended .ensures ∙ ap answerNumbers (sym (lookup-empty _ _ _ _ (zero-number (c .before .before .before)) (c .before .if2 .taken))))
+
+cast-follow : tie.Need-cast-follow
+cast-follow c = search needs
+
+follow-requires : tie.Need-follow-requires
+follow-requires c κs = let p = tests-passed _ _ _ _ (zero-number (c .before .before)) in (p .enough, p .width .1)
+
+returns-3 : tie.Need-returns-3
+returns-3 c =
+    promised-numbers _ _ _ _
+    (c .follow .ensures ∙ ap answerNumbers (sym (lookup-walks _ _ _ _ (zero-number (c .before .before .before)) (c .before .if2 .left))))
+
+pub lookup-numbers-spec : {M : Type 1} → statement M
+lookup-numbers-spec =
+    tie.close
+    (tie.spec
+    smaller-requires
+    smaller-requires-2
+    first-refusal-requires
+    refused-requires
+    returns
+    element-copy-out-root
+    cast-root
+    ended-requires
+    returns-2
+    cast-follow
+    follow-requires
+    returns-3)
