@@ -39,10 +39,10 @@ unfolding start wholeEntry markAt binaryNodes beginsEntry someBegins knotIf bina
 bare-supernode = (refl, refl)
 
 -- The discarded corner of 02, [4] (width 4, 10 to hop 1 and 1010 to hop 65,535): its hop stands in its place, like any other.
-abbrev pub cornerRows : List SupernodeRow
-cornerRows = row 32 1024 1 0 ∷ row 1 0 0 1 ∷ []
+abbrev pub cornerSupernodes : List SupernodeRow
+cornerSupernodes = row 32 1024 1 0 ∷ row 1 0 0 1 ∷ []
 
-corner-supernodes : (bitmapRows 4 (tableBinary 4 cornerValues cornerLengths cornerHops) ≡ cornerRows)
+corner-supernodes : (bitmapRows 4 (tableBinary 4 cornerValues cornerLengths cornerHops) ≡ cornerSupernodes)
     × (bitmapHops 4 (tableBinary 4 cornerValues cornerLengths cornerHops) ≡ 1 ∷ 65535 ∷ [])
 unfolding start wholeEntry markAt binaryNodes beginsEntry someBegins knotIf binaryBelow binaryTrieOf mark placeLevel mapOf isNode subtrieAlong subtrieAt
     internalMap externalMap ifNode ifMark kidsTo marksTo kidsOf order supernodeRows supernodesOf bitmapRows marksOfAll bitmapHops

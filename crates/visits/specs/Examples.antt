@@ -9,7 +9,7 @@ use Rattle.walk.specs.Limits.{WIDTH}
 use Rattle.walk.specs.Answers.{answer}
 use Rattle.walk.specs.declared.walk.Answer.{Answer}
 use Rattle.walk.specs.declared.walk.Answer.the-variants.{Match, Discard, NoRoute, Refused}
-use Rattle.pieces.specs.Eight.{eightRows, eightHopRows, cornerRows}
+use Rattle.pieces.specs.Eight.{eightRows, eightHopRows, cornerSupernodes}
 use Rattle.pieces.specs.Maps.{placeLevel, placeOn, onPath, mapOf, bitAt, maskOf}
 use Rattle.pieces.specs.Cuts.{pathAt, limit, found, onesBefore, highest}
 use Rattle.visits.specs.declared.record.Bitmap.{Bitmap}
@@ -49,7 +49,7 @@ cornerLists = record { internal = 32 ∷ 1 ∷ []; external = 1024 ∷ 0 ∷ [];
 abbrev cornerAnswer : (address : ℕ) → Answer
 cornerAnswer a = lookupBitmapOf WIDTH (rec 4 2 2) cornerLists (1 ∷ 65535 ∷ []) a
 
-corner-held : HoldRows cornerLists 0 cornerRows
+corner-held : HoldRows cornerLists 0 cornerSupernodes
 corner-held = (refl, (refl, tt))
 
 corner-bitmap-lookups : (cornerAnswer 0b1010 ≡ Discard 2) × (cornerAnswer 0b1011 ≡ Match 1 1) × (cornerAnswer 0b0111 ≡ NoRoute 1)

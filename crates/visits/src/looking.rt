@@ -27,9 +27,9 @@ use table::smaller;
 use walk::Answer;
 use walk::AnswerNumbers;
 use walk::answer_of;
-use walk::ended;
+use walk::hop_numbers;
 use walk::is_beyond;
-use walk::refused;
+use walk::refusal_numbers;
 
 // The longest match so far: the number of its hop.
 pub enum Best {
@@ -57,12 +57,12 @@ fn told(best: Best, reads: u32, hops: &[u16], count: usize) -> AnswerNumbers
     ensures { λ r. ⌜ r ≡ answerNumbers (tellBest count (at (now (hops .entry))) best reads) ⌝ }
 {
     match best {
-        Best::Missing => ended(0, reads),
+        Best::Missing => hop_numbers(0, reads),
         Best::Won { place } => {
             if count <= place {
-                return refused(9);
+                return refusal_numbers(9);
             }
-            ended(hops[place], reads)
+            hop_numbers(hops[place], reads)
         }
     }
 }
@@ -102,12 +102,12 @@ fn follow(
             return told(best, reads, hops, winners);
         }
         if left < STEP {
-            return refused(9);
+            return refusal_numbers(9);
         }
         left -= STEP;
         i = child[i] as usize + ones_before(map, p) as usize;
     }
-    refused(9)
+    refusal_numbers(9)
 }
 
 // Refusal 9 before a row is read: a count exceeds its list.
@@ -158,10 +158,10 @@ pub fn lookup_bitmap_numbers(
     );
     let refusal = first_refusal(rec, rows, hops.len(), address);
     if refusal != 0 {
-        return refused(refusal);
+        return refusal_numbers(refusal);
     }
     if rec.supernodes == 0 {
-        return ended(0, 0);
+        return hop_numbers(0, 0);
     }
     follow(
         rec.supernodes as usize,

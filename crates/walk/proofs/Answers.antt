@@ -36,8 +36,8 @@ pub answer-case : (best reads : ℕ) → Case (answer best reads)
 answer-case best reads = answer-parts best reads .3
 
 -- so its numbers are those
-pub ended-numbers : (best reads : ℕ) → _≡_ {A = AnswerNumbers} (record { number = 0; hop = best; reads = reads }) (answerNumbers (answer best reads))
-ended-numbers best reads = let p = answer-parts best reads in rw (p .0, p .1, p .2)
+pub answer-has-numbers : (best reads : ℕ) → _≡_ {A = AnswerNumbers} (record { number = 0; hop = best; reads = reads }) (answerNumbers (answer best reads))
+answer-has-numbers best reads = let p = answer-parts best reads in rw (p .0, p .1, p .2)
 
 -- a refused lookup has no hop and 0 reads
 pub refused-none : (a : Answer) → 0 < numberOf a → (hopOf a ≡ 0) × (readsOf a ≡ 0)

@@ -12,7 +12,7 @@ pub struct AnswerNumbers {
 }
 
 // A walk that came to its end, with that best hop.
-pub fn ended(hop: u16, reads: u32) -> AnswerNumbers
+pub fn hop_numbers(hop: u16, reads: u32) -> AnswerNumbers
     ensures { λ r. ⌜ r ≡ answerNumbers (answer hop reads) ⌝ }
 {
     AnswerNumbers {
@@ -22,7 +22,7 @@ pub fn ended(hop: u16, reads: u32) -> AnswerNumbers
     }
 }
 
-pub fn refused(number: u32) -> AnswerNumbers
+pub fn refusal_numbers(number: u32) -> AnswerNumbers
     ensures { λ r. ⌜ r ≡ answerNumbers (Refused number) ⌝ }
 {
     AnswerNumbers {

@@ -13,8 +13,8 @@ use crate::address::cut;
 use crate::address::is_beyond;
 use crate::limits::LEVELS;
 use crate::numbers::AnswerNumbers;
-use crate::numbers::ended;
-use crate::numbers::refused;
+use crate::numbers::hop_numbers;
+use crate::numbers::refusal_numbers;
 use crate::record::Record;
 use table::DISCARD;
 use table::WIDTH;
@@ -85,26 +85,26 @@ fn follow(
     let mut reads: u32 = 0;
     while reads < levels {
         if s == 0 {
-            return refused(9);
+            return refusal_numbers(9);
         }
         if left < s {
-            return refused(9);
+            return refusal_numbers(9);
         }
         left -= s;
         let row = base + cut(address, left, s);
         if elements <= row {
-            return refused(9);
+            return refusal_numbers(9);
         }
         best = newer(hop[row], best);
         reads += 1;
         let next = link[row];
         if next == 0 {
-            return ended(best, reads);
+            return hop_numbers(best, reads);
         }
         base = next as usize;
         s = stride[row] as u32;
     }
-    refused(9)
+    refusal_numbers(9)
 }
 
 // Refusal 9 before a row is read: E exceeds the rows of the lists, or the root's stride is 0 while E is not.
@@ -150,11 +150,11 @@ pub fn lookup_numbers(
     let rows = smaller(hop.len(), smaller(link.len(), stride.len()));
     let refusal = first_refusal(rec, rows, address);
     if refusal != 0 {
-        return refused(refusal);
+        return refusal_numbers(refusal);
     }
     let root = rec.strides[0] as u32;
     if root == 0 {
-        return ended(rec.floor, 0);
+        return hop_numbers(rec.floor, 0);
     }
     follow(
         rec.elements as usize,

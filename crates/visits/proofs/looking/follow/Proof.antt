@@ -83,14 +83,14 @@ returns c =
     (c .before .before .is-set .ensures) (not-true _ (c .before .if1 .taken)))
     ∙ l .inv .2)
 
-refused-requires : tie.Need-refused-requires Inv-loop μ-loop
-refused-requires c κs = search needs
+refusal-numbers-requires : tie.Need-refusal-numbers-requires Inv-loop μ-loop
+refusal-numbers-requires c κs = search needs
 
 returns-2 : tie.Need-returns-2 Inv-loop μ-loop
 returns-2 c =
     let l = c .before .before .before .before .before .before .before .before .before .before .loop in
     let p = c .before .before .before .before .before .before .before .before .path-at .ensures in
-    c .refused .ensures
+    c .refusal-numbers .ensures
     ∙ ap answerNumbers
     (sym (visit-breaks _ _ _ _ _ _ (l .i) (l .left) (l .best) (l .reads) refl (c .before .before .before .before .before .before .before .before .before .loop-test .taken) (p .0)
     (c .before .before .before .before .before .better .ensures _ (c .before .before .before .before .before .before .before .before .before .before .before .masks .ensures .each _ (p .1)))
@@ -136,13 +136,13 @@ loop-again c =
           ∙ l .inv .2,
     )
 
-refused-requires-2 : tie.Need-refused-requires-2 Inv-loop μ-loop
-refused-requires-2 c κs = search needs
+refusal-numbers-requires-2 : tie.Need-refusal-numbers-requires-2 Inv-loop μ-loop
+refusal-numbers-requires-2 c κs = search needs
 
 returns-3 : tie.Need-returns-3 Inv-loop μ-loop
 returns-3 c =
     let l = c .before .before .loop in
-    c .refused2 .ensures ∙ ap answerNumbers (sym (visit-stops _ _ _ _ _ _ (l .i) (l .left) (l .best) (l .reads) (c .before .loop-test .left)) ∙ l .inv .2)
+    c .refusal-numbers2 .ensures ∙ ap answerNumbers (sym (visit-stops _ _ _ _ _ _ (l .i) (l .left) (l .best) (l .reads) (c .before .loop-test .left)) ∙ l .inv .2)
 
 pub follow-spec : {M : Type 1} → statement M
 follow-spec =
@@ -166,7 +166,7 @@ follow-spec =
     is-set-requires
     told-requires
     returns
-    refused-requires
+    refusal-numbers-requires
     returns-2
     mul-i
     shared-slice-read-i
@@ -176,5 +176,5 @@ follow-spec =
     add-i
     loop-less
     loop-again
-    refused-requires-2
+    refusal-numbers-requires-2
     returns-3)

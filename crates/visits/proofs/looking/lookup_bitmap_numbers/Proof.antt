@@ -29,19 +29,19 @@ smaller-requires-3 c κs = search needs
 first-refusal-requires : tie.Need-first-refusal-requires
 first-refusal-requires c κs = search needs
 
-refused-requires : tie.Need-refused-requires
-refused-requires c κs = search needs
+refusal-numbers-requires : tie.Need-refusal-numbers-requires
+refusal-numbers-requires c κs = search needs
 
 returns : tie.Need-returns
-returns c = promised-bitmap-numbers _ _ _ _ _ (c .refused .ensures ∙ ap answerNumbers (look-refused _ _ _ _ _ (number (c .before .before)) (c .before .if1 .taken) refl))
+returns c = promised-bitmap-numbers _ _ _ _ _ (c .refusal-numbers .ensures ∙ ap answerNumbers (look-refused _ _ _ _ _ (number (c .before .before)) (c .before .if1 .taken) refl))
 
-ended-requires : tie.Need-ended-requires
-ended-requires c κs = search needs
+hop-numbers-requires : tie.Need-hop-numbers-requires
+hop-numbers-requires c κs = search needs
 
 returns-2 : tie.Need-returns-2
 returns-2 c =
     promised-bitmap-numbers _ _ _ _ _
-    (c .ended .ensures
+    (c .hop-numbers .ensures
     ∙ ap answerNumbers (look-empty _ _ _ _ _ (number (c .before .before .before .before)) (c .before .before .before .if1 .left) (c .before .if2 .taken) refl))
 
 cast-follow : tie.Need-cast-follow
@@ -70,9 +70,9 @@ lookup-bitmap-numbers-spec =
     smaller-requires-2
     smaller-requires-3
     first-refusal-requires
-    refused-requires
+    refusal-numbers-requires
     returns
-    ended-requires
+    hop-numbers-requires
     returns-2
     cast-follow
     cast-follow-2

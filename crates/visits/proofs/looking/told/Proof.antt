@@ -8,44 +8,44 @@ use Rattle.visits.proofs.looking.told.Tie as tie
 enum-told : tie.Need-enum-told
 enum-told c = search needs
 
-ended-requires : tie.Need-ended-requires
-ended-requires c κs = search needs
+hop-numbers-requires : tie.Need-hop-numbers-requires
+hop-numbers-requires c κs = search needs
 
 enum-known-best : tie.Need-enum-known-best
 enum-known-best c = search needs
 
-refused-requires : tie.Need-refused-requires
-refused-requires c κs = search needs
+refusal-numbers-requires : tie.Need-refusal-numbers-requires
+refusal-numbers-requires c κs = search needs
 
 returns : tie.Need-returns
-returns c = c .refused .ensures ∙ ap answerNumbers (tell-past _ _ _ (c .before .before .before .best .given .1) (c .before .if1 .taken) refl)
+returns c = c .refusal-numbers .ensures ∙ ap answerNumbers (tell-past _ _ _ (c .before .before .before .best .given .1) (c .before .if1 .taken) refl)
 
-mul-ended : tie.Need-mul-ended
-mul-ended c = search needs
+mul-hop-numbers : tie.Need-mul-hop-numbers
+mul-hop-numbers c = search needs
 
-shared-slice-read-ended : tie.Need-shared-slice-read-ended
-shared-slice-read-ended c = search needs
+shared-slice-read-hop-numbers : tie.Need-shared-slice-read-hop-numbers
+shared-slice-read-hop-numbers c = search needs
 
-ended-requires-2 : tie.Need-ended-requires-2
-ended-requires-2 c κs = search needs
+hop-numbers-requires-2 : tie.Need-hop-numbers-requires-2
+hop-numbers-requires-2 c κs = search needs
 
 returns-2 : tie.Need-returns-2
-returns-2 c = c .ended .ensures ∙ ap answerNumbers (tell-missing _ _ _ (c .before .enum-told .given .1) refl)
+returns-2 c = c .hop-numbers .ensures ∙ ap answerNumbers (tell-missing _ _ _ (c .before .enum-told .given .1) refl)
 
 returns-3 : tie.Need-returns-3
-returns-3 c = c .ended2 .ensures ∙ ap answerNumbers (tell-hop _ _ _ (c .before .before .before .before .best .given .1) (c .before .before .if1 .left) refl)
+returns-3 c = c .hop-numbers2 .ensures ∙ ap answerNumbers (tell-hop _ _ _ (c .before .before .before .before .best .given .1) (c .before .before .if1 .left) refl)
 
 pub told-spec : {M : Type 1} → statement M
 told-spec =
     tie.close
     (tie.spec
     enum-told
-    ended-requires
+    hop-numbers-requires
     enum-known-best
-    refused-requires
+    refusal-numbers-requires
     returns
-    mul-ended
-    shared-slice-read-ended
-    ended-requires-2
+    mul-hop-numbers
+    shared-slice-read-hop-numbers
+    hop-numbers-requires-2
     returns-2
     returns-3)

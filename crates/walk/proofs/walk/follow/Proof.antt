@@ -34,18 +34,18 @@ loop-holds c =
       ap (λ (k : ℕ). walk (a .elements) (a .address) at k 0 (a .root) (a .width) (a .floor) 0) (sub-zero (a .levels)),
     )
 
-refused-requires : tie.Need-refused-requires Inv-loop μ-loop
-refused-requires c κs = search needs
+refusal-numbers-requires : tie.Need-refusal-numbers-requires Inv-loop μ-loop
+refusal-numbers-requires c κs = search needs
 
 returns : tie.Need-returns Inv-loop μ-loop
-returns c = c .refused .ensures ∙ ap answerNumbers (sym (walk-stops _ _ _ _ _ _ _ _ _ (no-stride (c .before .if1 .taken))) ∙ c .before .before .before .loop .inv .3)
+returns c = c .refusal-numbers .ensures ∙ ap answerNumbers (sym (walk-stops _ _ _ _ _ _ _ _ _ (no-stride (c .before .if1 .taken))) ∙ c .before .before .before .loop .inv .3)
 
-refused-requires-2 : tie.Need-refused-requires-2 Inv-loop μ-loop
-refused-requires-2 c κs = search needs
+refusal-numbers-requires-2 : tie.Need-refusal-numbers-requires-2 Inv-loop μ-loop
+refusal-numbers-requires-2 c κs = search needs
 
 returns-2 : tie.Need-returns-2 Inv-loop μ-loop
 returns-2 c =
-    c .refused2 .ensures ∙ ap answerNumbers (sym (walk-stops _ _ _ _ _ _ _ _ _ (too-wide (c .before .if2 .taken))) ∙ c .before .before .before .before .loop .inv .3)
+    c .refusal-numbers2 .ensures ∙ ap answerNumbers (sym (walk-stops _ _ _ _ _ _ _ _ _ (too-wide (c .before .if2 .taken))) ∙ c .before .before .before .before .loop .inv .3)
 
 cut-requires : tie.Need-cut-requires Inv-loop μ-loop
 cut-requires c κs = omega arith
@@ -62,13 +62,13 @@ row-is : (c : tie.After-cut Inv-loop μ-loop) →
 unfolding rowOf
 row-is c = ap (λ (x : ℕ). c .before .before .before .before .loop .base + x) (c .cut .ensures)
 
-refused-requires-3 : tie.Need-refused-requires-3 Inv-loop μ-loop
-refused-requires-3 c κs = search needs
+refusal-numbers-requires-3 : tie.Need-refusal-numbers-requires-3 Inv-loop μ-loop
+refusal-numbers-requires-3 c κs = search needs
 
 returns-3 : tie.Need-returns-3 Inv-loop μ-loop
 returns-3 c =
     let stopped = walk-stops _ _ _ _ _ _ _ _ _ (past-end (rw (row-is (c .before .before)) at (c .before .if3 .taken))) in
-    c .refused3 .ensures ∙ ap answerNumbers (sym stopped ∙ c .before .before .before .before .before .before .loop .inv .3)
+    c .refusal-numbers3 .ensures ∙ ap answerNumbers (sym stopped ∙ c .before .before .before .before .before .before .loop .inv .3)
 
 can-read : (c : tie.Else3 Inv-loop μ-loop) →
     let l = c .before .before .before .before .before .loop in
@@ -94,14 +94,14 @@ mul-next c = search needs
 shared-slice-read-next : tie.Need-shared-slice-read-next Inv-loop μ-loop
 shared-slice-read-next c = omega arith
 
-ended-requires : tie.Need-ended-requires Inv-loop μ-loop
-ended-requires c κs = search needs
+hop-numbers-requires : tie.Need-hop-numbers-requires Inv-loop μ-loop
+hop-numbers-requires c κs = search needs
 
 returns-4 : tie.Need-returns-4 Inv-loop μ-loop
 returns-4 c =
     let l = c .before .before .before .before .before .before .before .before .before .before .loop in
     let a = c .before .before .before .before .before .before .before .before .before .before .before .before .before .before .args in
-    c .ended .ensures
+    c .hop-numbers .ensures
     ∙ ap answerNumbers
     (sym (walk-ends _ _ (rowAt (lists (a .hop .now) (a .link .now) (a .stride .now))) _ _ _ _ _ _ {j = a .levels - (l .reads + 1)} (omega arith)
     (can-read (c .before .before .before .before .before)) (row-is (c .before .before .before .before .before .before)) (c .before .before .before .newer .ensures) (c .before .if4 .taken))
@@ -139,11 +139,11 @@ loop-again c =
           (can-read (c5)) (row-is (c6)) (c3 .newer .ensures) (c .before .if4 .left)) ∙ l .inv .3,
     )
 
-refused-requires-4 : tie.Need-refused-requires-4 Inv-loop μ-loop
-refused-requires-4 c κs = search needs
+refusal-numbers-requires-4 : tie.Need-refusal-numbers-requires-4 Inv-loop μ-loop
+refusal-numbers-requires-4 c κs = search needs
 
 returns-5 : tie.Need-returns-5 Inv-loop μ-loop
-returns-5 c = c .refused4 .ensures ∙ ap answerNumbers (sym (walk-spends _ _ _ _ _ _ _ _ _ (omega arith)) ∙ c .before .before .loop .inv .3)
+returns-5 c = c .refusal-numbers4 .ensures ∙ ap answerNumbers (sym (walk-spends _ _ _ _ _ _ _ _ _ (omega arith)) ∙ c .before .before .loop .inv .3)
 
 pub follow-spec : {M : Type 1} → statement M
 follow-spec =
@@ -152,13 +152,13 @@ follow-spec =
     Inv-loop
     μ-loop
     loop-holds
-    refused-requires
+    refusal-numbers-requires
     returns
-    refused-requires-2
+    refusal-numbers-requires-2
     returns-2
     cut-requires
     add-row
-    refused-requires-3
+    refusal-numbers-requires-3
     returns-3
     mul-newer
     shared-slice-read-newer
@@ -166,12 +166,12 @@ follow-spec =
     add-reads
     mul-next
     shared-slice-read-next
-    ended-requires
+    hop-numbers-requires
     returns-4
     cast-base
     shared-slice-read-s
     cast-s
     loop-less
     loop-again
-    refused-requires-4
+    refusal-numbers-requires-4
     returns-5)

@@ -29,11 +29,11 @@ smaller-requires-2 c κs = search needs
 first-refusal-requires : tie.Need-first-refusal-requires
 first-refusal-requires c κs = search needs
 
-refused-requires : tie.Need-refused-requires
-refused-requires c κs = search needs
+refusal-numbers-requires : tie.Need-refusal-numbers-requires
+refusal-numbers-requires c κs = search needs
 
 returns : tie.Need-returns
-returns c = promised-numbers _ _ _ _ (c .refused .ensures ∙ ap answerNumbers (sym (lookup-early _ _ _ _ (number (c .before .before)) (c .before .if1 .taken))))
+returns c = promised-numbers _ _ _ _ (c .refusal-numbers .ensures ∙ ap answerNumbers (sym (lookup-early _ _ _ _ (number (c .before .before)) (c .before .if1 .taken))))
 
 element-copy-out-root : tie.Need-element-copy-out-root
 element-copy-out-root c = search needs
@@ -41,13 +41,13 @@ element-copy-out-root c = search needs
 cast-root : tie.Need-cast-root
 cast-root c = search needs
 
-ended-requires : tie.Need-ended-requires
-ended-requires c κs = search needs
+hop-numbers-requires : tie.Need-hop-numbers-requires
+hop-numbers-requires c κs = search needs
 
 returns-2 : tie.Need-returns-2
 returns-2 c =
     promised-numbers _ _ _ _
-    (c .ended .ensures ∙ ap answerNumbers (sym (lookup-empty _ _ _ _ (zero-number (c .before .before .before)) (c .before .if2 .taken))))
+    (c .hop-numbers .ensures ∙ ap answerNumbers (sym (lookup-empty _ _ _ _ (zero-number (c .before .before .before)) (c .before .if2 .taken))))
 
 cast-follow : tie.Need-cast-follow
 cast-follow c = search needs
@@ -67,11 +67,11 @@ lookup-numbers-spec =
     smaller-requires
     smaller-requires-2
     first-refusal-requires
-    refused-requires
+    refusal-numbers-requires
     returns
     element-copy-out-root
     cast-root
-    ended-requires
+    hop-numbers-requires
     returns-2
     cast-follow
     follow-requires
