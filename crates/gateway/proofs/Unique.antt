@@ -16,16 +16,14 @@ use Rattle.walk.specs.Meaning.{Looked}
 use Rattle.choosers.specs.declared.chooser.Chosen.{Chosen}
 use Rattle.tries.specs.declared.building.Built.{Built}
 use Rattle.walk.specs.declared.record.Record.{Record}
-use Rattle.visits.specs.declared.record.Bitmap.{Bitmap}
 use Rattle.visits.specs.Rows.{RowLists}
-use Rattle.visits.specs.Meaning.{LookedBitmap}
-use Rattle.visits.proofs.Unique.{looked-bitmap-unique}
 use Rattle.supernodes.specs.declared.building.BuiltBitmap.{BuiltBitmap}
 use Rattle.supernodes.proofs.Unique.{bitmap-unique}
 use Rattle.choosers.proofs.Choosing.{chooses-unique}
 use Rattle.tries.proofs.Unique.{builds-unique}
-use Rattle.walk.proofs.Unique.{looked-unique}
-use Rattle.walk.specs.Answers.{Told, answerNumbers}
+use Rattle.walk.specs.Answers.{Told}
+use Rattle.walk.proofs.Answers.{told-unique}
+use Rattle.walk.proofs.Unique.{lookup-unique}
 use Rattle.gateway.specs.Numbers.{outcomeNumbers, sharedNumbers, spanNumbers, choiceNumbers, buildNumbers, bitmapNumbers}
 use Rattle.gateway.specs.Allowed.{AllowedChoice, AllowedBuild, AllowedBitmap}
 use Rattle.gateway.specs.Batch.{Columns, columns, answerAt, BatchWritten, Answered}
@@ -37,11 +35,6 @@ use Rattle.gateway.specs.declared.choosing.ChosenNumbers.{ChosenNumbers}
 use Rattle.gateway.specs.declared.making.BuiltNumbers.{BuiltNumbers}
 use Rattle.walk.specs.declared.numbers.AnswerNumbers.{AnswerNumbers}
 
--- one answer is allowed, so one answer is told
-told-unique : {A B : Type 0} {Allows : A → Type 0} {numbers : A → B} → ((a b : A) → Allows a → Allows b → a ≡ b) → {r r′ : B}
-    → Told Allows numbers r → Told Allows numbers r′ → r ≡ r′
-told-unique {numbers = numbers} one t t′ = t .2 ∙ ap numbers (one (t .0) (t′ .0) (t .1) (t′ .1)) ∙ sym (t′ .2)
-
 pub checked-unique : (W : ℕ) (vs ls hs : List ℕ) {r r′ : Checked}
     → Told (Gives (tableTests W vs ls hs)) outcomeNumbers r → Told (Gives (tableTests W vs ls hs)) outcomeNumbers r′ → r ≡ r′
 checked-unique W vs ls hs = told-unique (check-unique W vs ls hs)
@@ -52,10 +45,6 @@ shared-bits-unique W a l b m = told-unique (shares-unique W a l b m)
 pub zone-span-unique : (W : ℕ) (vs ls hs : List ℕ) (p b : ℕ) {r r′ : SpanNumbers}
     → Told (Spans W vs ls hs p b) spanNumbers r → Told (Spans W vs ls hs p b) spanNumbers r′ → r ≡ r′
 zone-span-unique W vs ls hs p b = told-unique (spans-unique W vs ls hs p b)
-
-pub lookup-unique : (rec : Record) (ls : Lists) (address : ℕ) {r r′ : AnswerNumbers}
-    → Told (Looked WIDTH rec ls address) answerNumbers r → Told (Looked WIDTH rec ls address) answerNumbers r′ → r ≡ r′
-lookup-unique rec ls address = told-unique (λ a b p q. looked-unique p q)
 
 -- ---- with what is left in the lists
 
@@ -87,7 +76,7 @@ module _ (rec : Record) (ls : Lists) (xs : List ℕ) (cs : Columns) where
       → (i : ℕ) → answerAt cs1 i ≡ answerAt cs2 i
   places-one {n = n} w w′ i = elim (decLe n i) [
     | yes p ↦ w .later i p ∙ sym (w′ .later i p)
-    | no p ↦ told-unique (λ a b p q. looked-unique p q) (w .told i (omega arith)) (w′ .told i (omega arith))
+    | no p ↦ lookup-unique (w .told i (omega arith)) (w′ .told i (omega arith))
   ]
 
   pub answered-unique : {cs1 cs2 : Columns} {n m : ℕ} → Answered (Looked WIDTH rec ls) xs cs cs1 n → Answered (Looked WIDTH rec ls) xs cs cs2 m
@@ -105,10 +94,6 @@ module _ (rec : Record) (ls : Lists) (xs : List ℕ) (cs : Columns) where
       )
 
 -- ---- tree bitmap arrays
-
-pub lookup-bitmap-unique : (rec : Bitmap) (rows : RowLists) (hops : List ℕ) (address : ℕ) {r r′ : AnswerNumbers}
-    → Told (LookedBitmap WIDTH rec rows hops address) answerNumbers r → Told (LookedBitmap WIDTH rec rows hops address) answerNumbers r′ → r ≡ r′
-lookup-bitmap-unique rec rows hops address = told-unique (λ a b p q. looked-bitmap-unique p q)
 
 bitmap-same : {b b′ : BuiltBitmap} → b .outcome ≡ b′ .outcome → b .record ≡ b′ .record → bitmapNumbers b ≡ bitmapNumbers b′
 bitmap-same p q = rw (p, q)

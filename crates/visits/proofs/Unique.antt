@@ -8,8 +8,9 @@ use native.Mathlib.Omega.{arith}
 use native.Mathlib.Decide.{decLe}
 use lib.ListN.{length}
 use Rattle.walk.specs.declared.walk.Answer.{Answer}
-use Rattle.walk.specs.Answers.{numberOf, hopOf, readsOf}
-use Rattle.walk.proofs.Answers.{refused-none, answer-unique}
+use Rattle.walk.specs.declared.numbers.AnswerNumbers.{AnswerNumbers}
+use Rattle.walk.specs.Answers.{numberOf, hopOf, readsOf, answerNumbers, Told}
+use Rattle.walk.proofs.Answers.{refused-none, answer-unique, told-unique}
 use Rattle.walk.proofs.Unique.{test-unique}
 use Rattle.pieces.specs.Maps.{STEP, placeOn}
 use Rattle.pieces.specs.Rows.{SupernodeRow}
@@ -94,3 +95,8 @@ module _ {most : ℕ} {rec : Bitmap} {rows : RowLists} {hops : List ℕ} {addres
       let n : numberOf a ≡ numberOf b = bitmap-tested-unique (l .tested) (m .tested) in
       let s = same-told l m n in
       answer-unique a b n (s .0) (s .1) (l .case) (m .case)
+
+  -- and so one is told in numbers
+  pub lookup-bitmap-unique : {r r′ : AnswerNumbers}
+      → Told (LookedBitmap most rec rows hops address) answerNumbers r → Told (LookedBitmap most rec rows hops address) answerNumbers r′ → r ≡ r′
+  lookup-bitmap-unique = told-unique (λ a b p q. looked-bitmap-unique p q)

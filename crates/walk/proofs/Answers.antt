@@ -12,7 +12,7 @@ use Rattle.table.specs.Limits.{discardHop}
 use Rattle.walk.specs.declared.walk.Answer.{Answer}
 use Rattle.walk.specs.declared.walk.Answer.the-variants.{Match, Discard, NoRoute, Refused}
 use Rattle.walk.specs.declared.numbers.AnswerNumbers.{AnswerNumbers}
-use Rattle.walk.specs.Answers.{numberOf, hopOf, readsOf, Case, answer, answerNumbers, answerOf}
+use Rattle.walk.specs.Answers.{numberOf, hopOf, readsOf, Case, answer, answerNumbers, Told, answerOf}
 
 -- what `answer` makes is accepted, has the hop and the reads that it was made of, and is of the right case
 answer-parts : (best reads : ℕ) → let a = answer best reads in (numberOf a ≡ 0) × (hopOf a ≡ best) × (readsOf a ≡ reads) × Case a
@@ -66,6 +66,11 @@ answer-unique a b n e f c d = elim (decLe (numberOf a) 0) [
   | yes z ↦ accepted-is a (omega arith) c ∙ ap₂ answer e f ∙ sym (accepted-is b (omega arith) d)
   | no s ↦ refused-is a (omega arith) ∙ ap Refused n ∙ sym (refused-is b (omega arith))
 ]
+
+-- one answer is allowed, so one answer is told
+pub told-unique : {A B : Type 0} {Allows : A → Type 0} {numbers : A → B} → ((a b : A) → Allows a → Allows b → a ≡ b) → {r r′ : B}
+    → Told Allows numbers r → Told Allows numbers r′ → r ≡ r′
+told-unique {numbers = numbers} one t t′ = t .2 ∙ ap numbers (one (t .0) (t′ .0) (t .1) (t′ .1)) ∙ sym (t′ .2)
 
 -- a discard is told from every other answer by its hop
 pub discard-hop : (a : Answer) → Case a → (a ≡ Discard (readsOf a)) ↔ (hopOf a ≡ discardHop)

@@ -11,9 +11,10 @@ use Rattle.walk.specs.declared.record.Record.{Record}
 use Rattle.walk.specs.declared.walk.Answer.{Answer}
 use Rattle.walk.specs.Refusals.{RefuseBy, fails, passes}
 use Rattle.walk.specs.Rows.{Row, Lists, rowAt, rowOf}
-use Rattle.walk.specs.Answers.{numberOf, hopOf, readsOf, latest}
+use Rattle.walk.specs.declared.numbers.AnswerNumbers.{AnswerNumbers}
+use Rattle.walk.specs.Answers.{numberOf, hopOf, readsOf, latest, answerNumbers, Told}
 use Rattle.walk.specs.Meaning.{Readable, Damaged, no-stride, too-wide, past-end, Path, spent, damaged, last, on, OnPath, empty, walked, Tested, Looked}
-use Rattle.walk.proofs.Answers.{refused-none, answer-unique}
+use Rattle.walk.proofs.Answers.{refused-none, answer-unique, told-unique}
 
 -- one test is the first that fails
 pub test-unique : {number : ℕ} {Fails : Type 0} {Rest : ℕ → Type 0} {n m : ℕ} → ((i j : ℕ) → Rest i → Rest j → i ≡ j)
@@ -76,3 +77,8 @@ module _ {most : ℕ} {rec : Record} {ls : Lists} {address : ℕ} where
       let n : numberOf a ≡ numberOf b = tested-unique (l .tested) (m .tested) in
       let s = same-told l m n in
       answer-unique a b n (s .0) (s .1) (l .case) (m .case)
+
+  -- and so one is told in numbers
+  pub lookup-unique : {r r′ : AnswerNumbers}
+      → Told (Looked most rec ls address) answerNumbers r → Told (Looked most rec ls address) answerNumbers r′ → r ≡ r′
+  lookup-unique = told-unique (λ a b p q. looked-unique p q)
