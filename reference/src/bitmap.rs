@@ -159,7 +159,7 @@ pub struct Path {
     pub bests: Vec<u64>,
 }
 
-/// Tests 1, 8, then 9. A winning hop 0 is no route.
+/// Tests 1, 8, then 9. A winning hop 0 is no route, 65,535 a discard (02, [4]).
 pub fn lookup(record: &Bitmap, rows: &Supernodes, address: u32) -> Result<Found, Refusal> {
     test_width(record.width)?;
     if address as u64 >= 1 << record.width {

@@ -1,4 +1,4 @@
-//! 01's own examples, line by line, and brute force against recurrence on random small tries.
+//! 01's own examples, line by line, 02's of a discard, and brute force against recurrence on random small tries.
 
 mod bitmaps;
 

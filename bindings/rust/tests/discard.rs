@@ -5,7 +5,7 @@ use hongsamuk::*;
 
 /// 10 to hop 1, and 1010 discarded.
 const CORNER: Table = Table { width: 4, value: &[0b1000, 0b1010], length: &[2, 4], hop: &[1, DISCARD] };
-const ELEMENTS: usize = 16;
+const ROOM: usize = 16;
 
 struct Made {
     record: Record,
@@ -16,7 +16,7 @@ struct Made {
 
 impl Made {
     fn of(kind: Kind, levels: u32, table: Table) -> Made {
-        let (mut hop, mut link, mut stride) = (vec![9; ELEMENTS], vec![9; ELEMENTS], vec![9; ELEMENTS]);
+        let (mut hop, mut link, mut stride) = (vec![9; ROOM], vec![9; ROOM], vec![9; ROOM]);
         let rows = RowsMut { hop: &mut hop, link: &mut link, stride: &mut stride };
         let built = build(kind, levels, table, &mut [7; 4 * SCRATCH_ROW], rows);
         assert_eq!(built.outcome, Outcome::Accepted);

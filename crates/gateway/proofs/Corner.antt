@@ -1,6 +1,6 @@
 -- 02's example ([4]) for every accepted build of its table, in elements of any kind and k or as a tree bitmap: 1010 is discard, 1011 gives
 -- hop 1, and 0111 has no route.
-use mathlib.Core.Path.{_≡_, refl, ap, _∙_}
+use mathlib.Core.Path.{_≡_, ap, _∙_}
 use mathlib.Core.List.{List}
 use Prim.Native.Nat.{ℕ, _^_, _<_}
 use native.Mathlib.Omega.{arith}
@@ -17,7 +17,6 @@ use Rattle.table.proofs.Corner.{corner-accepted}
 use Rattle.strides.specs.Cheapest.{Kind}
 use Rattle.walk.specs.declared.record.Record.{Record}
 use Rattle.walk.specs.declared.walk.Answer.{Answer}
-use Rattle.walk.specs.declared.walk.Answer.the-variants.{Match, Discard, NoRoute}
 use Rattle.walk.specs.Limits.{WIDTH}
 use Rattle.walk.specs.Rows.{Lists}
 use Rattle.walk.specs.Answers.{numberOf, hopOf, readsOf, Case, answer}
@@ -30,12 +29,7 @@ use Rattle.visits.specs.Rows.{RowLists}
 use Rattle.visits.specs.Meaning.{LookedBitmap}
 use Rattle.supernodes.specs.Build.{BuildsBitmap}
 use Rattle.supernodes.proofs.Demands.{bitmap-longest}
-
--- the answers to the three addresses, `Allows` being what the lookup's promise allows for an address
-pub record CornerAnswers (Allows : ℕ → Answer → Type 0) : Type 0 where
-  pub corner : {r : Answer} → Allows 0b1010 r → r ≡ Discard (readsOf r)
-  pub neighbour : {r : Answer} → Allows 0b1011 r → r ≡ Match 1 (readsOf r)
-  pub outside : {r : Answer} → Allows 0b0111 r → r ≡ NoRoute (readsOf r)
+use Rattle.gateway.specs.Corner.{CornerAnswers}
 
 -- from the longest match alone
 corner-is : (a : ℕ) (r : Answer) → Case r → (numberOf r ≡ 0) × LongestHop 4 cornerValues cornerLengths cornerHops a (hopOf r)

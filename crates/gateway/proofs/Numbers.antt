@@ -8,7 +8,7 @@ use native.Mathlib.Omega.{arith}
 use lib.ListN.{length}
 use Rattle.table.specs.Refusals.{outcomeNumber, outcomeDetail, Gives, Tells}
 use Rattle.table.specs.Table.{tableTests}
-use Rattle.table.specs.Answers.{sharedOutcome, sharedTests, Shares, spanOutcome, zoneTests, Spans}
+use Rattle.table.specs.Answers.{Told, sharedOutcome, sharedTests, Shares, spanOutcome, zoneTests, Spans}
 use Rattle.table.specs.declared.entry.Outcome.{Outcome}
 use Rattle.table.proofs.Numbered.{gives-tells, numbered-table, numbered-zone, numbered-shared}
 use Rattle.strides.specs.Cheapest.{Kind, Cheapest}
@@ -26,7 +26,7 @@ use Rattle.visits.specs.Rows.{RowLists, rowRoom}
 use Rattle.visits.specs.Meaning.{BitmapTested, LookedBitmap}
 use Rattle.supernodes.specs.Build.{bitmapTests}
 use Rattle.supernodes.proofs.Demands.{numbered-bitmap}
-use Rattle.walk.specs.Answers.{Told, answerNumbers}
+use Rattle.walk.specs.Answers.{answerNumbers}
 use Rattle.gateway.specs.Numbers.{outcomeNumbers, sharedNumbers, spanNumbers, choiceNumbers, buildNumbers, bitmapNumbers}
 use Rattle.gateway.specs.Allowed.{AllowedChoice, AllowedBuild, AllowedBitmap}
 use Rattle.gateway.specs.declared.bitmaps.BuiltBitmapNumbers.{BuiltBitmapNumbers}

@@ -7,8 +7,8 @@ use native.Mathlib.Decide.{decLe}
 use lib.Seq.{ext-getD}
 use Rattle.table.specs.Refusals.{Gives}
 use Rattle.table.specs.Table.{tableTests}
-use Rattle.table.specs.Answers.{Shares, Spans}
-use Rattle.table.proofs.Unique.{check-unique, shares-unique, spans-unique}
+use Rattle.table.specs.Answers.{Told, Shares, Spans}
+use Rattle.table.proofs.Unique.{told-unique, check-unique, shares-unique, spans-unique}
 use Rattle.strides.specs.Cheapest.{Kind}
 use Rattle.walk.specs.Limits.{WIDTH}
 use Rattle.walk.specs.Rows.{Lists}
@@ -21,8 +21,6 @@ use Rattle.supernodes.specs.declared.building.BuiltBitmap.{BuiltBitmap}
 use Rattle.supernodes.proofs.Unique.{bitmap-unique}
 use Rattle.choosers.proofs.Choosing.{chooses-unique}
 use Rattle.tries.proofs.Unique.{builds-unique}
-use Rattle.walk.specs.Answers.{Told}
-use Rattle.walk.proofs.Answers.{told-unique}
 use Rattle.walk.proofs.Unique.{lookup-unique}
 use Rattle.gateway.specs.Numbers.{outcomeNumbers, sharedNumbers, spanNumbers, choiceNumbers, buildNumbers, bitmapNumbers}
 use Rattle.gateway.specs.Allowed.{AllowedChoice, AllowedBuild, AllowedBitmap}

@@ -12,7 +12,8 @@ use Rattle.walk.specs.Rows.{Lists}
 use Rattle.walk.specs.Meaning.{Looked}
 use Rattle.walk.specs.declared.record.Record.{Record}
 use Rattle.walk.specs.declared.walk.Answer.{Answer}
-use Rattle.walk.specs.Answers.{Told, answerNumbers}
+use Rattle.table.specs.Answers.{Told}
+use Rattle.walk.specs.Answers.{answerNumbers}
 use Rattle.gateway.specs.Batch.{Columns, columns, answerAt, ExactAnswer, BatchWritten}
 use Rattle.walk.specs.declared.numbers.AnswerNumbers.{AnswerNumbers}
 

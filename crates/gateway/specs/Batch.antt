@@ -9,7 +9,8 @@ use Rattle.walk.specs.Rows.{Lists}
 use Rattle.walk.specs.Lookup.{lookupOf}
 use Rattle.walk.specs.declared.record.Record.{Record}
 use Rattle.walk.specs.declared.walk.Answer.{Answer}
-use Rattle.walk.specs.Answers.{Told, answerNumbers}
+use Rattle.table.specs.Answers.{Told}
+use Rattle.walk.specs.Answers.{answerNumbers}
 use Rattle.walk.specs.declared.numbers.AnswerNumbers.{AnswerNumbers}
 
 -- the answer lists

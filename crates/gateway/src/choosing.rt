@@ -1,7 +1,7 @@
 // The stride choosers for C (01, "Stride choices").
 ghost use mathlib.Core.Path.{_≡_};
 ghost use Rattle.strides.specs.Cheapest.{fixed, variable};
-ghost use Rattle.walk.specs.Answers.{Told};
+ghost use Rattle.table.specs.Answers.{Told};
 ghost use Rattle.gateway.specs.Numbers.{choiceNumbers};
 ghost use Rattle.gateway.specs.Allowed.{ExactChoice, AllowedChoice};
 use crate::entries::outcome_numbers;

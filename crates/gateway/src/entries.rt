@@ -2,8 +2,7 @@
 ghost use mathlib.Core.Path.{_≡_};
 ghost use Rattle.table.specs.Refusals.{Gives};
 ghost use Rattle.table.specs.Table.{tableTests, checkOf};
-ghost use Rattle.table.specs.Answers.{sharedOf, Shares, spanOf, Spans};
-ghost use Rattle.walk.specs.Answers.{Told};
+ghost use Rattle.table.specs.Answers.{Told, sharedOf, Shares, spanOf, Spans};
 ghost use Rattle.gateway.specs.Numbers.{outcomeNumbers, sharedNumbers, spanNumbers};
 use table::Outcome;
 use table::Shared;

@@ -2,7 +2,7 @@
 ghost use mathlib.Core.Path.{_≡_};
 ghost use Rattle.strides.specs.Cheapest.{fixed, variable};
 ghost use Rattle.walk.specs.Rows.{lists};
-ghost use Rattle.walk.specs.Answers.{Told};
+ghost use Rattle.table.specs.Answers.{Told};
 ghost use Rattle.gateway.specs.Numbers.{buildNumbers};
 ghost use Rattle.gateway.specs.Allowed.{ExactBuild, AllowedBuild};
 use crate::entries::outcome_numbers;

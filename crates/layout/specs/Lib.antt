@@ -1,6 +1,6 @@
 -- What an inspector reads, in the order of 01, "The element rows": the rows of a trie level by level; the same rows by a queue of
--- blocks; the record and lists that one accepted build leaves; the blocks on an address's path, one by one; 01's run and the
--- eight-prefix table as examples.
+-- blocks; the record and lists that one accepted build leaves; the blocks on an address's path, one by one; 01's run, the
+-- eight-prefix table and 02's discarded corner as examples.
 pub mod Blocks
 pub mod Order
 pub mod Laid

@@ -1,11 +1,10 @@
 -- The eight-prefix table of document 01 (width 7) as supernodes, by computation from its lists: 14 nodes of the binary trie, three
--- supernodes with two children of the root, and the hops in their order; and two small tables.
+-- supernodes with two children of the root, and the hops in their order.
 use mathlib.Core.Path.{_≡_, refl}
 use mathlib.Core.List.{List, [], _∷_}
 use Prim.Native.Nat.{ℕ}
 use Rattle.table.specs.Prefix.{start}
 use Rattle.table.specs.Eight.{eightValues, eightLengths, eightHops}
-use Rattle.table.specs.Corner.{cornerValues, cornerLengths, cornerHops}
 use Rattle.strides.specs.Entries.{wholeEntry, markAt}
 use Rattle.pieces.specs.BinaryTrie.{BinaryTrie, binaryNodes, beginsEntry, someBegins, knotIf, binaryBelow, binaryTrieOf, mark, tableBinary}
 use Rattle.pieces.specs.Maps.{placeLevel, mapOf, isNode, subtrieAlong, subtrieAt, internalMap, externalMap, ifNode, ifMark, kidsTo, marksTo}
@@ -16,7 +15,7 @@ use Rattle.pieces.specs.Rows.{SupernodeRow, supernodeRows, supernodesOf,
 abbrev pub eightBinary : BinaryTrie
 eightBinary = tableBinary 7 eightValues eightLengths eightHops
 
-abbrev row : (internal external child hop : ℕ) → SupernodeRow
+abbrev pub row : (internal external child hop : ℕ) → SupernodeRow
 row i e c h = record { internal = i; external = e; firstChild = c; firstHop = h }
 
 abbrev pub eightRows : List SupernodeRow
@@ -37,16 +36,6 @@ bare-supernode : (bitmapRows 8 (tableBinary 8 (0 ∷ 255 ∷ []) (0 ∷ 8 ∷ []
 unfolding start wholeEntry markAt binaryNodes beginsEntry someBegins knotIf binaryBelow binaryTrieOf mark placeLevel mapOf isNode subtrieAlong subtrieAt
     internalMap externalMap ifNode ifMark kidsTo marksTo kidsOf order supernodeRows supernodesOf bitmapRows marksOfAll bitmapHops
 bare-supernode = (refl, refl)
-
--- The discarded corner of 02, [4] (width 4, 10 to hop 1 and 1010 to hop 65,535): its hop stands in its place, like any other.
-abbrev pub cornerSupernodes : List SupernodeRow
-cornerSupernodes = row 32 1024 1 0 ∷ row 1 0 0 1 ∷ []
-
-corner-supernodes : (bitmapRows 4 (tableBinary 4 cornerValues cornerLengths cornerHops) ≡ cornerSupernodes)
-    × (bitmapHops 4 (tableBinary 4 cornerValues cornerLengths cornerHops) ≡ 1 ∷ 65535 ∷ [])
-unfolding start wholeEntry markAt binaryNodes beginsEntry someBegins knotIf binaryBelow binaryTrieOf mark placeLevel mapOf isNode subtrieAlong subtrieAt
-    internalMap externalMap ifNode ifMark kidsTo marksTo kidsOf order supernodeRows supernodesOf bitmapRows marksOfAll bitmapHops
-corner-supernodes = (refl, refl)
 
 -- the path 1100: place 0, then 2 (bit 1), 6 (bits 11) and 13 (bits 110)
 mask-twelve : maskOf 0b1100 ≡ 0b10000001000101

@@ -34,7 +34,7 @@ module _ (hop reads : ℕ → ℕ) (xs ds : List ℕ) where
       cond (ltb (firstWrong W ds) (length ds)) (refusalLines 8 (firstWrong W ds))
       (headLines elements root ++ joined queryLines (length ds))
 
--- the hop and the reads of a lookup in what a build left: no route is hop 0
+-- the hop and the reads of a lookup in what a build left: no route is hop 0, a discard hop 65,535
 module _ (rec : Record) (ls : Lists) where
   abbrev pub hopFor : ℕ → ℕ
   hopFor a = hopOf (lookupOf WIDTH rec ls a)

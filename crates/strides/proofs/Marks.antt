@@ -6,7 +6,7 @@ use mathlib.Core.Bool.{Bool, true, false}
 use mathlib.Core.List.{List, [], _∷_}
 use Rattle.strides.specs.Trie.{Trie, none, node, depth, sumBy, nodesAt}
 use Rattle.strides.specs.Choice.{Choice, onSide, Valid, cost, ValidFixed, costFixed}
-use Rattle.strides.specs.Cheapest.{Least, LeastFrom, LeastFixed, Kind, fixed, variable, Cheapest}
+use Rattle.strides.specs.Cheapest.{Kind, fixed, variable, Cheapest}
 use Rattle.strides.specs.Entries.{withBit, nodeIf, trieBelow, someStart, markAt, trieOf}
 
 -- two tries have nodes at the same places

@@ -15,12 +15,12 @@ use Rattle.table.specs.declared.entry.Outcome.{Outcome}
 use Rattle.table.specs.declared.entry.Outcome.the-variants.{Accepted, Refused}
 use Rattle.table.proofs.Refusals.{outcome-gives, outcome-append, gives-outcome, gives-unique, given-exactly, refused-not-accepted}
 use Rattle.table.proofs.Numbered.{refused-number, numbered-append, numbered-table}
-use Rattle.table.proofs.Unique.{hop-discards}
+use Rattle.table.proofs.Unique.{longest-discards}
 use Rattle.walk.specs.declared.walk.Answer.{Answer}
 use Rattle.walk.specs.declared.walk.Answer.the-variants.{Discard, NoRoute}
 use Rattle.walk.specs.Limits.{WIDTH}
 use Rattle.walk.specs.Answers.{numberOf, hopOf, readsOf}
-use Rattle.walk.proofs.Answers.{refused-none, discard-hop}
+use Rattle.walk.proofs.Answers.{refused-none, discard-by-hop}
 use Rattle.pieces.specs.BinaryTrie.{empty, SomeBegins, tableBinary}
 use Rattle.pieces.specs.Maps.{STEP, subtrieAlong}
 use Rattle.pieces.specs.Rows.{supernodesOf, bitmapHops}
@@ -187,7 +187,7 @@ module _ {W : ℕ} {vs ls hs scratch : List ℕ} {rows : RowLists} {hops : List 
 
     -- and it is a discard exactly when the longest prefix that begins the address discards (02, [4])
     pub bitmap-discard : (r ≡ Discard (readsOf r)) ↔ LongestDiscards W vs ls hs a
-    bitmap-discard = Iff·trans (discard-hop r (l .case)) (hop-discards W vs ls hs (b .laid e .table) a (bitmap-longest .1))
+    bitmap-discard = Iff·trans (discard-by-hop r (l .case)) (longest-discards W vs ls hs (b .laid e .table) a (bitmap-longest .1))
 
     -- ---- demand 3: r reads are r supernodes, one at each of the levels 0, 4, .. at which the address's start begins some entry, and no other
     pub bitmap-counted : (n : ℕ) → (n < readsOf r) ↔ ((STEP * n ≤ W) × SomeBegins W (at vs) (at ls) (length vs) (STEP * n) (start W (STEP * n) a))

@@ -1,6 +1,6 @@
 -- The discarded corner: it is a table, and its longest matches.
 use mathlib.Core.Path.{_≡_, refl}
-use mathlib.Core.List.{List, map}
+use mathlib.Core.List.{map}
 use Rattle.table.specs.Limits.{outside}
 use Rattle.table.specs.Prefix.{start, startsWith, prefixBad}
 use Rattle.table.specs.Entry.{hopBad, below}

@@ -16,7 +16,7 @@ entry-edges : (shapeBad 0 0 0 ≡ false) × (shapeBad 65536 65536 65536 ≡ fals
 unfolding shapeBad
 entry-edges = (refl, refl, refl, refl, refl)
 
--- of all hops that 16 bits write, hop 0 alone is bad
+-- hop 0 is bad, the first and the last of the others are not (of all others: `hop-good`, table Table)
 hop-edges : (hopBad 0 ≡ true) × (hopBad 1 ≡ false) × (hopBad 65534 ≡ false) × (hopBad 65535 ≡ false)
 unfolding hopBad
 hop-edges = (refl, refl, refl, refl)

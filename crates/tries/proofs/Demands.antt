@@ -25,7 +25,7 @@ use Rattle.table.specs.declared.zoning.Span.{Span}
 use Rattle.table.specs.declared.zoning.Span.the-variants.{Part}
 use Rattle.table.proofs.Refusals.{outcome-gives, outcome-fails, outcome-passes, gives-outcome, gives-unique, given-exactly, refused-not-accepted}
 use Rattle.table.proofs.Numbered.{refused-number}
-use Rattle.table.proofs.Unique.{hop-discards}
+use Rattle.table.proofs.Unique.{longest-discards}
 use Rattle.table.specs.Lists.{padded}
 use Rattle.strides.specs.Trie.{Some}
 use Rattle.strides.specs.Entries.{SomeStart}
@@ -51,7 +51,7 @@ use Rattle.choosers.specs.Chooser.{chooseTests, Chooses}
 use Rattle.tries.specs.Build.{roomTest, buildTests, NoRecord, Builds}
 use Rattle.walk.proofs.Unique.{tested-unique, looked-unique}
 use Rattle.walk.proofs.Looked.{looked}
-use Rattle.walk.proofs.Answers.{refused-none, discard-hop}
+use Rattle.walk.proofs.Answers.{refused-none, discard-by-hop}
 use Rattle.walk.proofs.Reading.{path-rows, reads-path, reads-most, lookup-local}
 use Rattle.layout.proofs.PathBlocks.{blocks-are, blocks-counted}
 use Rattle.layout.proofs.RowRule.{row-rule}
@@ -238,7 +238,7 @@ module _ {kind : Kind} {W k : ℕ} {vs ls hs scratch : List ℕ} {rows : Lists} 
 
     -- and it is a discard exactly when the longest prefix that begins the address discards (02, [4])
     pub build-discard : (r ≡ Discard (readsOf r)) ↔ LongestDiscards W vs ls hs a
-    build-discard = Iff·trans (discard-hop r (l .case)) (hop-discards W vs ls hs (b .laid e .2 .table) a (build-longest .1))
+    build-discard = Iff·trans (discard-by-hop r (l .case)) (longest-discards W vs ls hs (b .laid e .2 .table) a (build-longest .1))
 
     -- ---- demand 3: the rows on the path are exactly those of the blocks of the 1-bit nodes that begin the address and at which the
     -- chosen strides begin a block: the block's first row plus the next s bits

@@ -16,7 +16,8 @@ use Rattle.walk.specs.declared.walk.Answer.the-variants.{Refused}
 use Rattle.walk.specs.Limits.{Within}
 use Rattle.walk.specs.Refusals.{fails, passes}
 use Rattle.walk.specs.declared.numbers.AnswerNumbers.{AnswerNumbers}
-use Rattle.walk.specs.Answers.{numberOf, answer, answerNumbers, Told}
+use Rattle.table.specs.Answers.{Told}
+use Rattle.walk.specs.Answers.{numberOf, answer, answerNumbers}
 use Rattle.walk.proofs.Tests.{within-not}
 use Rattle.walk.proofs.Answers.{answer-has, answer-number, answer-case}
 use Rattle.pieces.specs.Maps.{STEP}

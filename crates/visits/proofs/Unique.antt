@@ -9,8 +9,10 @@ use native.Mathlib.Decide.{decLe}
 use lib.ListN.{length}
 use Rattle.walk.specs.declared.walk.Answer.{Answer}
 use Rattle.walk.specs.declared.numbers.AnswerNumbers.{AnswerNumbers}
-use Rattle.walk.specs.Answers.{numberOf, hopOf, readsOf, answerNumbers, Told}
-use Rattle.walk.proofs.Answers.{refused-none, answer-unique, told-unique}
+use Rattle.table.specs.Answers.{Told}
+use Rattle.walk.specs.Answers.{numberOf, hopOf, readsOf, answerNumbers}
+use Rattle.table.proofs.Unique.{told-unique}
+use Rattle.walk.proofs.Answers.{refused-none, answer-unique}
 use Rattle.walk.proofs.Unique.{test-unique}
 use Rattle.pieces.specs.Maps.{STEP, placeOn}
 use Rattle.pieces.specs.Rows.{SupernodeRow}

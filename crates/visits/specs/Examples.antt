@@ -9,7 +9,8 @@ use Rattle.walk.specs.Limits.{WIDTH}
 use Rattle.walk.specs.Answers.{answer}
 use Rattle.walk.specs.declared.walk.Answer.{Answer}
 use Rattle.walk.specs.declared.walk.Answer.the-variants.{Match, Discard, NoRoute, Refused}
-use Rattle.pieces.specs.Eight.{eightRows, eightHopRows, cornerSupernodes}
+use Rattle.pieces.specs.Eight.{eightRows, eightHopRows}
+use Rattle.pieces.specs.Corner.{cornerSupernodes}
 use Rattle.pieces.specs.Maps.{placeLevel, placeOn, onPath, mapOf, bitAt, maskOf}
 use Rattle.pieces.specs.Cuts.{pathAt, limit, found, onesBefore, highest}
 use Rattle.visits.specs.declared.record.Bitmap.{Bitmap}

@@ -7,7 +7,8 @@ ghost use lib.ListN.{length};
 ghost use lib.Dec.{ltb};
 ghost use Rattle.table.specs.Table.{at};
 ghost use Rattle.walk.specs.Limits.{WIDTH};
-ghost use Rattle.walk.specs.Answers.{Told, answerNumbers};
+ghost use Rattle.table.specs.Answers.{Told};
+ghost use Rattle.walk.specs.Answers.{answerNumbers};
 ghost use Rattle.pieces.specs.Maps.{STEP, maskOf};
 ghost use Rattle.visits.specs.Rows.{rowLists, rowRoom, supernodeAt};
 ghost use Rattle.visits.specs.Lookup.{betterOf, tellBest, visitFrom, listsShort, bitmapRefusal, lookupBitmapOf};
@@ -52,7 +53,7 @@ fn better(map: u16, first: u32, mask: u16, left: u32, best: Best) -> Best
 }
 
 // What the best says: its hop's number is below the count, or that is damage.
-fn told(best: Best, reads: u32, hops: &[u16], count: usize) -> AnswerNumbers
+fn best_numbers(best: Best, reads: u32, hops: &[u16], count: usize) -> AnswerNumbers
     requires { ⌜ count ≤ length (now hops) ⌝ }
     ensures { λ r. ⌜ r ≡ answerNumbers (tellBest count (at (now (hops .entry))) best reads) ⌝ }
 {
@@ -99,7 +100,7 @@ fn follow(
         reads += 1;
         let map = external[i];
         if !is_set(map, p) {
-            return told(best, reads, hops, winners);
+            return best_numbers(best, reads, hops, winners);
         }
         if left < STEP {
             return refusal_numbers(9);
@@ -176,7 +177,8 @@ pub fn lookup_bitmap_numbers(
     )
 }
 
-// The same as an answer: a match with its hop and reads, a discard or no route with its reads, or a refusal.
+// The same as an answer: a match with its hop and reads, a discard or no route with its reads, or a refusal by
+// `lookup_bitmap_numbers`' number. No list changes.
 pub fn lookup_bitmap(
     rec: Bitmap,
     internal: &[u16],

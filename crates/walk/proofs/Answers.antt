@@ -12,7 +12,7 @@ use Rattle.table.specs.Limits.{discardHop}
 use Rattle.walk.specs.declared.walk.Answer.{Answer}
 use Rattle.walk.specs.declared.walk.Answer.the-variants.{Match, Discard, NoRoute, Refused}
 use Rattle.walk.specs.declared.numbers.AnswerNumbers.{AnswerNumbers}
-use Rattle.walk.specs.Answers.{numberOf, hopOf, readsOf, Case, answer, answerNumbers, Told, answerOf}
+use Rattle.walk.specs.Answers.{numberOf, hopOf, readsOf, Case, answer, answerNumbers, answerOf}
 
 -- what `answer` makes is accepted, has the hop and the reads that it was made of, and is of the right case
 answer-parts : (best reads : ℕ) → let a = answer best reads in (numberOf a ≡ 0) × (hopOf a ≡ best) × (readsOf a ≡ reads) × Case a
@@ -67,17 +67,12 @@ answer-unique a b n e f c d = elim (decLe (numberOf a) 0) [
   | no s ↦ refused-is a (omega arith) ∙ ap Refused n ∙ sym (refused-is b (omega arith))
 ]
 
--- one answer is allowed, so one answer is told
-pub told-unique : {A B : Type 0} {Allows : A → Type 0} {numbers : A → B} → ((a b : A) → Allows a → Allows b → a ≡ b) → {r r′ : B}
-    → Told Allows numbers r → Told Allows numbers r′ → r ≡ r′
-told-unique {numbers = numbers} one t t′ = t .2 ∙ ap numbers (one (t .0) (t′ .0) (t .1) (t′ .1)) ∙ sym (t′ .2)
-
 -- a discard is told from every other answer by its hop
-pub discard-hop : (a : Answer) → Case a → (a ≡ Discard (readsOf a)) ↔ (hopOf a ≡ discardHop)
-discard-hop (Match h r) c = (λ (e : Match h r ≡ Discard r). ap hopOf e, λ (e : h ≡ discardHop). absurd (c .1 e))
-discard-hop (Discard r) c = (λ e. refl, λ e. refl)
-discard-hop (NoRoute r) c = (λ (e : NoRoute r ≡ Discard r). ap hopOf e, λ (e : 0 ≡ discardHop). absurd (omega arith))
-discard-hop (Refused n) c = (λ (e : Refused n ≡ Discard 0). ap hopOf e, λ (e : 0 ≡ discardHop). absurd (omega arith))
+pub discard-by-hop : (a : Answer) → Case a → (a ≡ Discard (readsOf a)) ↔ (hopOf a ≡ discardHop)
+discard-by-hop (Match h r) c = (λ (e : Match h r ≡ Discard r). ap hopOf e, λ (e : h ≡ discardHop). absurd (c .1 e))
+discard-by-hop (Discard r) c = (λ e. refl, λ e. refl)
+discard-by-hop (NoRoute r) c = (λ (e : NoRoute r ≡ Discard r). ap hopOf e, λ (e : 0 ≡ discardHop). absurd (omega arith))
+discard-by-hop (Refused n) c = (λ (e : Refused n ≡ Discard 0). ap hopOf e, λ (e : 0 ≡ discardHop). absurd (omega arith))
 
 -- the numbers of an answer say that answer
 pub answer-again : (a : Answer) → Case a → answerOf (answerNumbers a) ≡ a

@@ -17,7 +17,8 @@ use Rattle.walk.specs.Limits.{LEVELS, Within}
 use Rattle.walk.specs.Refusals.{fails, passes}
 use Rattle.walk.specs.Rows.{Lists, shortest, rowAt, root}
 use Rattle.walk.specs.declared.numbers.AnswerNumbers.{AnswerNumbers}
-use Rattle.walk.specs.Answers.{numberOf, latest, answer, Case, answerNumbers, Told}
+use Rattle.table.specs.Answers.{Told}
+use Rattle.walk.specs.Answers.{numberOf, latest, answer, Case, answerNumbers}
 use Rattle.walk.specs.Lookup.{ended, tell, fromRoot, pathOf, lookupOf}
 use Rattle.walk.specs.Meaning.{Passed, FromRoot, Damage, short, rootless, breaks, OnPath, empty, walked, Tested, Looked}
 use Rattle.walk.proofs.Tests.{within-not, refusal-cases}

@@ -12,9 +12,11 @@ use Rattle.walk.specs.declared.walk.Answer.{Answer}
 use Rattle.walk.specs.Refusals.{RefuseBy, fails, passes}
 use Rattle.walk.specs.Rows.{Row, Lists, rowAt, rowOf}
 use Rattle.walk.specs.declared.numbers.AnswerNumbers.{AnswerNumbers}
-use Rattle.walk.specs.Answers.{numberOf, hopOf, readsOf, latest, answerNumbers, Told}
+use Rattle.table.specs.Answers.{Told}
+use Rattle.walk.specs.Answers.{numberOf, hopOf, readsOf, latest, answerNumbers}
 use Rattle.walk.specs.Meaning.{Readable, Damaged, no-stride, too-wide, past-end, Path, spent, damaged, last, on, OnPath, empty, walked, Tested, Looked}
-use Rattle.walk.proofs.Answers.{refused-none, answer-unique, told-unique}
+use Rattle.table.proofs.Unique.{told-unique}
+use Rattle.walk.proofs.Answers.{refused-none, answer-unique}
 
 -- one test is the first that fails
 pub test-unique : {number : ℕ} {Fails : Type 0} {Rest : ℕ → Type 0} {n m : ℕ} → ((i j : ℕ) → Rest i → Rest j → i ≡ j)

@@ -1,6 +1,6 @@
 -- A lookup's answer: number and values of each case (01: "a match with hop and reads, no route with reads, or a refusal by
 -- number"; "a refused lookup returns no hop and 0 reads"; 02, [4]: hop 65,535 is "an answer of its own with reads, distinct
--- from no route"), and how hops are taken.
+-- from no route"); how hops are taken; and the answer in numbers, as C is told it.
 use Prim.Native.Nat.{ℕ, _<_}
 use mathlib.Core.Path.{_≡_}
 use mathlib.Core.Bool.{cond}
@@ -36,8 +36,8 @@ readsOf (Refused number) = 0
 abbrev pub NotRefused : Answer → Type 0
 NotRefused a = numberOf a ≡ 0
 
--- which case an answer is, by number and hop: a refusal has a number; of the others hop 0 is no route, that of a discard a discard,
--- and every other hop a match
+-- which case an answer is, by number and hop: a refusal has a number; of the others hop 0 is no route, `discardHop` a discard, and
+-- every other hop a match
 abbrev pub Case : Answer → Type 0
 Case (Match hop reads) = (0 < hop) × (hop ≡ discardHop → ⊥)
 Case (Discard reads) = Unit {0}
@@ -49,17 +49,13 @@ unfoldable pub latest : (at : ℕ → Row) (best : ℕ) → List ℕ → ℕ
 latest at best [] = best
 latest at best (r ∷ rs) = latest at (newer (at r .hop) best) rs
 
--- hop 0 is no route, that of a discard a discard
+-- hop 0 is no route, `discardHop` a discard, every other a match
 unfoldable pub answer : (best reads : ℕ) → Answer
 answer best reads = cond (eqb best 0) (NoRoute reads) (cond (eqb best discardHop) (Discard reads) (Match best reads))
 
 -- ---- in numbers
 abbrev pub answerNumbers : Answer → AnswerNumbers
 answerNumbers a = record { number = numberOf a; hop = hopOf a; reads = readsOf a }
-
--- r is the numbers of an answer that the promise allows
-abbrev pub Told : {A B : Type 0} → (Allows : A → Type 0) (numbers : A → B) → B → Type 0
-Told {A} Allows numbers r = (a : A) × Allows a × (r ≡ numbers a)
 
 -- the answer that numbers say
 unfoldable pub answerOf : AnswerNumbers → Answer

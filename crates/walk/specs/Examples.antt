@@ -43,7 +43,7 @@ cornerRows = record {
   stride = 0 ∷ 0 ∷ 2 ∷ 0 ∷ 0 ∷ 0 ∷ 0 ∷ 0 ∷ [];
 }
 
--- 1010 is discard, 1011 gives hop 1, 0111 has no route; where the floor discards, 0111 does too, and so does each address without rows
+-- 1010 is discard, 1011 gives hop 1, 0111 has no route; where the floor discards, 0111 does too, with rows and without
 corner-lookups : (lookupOf WIDTH (cornerRec 0) cornerRows 0b1010 ≡ Discard 2) × (lookupOf WIDTH (cornerRec 0) cornerRows 0b1011 ≡ Match 1 2)
     × (lookupOf WIDTH (cornerRec 0) cornerRows 0b0111 ≡ NoRoute 1) × (lookupOf WIDTH (cornerRec 65535) cornerRows 0b0111 ≡ Discard 1)
     × (lookupOf WIDTH floorOnly cornerRows 0b0111 ≡ Discard 0)

@@ -22,6 +22,7 @@ pub fn hop_numbers(hop: u16, reads: u32) -> AnswerNumbers
     }
 }
 
+// A refused lookup: its number, no hop and 0 reads.
 pub fn refusal_numbers(number: u32) -> AnswerNumbers
     ensures { λ r. ⌜ r ≡ answerNumbers (Refused number) ⌝ }
 {

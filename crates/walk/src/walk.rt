@@ -6,7 +6,8 @@ ghost use Prim.Native.Nat.{_≤_};
 ghost use Rattle.table.specs.Longest.{newer};
 ghost use Rattle.walk.specs.Limits.{WIDTH};
 ghost use Rattle.walk.specs.Rows.{lists, shortest, rowAt};
-ghost use Rattle.walk.specs.Answers.{Told, answerNumbers, answerOf};
+ghost use Rattle.table.specs.Answers.{Told};
+ghost use Rattle.walk.specs.Answers.{answerNumbers, answerOf};
 ghost use Rattle.walk.specs.Lookup.{walk, unfit, refusalOf, lookupOf};
 ghost use Rattle.walk.specs.Meaning.{Looked};
 use crate::address::cut;
@@ -169,7 +170,8 @@ pub fn lookup_numbers(
     )
 }
 
-// The same as an answer: a match with its hop and reads, a discard or no route with its reads, or a refusal.
+// The same as an answer: a match with its hop and reads, a discard or no route with its reads, or a refusal by `lookup_numbers`'
+// number. No list changes.
 pub fn lookup(rec: Record, hop: &[u16], link: &[u32], stride: &[u8], address: u32) -> Answer
     ensures exact { λ r. ⌜ r ≡ lookupOf WIDTH rec (lists (now (hop .entry)) (now (link .entry)) (now (stride .entry))) address ⌝ }
     ensures meaning { λ r. ⌜ Looked WIDTH rec (lists (now (hop .entry)) (now (link .entry)) (now (stride .entry))) address r ⌝ }

@@ -246,13 +246,13 @@ fn edges(vectors: &mut Vectors) {
     }
 }
 
-/// Tables with discards, by both kinds and every number of levels, and all addresses; and 02's example in a record of its own, with the
+/// Tables with discards, by both kinds, with 1 to W + 1 levels and the most, and all addresses; and 02's example in a record of its own, with the
 /// hops about that of a discard for its floor and for a row.
 fn discarding(vectors: &mut Vectors) {
     for made in discards() {
         table(vectors, &made);
         for kind in KINDS {
-            for levels in 1..=made.width + 1 {
+            for levels in (1..=made.width + 1).chain([31, 32]) {
                 let left = built(vectors, &made, kind, levels, (nodes(&made), 16, 16, 16));
                 rows(vectors, &left);
                 sweep_all(vectors, &made, &left);

@@ -389,7 +389,7 @@ fn levels(vectors: &mut Vectors) {
     }
 }
 
-/// Tables with discards, by both kinds and every number of levels, asked at all addresses: hop=65535 is printed where the longest entry
+/// Tables with discards, by both kinds, with 1 to W + 1 levels and the most, asked at all addresses: hop=65535 is printed where the longest entry
 /// discards, and nowhere else.
 fn discarding(vectors: &mut Vectors) {
     for made in discards() {
@@ -399,7 +399,8 @@ fn discarding(vectors: &mut Vectors) {
         let asked: String = all.clone().map(|a| format!("address={}\n", bits(made.width, a, made.width))).collect();
         let tail = format!("entries={}\n{entries}queries={}\n{asked}", made.hop.len(), all.len());
         let discarded = all.filter(|address| made.answer(*address) == DISCARD).count();
-        for (kind, levels) in (1..=made.width + 1).flat_map(|levels| [("fst", levels), ("vst", levels)]) {
+        for (kind, levels) in (1..=made.width + 1).chain([31, 32]).flat_map(|levels| [("fst", levels), ("vst", levels)])
+        {
             let report = lent_case(vectors, &format!("width={}\nkind={kind}\nlevels={levels}\n{tail}", made.width));
             assert!(discarded > 0 && report.matches("hop=65535\n").count() == discarded, "{report}");
             vectors.hit("hop=65535 printed");

@@ -21,5 +21,3 @@ pub use walk::{lookup, lookup_batch, lookup_by_reference, Answers, Elements};
 const WIDTH: u32 = 32;
 /// The most levels.
 const LEVELS: usize = 32;
-/// The hop of a route that discards packets.
-const DISCARD: u16 = 65535;

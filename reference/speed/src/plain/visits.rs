@@ -1,6 +1,6 @@
 //! The lookup in a tree bitmap: tests 1, 8, 9, then one row a supernode, with no loop inside one.
 
-use super::walk::{finish, Answer, DAMAGED};
+use super::walk::{ended, refused, Numbers, DAMAGED};
 use super::WIDTH;
 use hongsamuk::{Bitmap, BitmapRows};
 
@@ -24,12 +24,12 @@ fn ones_before(map: u16, place: u32) -> usize {
 }
 
 #[inline(always)]
-fn visit(record: &Bitmap, rows: BitmapRows, address: u32) -> Answer {
+fn visit(record: &Bitmap, rows: BitmapRows, address: u32) -> Numbers {
     if record.width == 0 || record.width > WIDTH {
-        return Answer::Refused { number: 1 };
+        return refused(1);
     }
     if u64::from(address) >= 1 << record.width {
-        return Answer::Refused { number: 8 };
+        return refused(8);
     }
     let (supernodes, hops) = (record.supernodes as usize, record.hops as usize);
     let shortest = rows.internal.len().min(rows.external.len()).min(rows.first_child.len()).min(rows.first_hop.len());
@@ -37,7 +37,7 @@ fn visit(record: &Bitmap, rows: BitmapRows, address: u32) -> Answer {
         return DAMAGED;
     }
     if supernodes == 0 {
-        return Answer::NoRoute { reads: 0 };
+        return ended(0, 0);
     }
     let (mut best, mut at, mut left, mut reads) = (None, 0, record.width, 0);
     loop {
@@ -62,14 +62,14 @@ fn visit(record: &Bitmap, rows: BitmapRows, address: u32) -> Answer {
         left -= 4;
     }
     match best {
-        None => Answer::NoRoute { reads },
+        None => ended(0, reads),
         Some(place) if place >= hops => DAMAGED,
-        Some(place) => finish(rows.hop_row[place], reads),
+        Some(place) => ended(rows.hop_row[place], reads),
     }
 }
 
 /// One lookup behind a call, as the archive's is.
 #[inline(never)]
-pub fn lookup_bitmap(record: Bitmap, rows: BitmapRows, address: u32) -> Answer {
+pub fn lookup_bitmap(record: Bitmap, rows: BitmapRows, address: u32) -> Numbers {
     visit(&record, rows, address)
 }

@@ -1,37 +1,22 @@
 //! The lookup: tests 1, 2, 8, 9, then one row a block.
 
-use super::{DISCARD, LEVELS, WIDTH};
+use super::{LEVELS, WIDTH};
 use hongsamuk::{raw, Record};
 
+/// Number, hop and reads, as the header's calls tell them. Nothing is decided by which answer it is: in an enum of four cases it would be
+/// slower.
 #[derive(Clone, Copy, PartialEq, Eq, Debug)]
-pub enum Answer {
-    Match { hop: u16, reads: u32 },
-    Discard { reads: u32 },
-    NoRoute { reads: u32 },
-    Refused { number: u32 },
+pub struct Numbers {
+    pub number: u32,
+    pub hop: u16,
+    pub reads: u32,
 }
 
-impl Answer {
-    /// Number, hop and reads, as the header's calls tell them.
-    #[inline(always)]
-    fn numbers(self) -> (u32, u16, u32) {
-        match self {
-            Answer::Match { hop, reads } => (0, hop, reads),
-            Answer::Discard { reads } => (0, DISCARD, reads),
-            Answer::NoRoute { reads } => (0, 0, reads),
-            Answer::Refused { number } => (number, 0, 0),
-        }
-    }
-
-    /// All its numbers, so that the compiler leaves nothing out.
+impl Numbers {
+    /// All of them, so that the compiler leaves nothing out.
     #[inline(always)]
     pub fn sum(self) -> u64 {
-        match self {
-            Answer::Match { hop, reads } => u64::from(hop) + u64::from(reads),
-            Answer::Discard { reads } => u64::from(DISCARD) + u64::from(reads),
-            Answer::NoRoute { reads } => u64::from(reads),
-            Answer::Refused { number } => u64::from(number),
-        }
+        u64::from(self.number) + u64::from(self.hop) + u64::from(self.reads)
     }
 }
 
@@ -50,27 +35,28 @@ pub struct Answers<'a> {
     pub reads: &'a mut [u32],
 }
 
-pub(super) const DAMAGED: Answer = Answer::Refused { number: 9 };
+#[inline(always)]
+pub(super) fn refused(number: u32) -> Numbers {
+    Numbers { number, hop: 0, reads: 0 }
+}
+
+pub(super) const DAMAGED: Numbers = Numbers { number: 9, hop: 0, reads: 0 };
 
 #[inline(always)]
-pub(super) fn finish(hop: u16, reads: u32) -> Answer {
-    match hop {
-        0 => Answer::NoRoute { reads },
-        DISCARD => Answer::Discard { reads },
-        _ => Answer::Match { hop, reads },
-    }
+pub(super) fn ended(hop: u16, reads: u32) -> Numbers {
+    Numbers { number: 0, hop, reads }
 }
 
 #[inline(always)]
-fn walk(record: &Record, rows: Elements, address: u32) -> Answer {
+fn walk(record: &Record, rows: Elements, address: u32) -> Numbers {
     if record.width == 0 || record.width > WIDTH {
-        return Answer::Refused { number: 1 };
+        return refused(1);
     }
     if record.levels == 0 || record.levels > LEVELS as u32 {
-        return Answer::Refused { number: 2 };
+        return refused(2);
     }
     if u64::from(address) >= 1 << record.width {
-        return Answer::Refused { number: 8 };
+        return refused(8);
     }
     let elements = record.elements as usize;
     if elements > rows.hop.len().min(rows.link.len()).min(rows.stride.len()) {
@@ -78,7 +64,7 @@ fn walk(record: &Record, rows: Elements, address: u32) -> Answer {
     }
     let mut stride = u32::from(record.strides[0]);
     if stride == 0 {
-        return if elements == 0 { finish(record.floor, 0) } else { DAMAGED };
+        return if elements == 0 { ended(record.floor, 0) } else { DAMAGED };
     }
     let (mut best, mut base, mut left) = (record.floor, 0, record.width);
     for reads in 0..record.levels {
@@ -94,7 +80,7 @@ fn walk(record: &Record, rows: Elements, address: u32) -> Answer {
             best = rows.hop[row];
         }
         if rows.link[row] == 0 {
-            return finish(best, reads + 1);
+            return ended(best, reads + 1);
         }
         base = rows.link[row] as usize;
         stride = u32::from(rows.stride[row]);
@@ -120,13 +106,13 @@ pub unsafe extern "C" fn lookup(
     let hop = std::slice::from_raw_parts(hop, hops);
     let link = std::slice::from_raw_parts(link, links);
     let stride = std::slice::from_raw_parts(stride, strides);
-    let (number, hop, reads) = walk(&record, Elements { hop, link, stride }, address).numbers();
+    let Numbers { number, hop, reads } = walk(&record, Elements { hop, link, stride }, address);
     raw::Answer { number, hop, reads }
 }
 
 /// One lookup behind a call of Rust's own: record and lists by reference, so that nothing is copied.
 #[inline(never)]
-pub fn lookup_by_reference(record: &Record, rows: &Elements, address: u32) -> Answer {
+pub fn lookup_by_reference(record: &Record, rows: &Elements, address: u32) -> Numbers {
     walk(record, *rows, address)
 }
 
@@ -136,7 +122,8 @@ pub fn lookup_batch(record: Record, rows: Elements, addresses: &[u32], answers: 
     let places = answers.number.iter_mut().zip(answers.hop).zip(answers.reads);
     let mut answered = 0;
     for (address, ((number, hop), reads)) in addresses.iter().zip(places) {
-        (*number, *hop, *reads) = walk(&record, rows, *address).numbers();
+        let found = walk(&record, rows, *address);
+        (*number, *hop, *reads) = (found.number, found.hop, found.reads);
         answered += 1;
     }
     answered

@@ -69,14 +69,14 @@ shared-slice-read-map c =
 is-set-requires : tie.Need-is-set-requires Inv-loop μ-loop
 is-set-requires c κs = c .before .before .before .before .path-at .ensures .1
 
-told-requires : tie.Need-told-requires Inv-loop μ-loop
-told-requires c κs = c .before .before .before .before .before .before .before .before .before .before .before .before .before .before .before .pre .2
+best-numbers-requires : tie.Need-best-numbers-requires Inv-loop μ-loop
+best-numbers-requires c κs = c .before .before .before .before .before .before .before .before .before .before .before .before .before .before .before .pre .2
 
 returns : tie.Need-returns Inv-loop μ-loop
 returns c =
     let l = c .before .before .before .before .before .before .before .before .before .loop in
     let p = c .before .before .before .before .before .before .before .path-at .ensures in
-    c .told .ensures
+    c .best-numbers .ensures
     ∙ ap answerNumbers
     (sym (visit-ends _ _ _ _ _ _ (l .i) (l .left) (l .best) (l .reads) refl (c .before .before .before .before .before .before .before .before .loop-test .taken) (p .0)
     (c .before .before .before .before .better .ensures _ (c .before .before .before .before .before .before .before .before .before .before .masks .ensures .each _ (p .1)))
@@ -164,7 +164,7 @@ follow-spec =
     mul-map
     shared-slice-read-map
     is-set-requires
-    told-requires
+    best-numbers-requires
     returns
     refusal-numbers-requires
     returns-2

@@ -2,8 +2,8 @@ use mathlib.Core.Path.{refl, ap, _∙_}
 use borrow.Author.Needs.{needs}
 use Rattle.walk.specs.Answers.{answerNumbers}
 use Rattle.visits.proofs.Visiting.{tell-missing, tell-past, tell-hop}
-use Rattle.visits.proofs.looking.told.Statement.{statement}
-use Rattle.visits.proofs.looking.told.Tie as tie
+use Rattle.visits.proofs.looking.best_numbers.Statement.{statement}
+use Rattle.visits.proofs.looking.best_numbers.Tie as tie
 
 enum-told : tie.Need-enum-told
 enum-told c = search needs
@@ -35,8 +35,8 @@ returns-2 c = c .hop-numbers .ensures ∙ ap answerNumbers (tell-missing _ _ _ (
 returns-3 : tie.Need-returns-3
 returns-3 c = c .hop-numbers2 .ensures ∙ ap answerNumbers (tell-hop _ _ _ (c .before .before .before .before .best .given .1) (c .before .before .if1 .left) refl)
 
-pub told-spec : {M : Type 1} → statement M
-told-spec =
+pub best-numbers-spec : {M : Type 1} → statement M
+best-numbers-spec =
     tie.close
     (tie.spec
     enum-told
