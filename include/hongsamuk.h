@@ -20,7 +20,8 @@
  * own, so calls on different lists may run at the same time. A list that a call writes must not overlap another list of that call.
  *
  * An entry's hop is 1 to 65,535. HONGSAMUK_DISCARD is the hop of a route that discards packets: an entry like any other, and where
- * it is the longest that begins an address, the answer. It is not hop 0, which says that no entry begins the address.
+ * it is the longest that begins an address, the answer, with number 0. Test for it before sending: it is no link. Nor is it hop 0, which
+ * says that no entry begins the address.
  *
  * A table can be laid out in two ways: in elements, as few as a level limit allows, or as a tree bitmap, in supernodes of four
  * levels and hops. Both give every address the same hop.
@@ -196,7 +197,8 @@ hongsamuk_answer hongsamuk_lookup(
     uint32_t address);
 
 /* Lookups one after the other: answers as many addresses as the shortest of the address list and the three answer lists has, writes
- * number, hop and reads of each at its index, keeps the later places of these lists, and returns how many. No other list changes. */
+ * number, hop (HONGSAMUK_DISCARD: discard) and reads of each at its index, keeps the later places of these lists, and returns how many.
+ * No other list changes. */
 size_t hongsamuk_lookup_batch(
     hongsamuk_record record,
     const uint16_t *row_hop, size_t row_hops,

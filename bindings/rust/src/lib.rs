@@ -163,7 +163,7 @@ pub struct BitmapRowsMut<'a> {
     pub hop_row: &'a mut [u16],
 }
 
-/// Room for the answers of a batch: number (0: accepted), hop (0: no route) and reads of each address.
+/// Room for the answers of a batch: number (0: accepted), hop (0: no route, or refused; [`DISCARD`]: discard) and reads of each address.
 #[derive(PartialEq, Eq, Debug)]
 pub struct AnswersMut<'a> {
     pub number: &'a mut [u32],
