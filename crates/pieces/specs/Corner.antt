@@ -2,6 +2,7 @@
 -- its place, like any other.
 use mathlib.Core.Path.{_≡_, refl}
 use mathlib.Core.List.{List, [], _∷_}
+use Prim.Native.Nat.{ℕ}
 use Rattle.table.specs.Prefix.{start}
 use Rattle.table.specs.Corner.{cornerValues, cornerLengths, cornerHops}
 use Rattle.strides.specs.Entries.{wholeEntry, markAt}
@@ -9,7 +10,9 @@ use Rattle.pieces.specs.BinaryTrie.{BinaryTrie, beginsEntry, someBegins,
 use Rattle.pieces.specs.Maps.{placeLevel, mapOf, isNode, subtrieAlong, subtrieAt, internalMap, externalMap, ifNode, ifMark, kidsTo, marksTo}
 use Rattle.pieces.specs.Order.{kidsOf, order}
 use Rattle.pieces.specs.Rows.{SupernodeRow, supernodeRows, supernodesOf, bitmapRows, marksOfAll, bitmapHops}
-use Rattle.pieces.specs.Eight.{row}
+
+abbrev row : (internal external child hop : ℕ) → SupernodeRow
+row i e c h = record { internal = i; external = e; firstChild = c; firstHop = h }
 
 abbrev cornerBinary : BinaryTrie
 cornerBinary = tableBinary 4 cornerValues cornerLengths cornerHops

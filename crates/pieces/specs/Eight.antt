@@ -15,7 +15,7 @@ use Rattle.pieces.specs.Rows.{SupernodeRow, supernodeRows, supernodesOf,
 abbrev pub eightBinary : BinaryTrie
 eightBinary = tableBinary 7 eightValues eightLengths eightHops
 
-abbrev pub row : (internal external child hop : ℕ) → SupernodeRow
+abbrev row : (internal external child hop : ℕ) → SupernodeRow
 row i e c h = record { internal = i; external = e; firstChild = c; firstHop = h }
 
 abbrev pub eightRows : List SupernodeRow

@@ -54,17 +54,17 @@ accepted-is (Discard r) z c = refl
 accepted-is (NoRoute r) z c = refl
 accepted-is (Refused n) z c = absurd (omega arith)
 
-refused-is : (a : Answer) → 0 < numberOf a → a ≡ Refused (numberOf a)
-refused-is (Match h r) s = absurd (omega arith)
-refused-is (Discard r) s = absurd (omega arith)
-refused-is (NoRoute r) s = absurd (omega arith)
-refused-is (Refused n) s = refl
+refusal-is : (a : Answer) → 0 < numberOf a → a ≡ Refused (numberOf a)
+refusal-is (Match h r) s = absurd (omega arith)
+refusal-is (Discard r) s = absurd (omega arith)
+refusal-is (NoRoute r) s = absurd (omega arith)
+refusal-is (Refused n) s = refl
 
 -- so two answers of the same numbers and of their case are one
 pub answer-unique : (a b : Answer) → numberOf a ≡ numberOf b → hopOf a ≡ hopOf b → readsOf a ≡ readsOf b → Case a → Case b → a ≡ b
 answer-unique a b n e f c d = elim (decLe (numberOf a) 0) [
   | yes z ↦ accepted-is a (omega arith) c ∙ ap₂ answer e f ∙ sym (accepted-is b (omega arith) d)
-  | no s ↦ refused-is a (omega arith) ∙ ap Refused n ∙ sym (refused-is b (omega arith))
+  | no s ↦ refusal-is a (omega arith) ∙ ap Refused n ∙ sym (refusal-is b (omega arith))
 ]
 
 -- a discard is told from every other answer by its hop
