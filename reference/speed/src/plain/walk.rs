@@ -3,8 +3,8 @@
 use super::{LEVELS, WIDTH};
 use hongsamuk::{raw, Record};
 
-/// Number, hop and reads, as the header's calls tell them. Nothing is decided by which answer it is: in an enum of four cases it would be
-/// slower.
+/// Number, hop and reads, as the header's calls tell them. By reference and in a tree bitmap that is faster than an enum of four cases,
+/// behind the header's call it is slower for random addresses: docs/SPEED.md has both.
 #[derive(Clone, Copy, PartialEq, Eq, Debug)]
 pub struct Numbers {
     pub number: u32,
