@@ -1,14 +1,21 @@
 // Runs build and lookup on the cases of standard input, and prints every answer.
 // A line of the input is a case. `table` gives the table of the builds below it; `rising` has it made of a width, a
 // number of entries and their length. `fixed` and `variable` give the level limit and the lengths of scratch, which is
-// filled with sevens, and of the element lists, filled with nines; the answer is the outcome, the record, scratch's zeros
-// and sevens, and how many nines each element list has past row E. `record` gives a record and rows of its own. `print`
-// prints rows 0 to E-1 of the last record, `look` asks it one address, `sweep` all addresses below a number. A line with
-// another word, or with a list longer than the program's room or than the rows that it gives, is answered `bad line` and
-// changes nothing. A text that fills the page is answered `text too long`.
+// filled with sevens, and of the element lists, filled with nines, the length list with fives; the answer is the outcome,
+// the record, scratch's zeros and sevens, and how many nines, or fives, each element list has past row E. `record` gives a
+// record and rows of its own. `print` prints rows 0 to E-1 of the last record, `look` asks it one address, `sweep` all
+// addresses below a number. A line with another word, or with a list longer than the program's room or than the rows that
+// it gives, is answered `bad line` and changes nothing. A text that fills the page is answered `text too long`.
+mod lists;
+
 use cases::Held;
-use cases::ThreeLengths;
 use libc::STDIN_FILENO;
+use lists::Lists;
+use lists::is_longer;
+use lists::is_unfit;
+use lists::lists_at;
+use lists::no_lists;
+use lists::read_rows;
 use printing::put;
 use printing::say;
 use printing::say_answer;
@@ -21,12 +28,11 @@ use tries::Built;
 use tries::Kind;
 use tries::Record;
 
-// The table, the record and the lengths of the element lists (hops, links, strides) of the lines below, and the next
-// place of the text.
+// The table, the record and the lengths of the element lists of the lines below, and the next place of the text.
 struct State {
     held: Held,
     record: Record,
-    lists: ThreeLengths,
+    lists: Lists,
     at: usize,
 }
 
@@ -56,17 +62,26 @@ fn say_record(record: Record) {
 }
 
 // The marks of the rows from a place on, as the build should keep them.
-fn say_kept(from: usize, row_hops: &[u16], row_links: &[u32], row_strides: &[u8]) {
+fn say_kept(
+    from: usize,
+    row_hops: &[u16],
+    row_lengths: &[u8],
+    row_links: &[u32],
+    row_strides: &[u8],
+) {
     say(b" nines");
     put(cases::count16(row_hops, from, 9) as u64);
     put(cases::count32(row_links, from, 9) as u64);
     put(cases::count8(row_strides, from, 9) as u64);
+    say(b" fives");
+    put(cases::count8(row_lengths, from, 5) as u64);
 }
 
 fn say_built(
     built: Built,
     scratch: &[u64],
     row_hops: &[u16],
+    row_lengths: &[u8],
     row_links: &[u32],
     row_strides: &[u8],
 ) -> Record {
@@ -75,18 +90,26 @@ fn say_built(
     say_outcome(outcome);
     say_record(record);
     say_scratch(scratch);
-    say_kept(record.elements as usize, row_hops, row_links, row_strides);
+    say_kept(
+        record.elements as usize,
+        row_hops,
+        row_lengths,
+        row_links,
+        row_strides,
+    );
     record
 }
 
 fn mark_lists(
     scratch: &mut [u64],
     row_hops: &mut [u16],
+    row_lengths: &mut [u8],
     row_links: &mut [u32],
     row_strides: &mut [u8],
 ) {
     cases::fill64(scratch, 7);
     cases::fill16(row_hops, 9);
+    cases::fill8(row_lengths, 5);
     cases::fill32(row_links, 9);
     cases::fill8(row_strides, 9);
 }
@@ -100,10 +123,11 @@ fn built(
     hops: &[u16],
     scratch: &mut [u64],
     row_hops: &mut [u16],
+    row_lengths: &mut [u8],
     row_links: &mut [u32],
     row_strides: &mut [u8],
 ) -> Record {
-    mark_lists(scratch, row_hops, row_links, row_strides);
+    mark_lists(scratch, row_hops, row_lengths, row_links, row_strides);
     let built = tries::build(
         kind,
         width,
@@ -113,10 +137,18 @@ fn built(
         hops,
         scratch,
         row_hops,
+        row_lengths,
         row_links,
         row_strides,
     );
-    say_built(built, scratch, row_hops, row_links, row_strides)
+    say_built(
+        built,
+        scratch,
+        row_hops,
+        row_lengths,
+        row_links,
+        row_strides,
+    )
 }
 
 fn build_held(
@@ -128,6 +160,7 @@ fn build_held(
     hops: &[u16],
     scratch: &mut [u64],
     row_hops: &mut [u16],
+    row_lengths: &mut [u8],
     row_links: &mut [u32],
     row_strides: &mut [u8],
 ) -> Record {
@@ -143,6 +176,7 @@ fn build_held(
         h,
         scratch,
         row_hops,
+        row_lengths,
         row_links,
         row_strides,
     )
@@ -195,23 +229,25 @@ fn build_line(
     hops: &[u16],
     scratch: &mut [u64],
     row_hops: &mut [u16],
+    row_lengths: &mut [u8],
     row_links: &mut [u32],
     row_strides: &mut [u8],
 ) -> State {
     let held = state.held;
     let levels = cases::number(text, at);
     let places = cases::number(text, levels.next);
-    let lists = cases::three_at(text, places.next);
+    let lists = lists_at(text, places.next);
     if scratch.len() < places.value as usize {
         return bad_line(text, at, state);
     }
-    if cases::is_longer(lists, row_hops.len()) {
+    if is_longer(lists, row_hops.len()) {
         return bad_line(text, at, state);
     }
     let n = cases::least(places.value as usize, scratch.len());
-    let a = cases::least(lists.first, row_hops.len());
-    let b = cases::least(lists.second, row_links.len());
-    let c = cases::least(lists.third, row_strides.len());
+    let a = cases::least(lists.hops, row_hops.len());
+    let b = cases::least(lists.lengths, row_lengths.len());
+    let c = cases::least(lists.links, row_links.len());
+    let d = cases::least(lists.strides, row_strides.len());
     let record = build_held(
         kind,
         cases::held32(levels.value),
@@ -221,8 +257,9 @@ fn build_line(
         hops,
         &mut scratch[0..n],
         &mut row_hops[0..a],
-        &mut row_links[0..b],
-        &mut row_strides[0..c],
+        &mut row_lengths[0..b],
+        &mut row_links[0..c],
+        &mut row_strides[0..d],
     );
     State {
         held,
@@ -249,7 +286,7 @@ fn record_at(text: &[u8], at: usize, held: Held) -> State {
         floor: cases::held16(floor.value),
         strides,
     };
-    let lists = cases::three_at(text, others.next);
+    let lists = lists_at(text, others.next);
     State {
         held,
         record,
@@ -258,33 +295,57 @@ fn record_at(text: &[u8], at: usize, held: Held) -> State {
     }
 }
 
-fn sweep(below: u32, record: Record, row_hops: &[u16], row_links: &[u32], row_strides: &[u8]) {
+fn sweep(
+    below: u32,
+    record: Record,
+    row_hops: &[u16],
+    row_lengths: &[u8],
+    row_links: &[u32],
+    row_strides: &[u8],
+) {
     say(b"sweep");
     let mut address: u32 = 0;
     while address < below {
-        say_swept(tries::lookup(record, row_hops, row_links, row_strides, address));
+        say_swept(tries::lookup(
+            record,
+            row_hops,
+            row_lengths,
+            row_links,
+            row_strides,
+            address,
+        ));
         address += 1;
     }
 }
 
-fn say_row(hop: u16, link: u32, stride: u8) {
+fn say_row(hop: u16, length: u8, link: u32, stride: u8) {
     put(hop as u64);
+    say(b"/");
+    say_number(length as u64);
     say(b"/");
     say_number(link as u64);
     say(b"/");
     say_number(stride as u64);
 }
 
-fn print(elements: usize, row_hops: &[u16], row_links: &[u32], row_strides: &[u8]) {
+fn print(
+    elements: usize,
+    row_hops: &[u16],
+    row_lengths: &[u8],
+    row_links: &[u32],
+    row_strides: &[u8],
+) {
     say(b"rows");
-    let shortest = cases::least(
+    let shortest = cases::least_of_four(
         row_hops.len(),
-        cases::least(row_links.len(), row_strides.len()),
+        row_lengths.len(),
+        row_links.len(),
+        row_strides.len(),
     );
     let n = cases::least(elements, shortest);
     let mut i = 0;
     while i < n {
-        say_row(row_hops[i], row_links[i], row_strides[i]);
+        say_row(row_hops[i], row_lengths[i], row_links[i], row_strides[i]);
         i += 1;
     }
 }
@@ -296,24 +357,26 @@ fn ask(
     word: Word,
     state: State,
     row_hops: &[u16],
+    row_lengths: &[u8],
     row_links: &[u32],
     row_strides: &[u8],
 ) -> usize {
     let record = state.record;
     let lists = state.lists;
-    let h = cases::front16(row_hops, lists.first);
-    let l = cases::front32(row_links, lists.second);
-    let s = cases::front8(row_strides, lists.third);
+    let h = cases::front16(row_hops, lists.hops);
+    let b = cases::front8(row_lengths, lists.lengths);
+    let l = cases::front32(row_links, lists.links);
+    let s = cases::front8(row_strides, lists.strides);
     if let Word::Print = word {
-        print(record.elements as usize, h, l, s);
+        print(record.elements as usize, h, b, l, s);
         return cases::seek(text, at, b'\n', b'\n');
     }
     let number = cases::number(text, at);
     if let Word::Sweep = word {
-        sweep(cases::held32(number.value), record, h, l, s);
+        sweep(cases::held32(number.value), record, h, b, l, s);
         return number.next;
     }
-    say_answer(tries::lookup(record, h, l, s, cases::held32(number.value)));
+    say_answer(tries::lookup(record, h, b, l, s, cases::held32(number.value)));
     number.next
 }
 
@@ -323,15 +386,15 @@ fn record_line(
     at: usize,
     state: State,
     row_hops: &mut [u16],
+    row_lengths: &mut [u8],
     row_links: &mut [u32],
     row_strides: &mut [u8],
 ) -> State {
     let mut next = record_at(text, at, state.held);
-    if cases::is_unfit(text, next.lists, row_hops.len()) {
+    if is_unfit(text, next.lists, row_hops.len()) {
         return bad_line(text, at, state);
     }
-    let listed = cases::rows(text, next.at, row_links, row_strides, row_hops);
-    next.at = listed.next;
+    next.at = read_rows(text, next.at, row_hops, row_lengths, row_links, row_strides);
     say(b"record");
     next
 }
@@ -385,6 +448,7 @@ fn line(
     hops: &mut [u16],
     scratch: &mut [u64],
     row_hops: &mut [u16],
+    row_lengths: &mut [u8],
     row_links: &mut [u32],
     row_strides: &mut [u8],
 ) -> State {
@@ -404,14 +468,32 @@ fn line(
             hops,
             scratch,
             row_hops,
+            row_lengths,
             row_links,
             row_strides,
         ),
-        Word::Record => record_line(text, at, state, row_hops, row_links, row_strides),
+        Word::Record => record_line(
+            text,
+            at,
+            state,
+            row_hops,
+            row_lengths,
+            row_links,
+            row_strides,
+        ),
         Word::Other => bad_line(text, at, state),
         _ => {
             let mut next = state;
-            next.at = ask(text, at, word, state, row_hops, row_links, row_strides);
+            next.at = ask(
+                text,
+                at,
+                word,
+                state,
+                row_hops,
+                row_lengths,
+                row_links,
+                row_strides,
+            );
             next
         }
     }
@@ -429,12 +511,7 @@ fn start(at: usize) -> State {
             floor: 0,
             strides: [0; tries::LEVELS as usize],
         },
-        lists: ThreeLengths {
-            first: 0,
-            second: 0,
-            third: 0,
-            next: at,
-        },
+        lists: no_lists(at),
         at,
     }
 }
@@ -446,6 +523,7 @@ fn run(
     hops: &mut [u16],
     scratch: &mut [u64],
     row_hops: &mut [u16],
+    row_lengths: &mut [u8],
     row_links: &mut [u32],
     row_strides: &mut [u8],
 ) {
@@ -461,6 +539,7 @@ fn run(
             hops,
             scratch,
             row_hops,
+            row_lengths,
             row_links,
             row_strides,
         );
@@ -481,6 +560,7 @@ fn main() {
     let mut hops = cases::hops();
     let mut scratch = cases::scratch();
     let mut row_hops = cases::row_hops();
+    let mut row_lengths = cases::row_lengths();
     let mut row_links = cases::row_links();
     let mut row_strides = cases::row_strides();
     run(
@@ -490,6 +570,7 @@ fn main() {
         &mut hops,
         &mut scratch,
         &mut row_hops,
+        &mut row_lengths,
         &mut row_links,
         &mut row_strides,
     );

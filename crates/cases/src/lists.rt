@@ -11,7 +11,7 @@ pub struct ThreeLengths {
     pub next: usize,
 }
 
-pub fn three_at(text: &[u8], at: usize) -> ThreeLengths
+pub(crate) fn three_at(text: &[u8], at: usize) -> ThreeLengths
     ensures { λ r. ⌜ r ≡ threeAt (now (text .entry)) at ⌝ }
 {
     let first = number(text, at);
@@ -26,7 +26,7 @@ pub fn three_at(text: &[u8], at: usize) -> ThreeLengths
 }
 
 // Whether one of the three lists is longer than that.
-pub fn is_longer(lists: ThreeLengths, than: usize) -> bool
+pub(crate) fn is_longer(lists: ThreeLengths, than: usize) -> bool
     ensures { λ r. ⌜ r ≡ isLonger lists than ⌝ }
 {
     if than < lists.first {
@@ -39,7 +39,7 @@ pub fn is_longer(lists: ThreeLengths, than: usize) -> bool
 }
 
 // Whether the rows that the text gives next are more than the room, or one of the three lists is longer than the rows.
-pub fn is_unfit(text: &[u8], lists: ThreeLengths, room: usize) -> bool
+pub(crate) fn is_unfit(text: &[u8], lists: ThreeLengths, room: usize) -> bool
     ensures { λ r. ⌜ r ≡ isUnfit (now (text .entry)) lists room ⌝ }
 {
     let rows = number(text, lists.next).value as usize;

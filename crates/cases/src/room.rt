@@ -43,8 +43,14 @@ pub fn scratch() -> [u64; SCRATCH]
     [0; SCRATCH]
 }
 
-// The three element lists.
+// The four element lists.
 pub fn row_hops() -> [u16; ROWS]
+    ensures { λ r. ⌜ ROWS ≡ length r ⌝ }
+{
+    [0; ROWS]
+}
+
+pub fn row_lengths() -> [u8; ROWS]
     ensures { λ r. ⌜ ROWS ≡ length r ⌝ }
 {
     [0; ROWS]

@@ -21,6 +21,7 @@ use Rattle.strides.specs.Insertion.{nodeCount}
 use Rattle.strides.proofs.Counting.{node-count}
 use Rattle.walk.specs.Limits.{WIDTH, LEVELS, Within}
 use Rattle.choosers.specs.Scratch.{ROW, MARKS}
+use Rattle.layout.specs.Marks.{entryMarks}
 use Rattle.layout.specs.Laid.{tableTrie}
 use Rattle.choosers.specs.Making.{Prefixes}
 use Rattle.choosers.specs.Chooser.{levelsTest, scratchTest, chooseTests}
@@ -72,7 +73,7 @@ module _ (W k : ℕ) (vs ls hs : List ℕ) (words : ℕ) where
       count-size : Table W vs ls hs → (c : ℕ) → c ≡ nodeCount W (at vs) (at ls) (length vs) → c ≡ size (tableTrie W vs ls hs)
       count-size t c e =
           let p = table-prefixes W vs ls hs t in
-          e ∙ node-count W (at vs) (at ls) (length vs) (p .prefix) (p .rises) (at hs) (length vs) (le-refl (length vs))
+          e ∙ node-count W (at vs) (at ls) (length vs) (p .prefix) (p .rises) (entryMarks ls hs) (length vs) (le-refl (length vs))
 
       pub tests-scratch : checkOf W vs ls hs ≡ Accepted → (c : ℕ) → c ≡ nodeCount W (at vs) (at ls) (length vs) → words / ROW < c
           → outcome (chooseTests W k vs ls hs words) ≡ Refused 6 c
@@ -105,7 +106,7 @@ accepted-tests-table W k vs ls hs words e =
     let r = accepted-parts (listTests hopBad W vs ls hs) (scratchTest W vs ls hs words ∷ []) (q .1) in
     accepted-table W vs ls hs (outcome-passes (widthTest W) (listTests hopBad W vs ls hs) (p .0) ∙ r .0)
 
-pub accepted-plan : (W k : ℕ) (vs ls hs scratch : List ℕ) → ((i : ℕ) → at hs i < MARKS) → outcome (chooseTests W k vs ls hs (length scratch)) ≡ Accepted
+pub accepted-plan : (W k : ℕ) (vs ls hs scratch : List ℕ) → ((i : ℕ) → entryMarks ls hs i < MARKS) → outcome (chooseTests W k vs ls hs (length scratch)) ≡ Accepted
     → PlanIn W k vs ls hs scratch
 unfolding chooseTests checkOf tableTests
 accepted-plan W k vs ls hs scratch small e =
@@ -117,5 +118,5 @@ accepted-plan W k vs ls hs scratch small e =
       table = accepted-tests-table W k vs ls hs (length scratch) e;
       levels = within-levels k LEVELS (q .0);
       room = omega (arith, ltb-false (length scratch / ROW) (size (tableTrie W vs ls hs)) (s .0));
-      marks = small;
+      small = small;
     }

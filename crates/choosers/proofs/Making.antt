@@ -12,6 +12,7 @@ use Rattle.table.specs.Table.{at}
 use Rattle.strides.specs.Trie.{bit, depth, size, sumBy, nodesAt}
 use Rattle.strides.specs.Entries.{trieOf}
 use Rattle.strides.specs.Insertion.{insertT, met, nodeCount}
+use Rattle.layout.specs.Marks.{entryMarks}
 use Rattle.strides.proofs.Insertion.{trie-insert, trie-empty, insert-size, met-within}
 use Rattle.strides.proofs.Counting.{node-count}
 use Rattle.walk.specs.Limits.{WIDTH}
@@ -192,7 +193,7 @@ link-one (fork x p l q r) e = (λ h. omega arith, λ z. absurd (omega arith))
 
 module _ (W : ℕ) (vs ls hs : List ℕ) where
   abbrev tree : ℕ → Tree
-  tree i = treeOf W (at vs) (at ls) (at hs) i
+  tree i = treeOf W (at vs) (at ls) (entryMarks ls hs) i
 
   -- after the first i entries
   pub record Made (i used : ℕ) (rows counts : List ℕ) : Type 0 where
@@ -210,17 +211,17 @@ module _ (W : ℕ) (vs ls hs : List ℕ) where
 
   module _ (p : Prefixes W vs ls) where
     -- the trie of the first entries is no larger than that of all
-    tree-room : (i : ℕ) → i ≤ length vs → size (shape (tree i)) ≤ size (trieOf W (at vs) (at ls) (at hs) (length vs))
+    tree-room : (i : ℕ) → i ≤ length vs → size (shape (tree i)) ≤ size (trieOf W (at vs) (at ls) (entryMarks ls hs) (length vs))
     tree-room i h =
         let n = length vs in
-        let c : (j : ℕ) → j ≤ n → nodeCount W (at vs) (at ls) j ≡ size (trieOf W (at vs) (at ls) (at hs) j)
-        = λ j l. node-count W (at vs) (at ls) n (p .prefix) (p .rises) (at hs) j l in
-        let s = ap size (tree-shape W (at vs) (at ls) (at hs) i (λ j l. p .prefix j (omega arith))) in
+        let c : (j : ℕ) → j ≤ n → nodeCount W (at vs) (at ls) j ≡ size (trieOf W (at vs) (at ls) (entryMarks ls hs) j)
+        = λ j l. node-count W (at vs) (at ls) n (p .prefix) (p .rises) (entryMarks ls hs) j l in
+        let s = ap size (tree-shape W (at vs) (at ls) (entryMarks ls hs) i (λ j l. p .prefix j (omega arith))) in
         let e : i + (n - i) ≡ n = omega arith in
         omega (arith, c i h, c n (le-refl n), rw e at (count-mono W (at vs) (at ls) i (n - i)))
 
-    pub make-add : (rows counts : List ℕ) (i used : ℕ) → size (trieOf W (at vs) (at ls) (at hs) (length vs)) * ROW ≤ length rows → i < length vs
-        → Made i used rows counts → CountIn rows counts used W (at vs i) (at ls i) (at hs i)
+    pub make-add : (rows counts : List ℕ) (i used : ℕ) → size (trieOf W (at vs) (at ls) (entryMarks ls hs) (length vs)) * ROW ≤ length rows → i < length vs
+        → Made i used rows counts → CountIn rows counts used W (at vs i) (at ls i) (entryMarks ls hs i)
     unfolding treeOf
     make-add rows counts i used room h m = record {
       adds = record {
@@ -235,25 +236,25 @@ module _ (W : ℕ) (vs ls hs : List ℕ) where
     }
 
     pub make-next : (rows rows′ counts counts′ : List ℕ) (i used used′ : ℕ) → Made i used rows counts
-        → AddCounted rows counts used W (at vs i) (at ls i) (at hs i) used′ rows′ counts′ → Made (i + 1) used′ rows′ counts′
+        → AddCounted rows counts used W (at vs i) (at ls i) (entryMarks ls hs i) used′ rows′ counts′ → Made (i + 1) used′ rows′ counts′
     unfolding treeOf
     make-next rows rows′ counts counts′ i used used′ m d =
         let o = d .added (tree i) (m .laid) (m .count) in
-        let c = counts-next counts counts′ (shape (tree i)) (at ls i) (start W (at ls i) (at vs i)) (at hs i) (m .counted) (d .levels (tree i) (m .laid) (m .count)) in
-        let e : addEntry (at ls i) used (tree i) (start W (at ls i) (at vs i)) (at hs i) ≡ tree (i + 1) = tree-next i used (m .count) in
+        let c = counts-next counts counts′ (shape (tree i)) (at ls i) (start W (at ls i) (at vs i)) (entryMarks ls hs i) (m .counted) (d .levels (tree i) (m .laid) (m .count)) in
+        let e : addEntry (at ls i) used (tree i) (start W (at ls i) (at vs i)) (entryMarks ls hs i) ≡ tree (i + 1) = tree-next i used (m .count) in
         record {
           laid = rw e at (o .laid);
           count = rw e at (o .count);
-          counted = subst (CountsOf counts′) (sym (add-shape (at ls i) used (tree i) (start W (at ls i) (at vs i)) (at hs i)) ∙ ap shape e) c;
+          counted = subst (CountsOf counts′) (sym (add-shape (at ls i) used (tree i) (start W (at ls i) (at vs i)) (entryMarks ls hs i)) ∙ ap shape e) c;
         }
       where
-        tree-next : (i used : ℕ) → used ≡ size (shape (tree i)) → addEntry (at ls i) used (tree i) (start W (at ls i) (at vs i)) (at hs i) ≡ tree (i + 1)
+        tree-next : (i used : ℕ) → used ≡ size (shape (tree i)) → addEntry (at ls i) used (tree i) (start W (at ls i) (at vs i)) (entryMarks ls hs i) ≡ tree (i + 1)
         tree-next i used e = rw (add-one i, e) refl
 
     pub make-done : (rows counts : List ℕ) (i used root : ℕ) → i ≡ length vs → Made i used rows counts → (0 < used → root ≡ 1) → (used ≡ 0 → root ≡ 0)
         → MakeOut W vs ls hs root rows counts
     make-done rows counts i used root h m one nil′ =
-        let t = treeOf W (at vs) (at ls) (at hs) i in
+        let t = treeOf W (at vs) (at ls) (entryMarks ls hs) i in
         let e = m .count in
         let l = link-one t (m .laid .rooted) in
         let k : root ≡ linkOf t = ⊎-elim (λ z. nil′ z ∙ sym (l .1 (sym e ∙ z))) (λ q. one q ∙ sym (l .0 (rw e at q))) (zero-or used) in

@@ -8,9 +8,8 @@ use native.Mathlib.Nat.{le-refl, mod-eq-of-lt}
 use native.Mathlib.Omega.{arith}
 use lib.ListN.{length, getD, replicate, set}
 use borrow.Author.Tests.{eq-eqb, ne-eqb}
-use Rattle.table.specs.Prefix.{start}
 use Rattle.table.specs.Lists.{padded}
-use Rattle.strides.specs.Trie.{Trie, none, node, bit, depth, size, nodesAt}
+use Rattle.strides.specs.Trie.{Trie, none, node, AllMarks, depth, nodesAt}
 use Rattle.strides.specs.Cheapest.{variable}
 use Rattle.strides.specs.Recurrence.{optBy, pickBy, pickFixedBy, leastBy, stridesBy, fixedStrides}
 use Rattle.strides.specs.Strides.{variableStride}
@@ -18,48 +17,16 @@ use Rattle.strides.proofs.Strides.{pick-variable}
 use Rattle.walk.specs.Limits.{WIDTH, LEVELS}
 use Rattle.choosers.specs.Limits.{BYTE}
 use Rattle.choosers.specs.Scratch.{ROW, DEPTH, ask, strideAt, Stands, BEFORE-STRIDES, COST, MARKS, STRIDE}
-use Rattle.choosers.specs.Trees.{Tree, nil, fork, shape, linkOf, Stand, Deep, HasRow, lt, rt, lmark, rmark, rowFor, next, side, setSide, setMark, insertR, addEntry, treeOf}
+use Rattle.choosers.specs.Trees.{Tree, nil, fork, shape, linkOf, Stand, Deep, HasRow}
 use Rattle.choosers.specs.Costs.{held, AllPriced}
 use Rattle.choosers.proofs.Settling.{ask-col}
 use Rattle.choosers.proofs.FixedChoice.{list-head}
 
 -- ---- the rows that a plan leaves, as the builder reads them
 
--- marks are hops: they fit 16 bits
-abbrev SmallMarks : Tree → Type 0
-SmallMarks nil = Unit {0}
-SmallMarks (fork x p l q r) = (p < MARKS) × (q < MARKS) × SmallMarks l × SmallMarks r
-
-small-parts : (t : Tree) → SmallMarks t → (lmark t < MARKS) × (rmark t < MARKS) × SmallMarks (lt t) × SmallMarks (rt t)
-small-parts nil m = (omega arith, omega arith, tt, tt)
-small-parts (fork x p l q r) m = m
-
-small-side : (s : ℕ) (t : Tree) → SmallMarks t → SmallMarks (side s t)
-small-side zero t m = small-parts t m .2
-small-side (suc s) t m = small-parts t m .3
-
-small-insert : (n u : ℕ) (t : Tree) (v h : ℕ) → h < MARKS → SmallMarks t → SmallMarks (insertR n u t v h)
-unfolding insertR
-small-insert zero u t v h b m = go (bit 0 v)
-  where
-    go : (s : ℕ) → SmallMarks (setMark s (rowFor u t) t h)
-    go zero = let q = small-parts t m in (b, q .1, q .2, q .3)
-    go (suc s) = let q = small-parts t m in (q .0, b, q .2, q .3)
-small-insert (suc n) u t v h b m = go (bit (suc n) v) (λ s. small-insert n (next u t) (side s t) v h b (small-side s t m))
-  where
-    go : (s : ℕ) → ((s : ℕ) → SmallMarks (insertR n (next u t) (side s t) v h)) → SmallMarks (setSide s (rowFor u t) t (insertR n (next u t) (side s t) v h))
-    go zero k = let q = small-parts t m in (q .0, q .1, k zero, q .3)
-    go (suc s) k = let q = small-parts t m in (q .0, q .1, q .2, k (suc s))
-
-pub small-tree : (W : ℕ) (val len mark : ℕ → ℕ) (n : ℕ) → ((i : ℕ) → mark i < MARKS) → SmallMarks (treeOf W val len mark n)
-unfolding treeOf addEntry
-small-tree W val len mark zero h = tt
-small-tree W val len mark (suc n) h = go (len n) (small-tree W val len mark n h)
-  where
-    go : (l : ℕ) → SmallMarks (treeOf W val len mark n)
-        → SmallMarks (addEntry l (size (shape (treeOf W val len mark n))) (treeOf W val len mark n) (start W (len n) (val n)) (mark n))
-    go zero m = m
-    go (suc l) m = small-insert l (size (shape (treeOf W val len mark n))) (treeOf W val len mark n) (start W (len n) (val n)) (mark n) (h n) m
+-- a mark that a word of 24 bits holds
+abbrev pub Small : ℕ → Type 0
+Small mark = mark < MARKS
 
 -- each node's strides, as they are read
 abbrev StridesIn : (ℕ → Trie → ℕ) → List ℕ → List ℕ → Tree → Type 0
@@ -67,7 +34,7 @@ StridesIn σ rows plan nil = Unit {0}
 StridesIn σ rows plan (fork x p l q r) =
     ((i : ℕ) → 1 ≤ i → i ≤ length plan → strideAt rows plan (x + 1) i ≡ σ i (node p (shape l) q (shape r))) × StridesIn σ rows plan l × StridesIn σ rows plan r
 
-pub tree-stands : (σ : ℕ → Trie → ℕ) (rows plan : List ℕ) (t : Tree) → Stand rows t → Deep rows t → SmallMarks t
+pub tree-stands : (σ : ℕ → Trie → ℕ) (rows plan : List ℕ) (t : Tree) → Stand rows t → Deep rows t → AllMarks Small (shape t)
     → ((y : ℕ) → HasRow y t → (y + 1) * ROW ≤ length rows) → StridesIn σ rows plan t → Stands σ rows plan (linkOf t) (shape t)
 unfolding shape
 tree-stands σ rows plan nil s d m f i = refl
@@ -78,11 +45,11 @@ tree-stands σ rows plan (fork x p l q r) s d m f i = (
     mark0 = ask-col rows x 2 ∙ s .0 .mark0;
     mark1 = ask-col rows x 3 ∙ s .0 .mark1;
     small0 = m .0;
-    small1 = m .1;
+    small1 = m .2;
     deep = ask-col rows x DEPTH ∙ d .0;
     stride = i .0;
   },
-  rw (ask-col rows x 0 ∙ s .0 .link0) (tree-stands σ rows plan l (s .1) (d .1) (m .2) (λ y h. f y (inr (inl h))) (i .1)),
+  rw (ask-col rows x 0 ∙ s .0 .link0) (tree-stands σ rows plan l (s .1) (d .1) (m .1) (λ y h. f y (inr (inl h))) (i .1)),
   rw (ask-col rows x 1 ∙ s .0 .link1) (tree-stands σ rows plan r (s .2) (d .2) (m .3) (λ y h. f y (inr (inr h))) (i .2)),
 )
 

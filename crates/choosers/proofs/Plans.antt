@@ -8,16 +8,18 @@ use lib.Pow.{pow-mono}
 use lib.ListN.{length, getD, replicate, take, set, length-replicate, length-take}
 use lib.Seq.{getD-take}
 use Rattle.table.specs.Table.{at}
-use Rattle.strides.specs.Trie.{Trie, depth, size}
+use Rattle.strides.specs.Trie.{Trie, AllMarks, depth, size}
 use Rattle.strides.specs.Entries.{longestLength}
 use Rattle.strides.specs.Cheapest.{Kind, fixed, variable}
 use Rattle.strides.specs.Recurrence.{plain, optBy, pickBy, leastBy, stridesBy, fixedStrides}
 use Rattle.strides.specs.Strides.{variableStride, fixedStride, chosenBy}
 use Rattle.strides.proofs.Insertion.{trie-depth, trie-depth-width, nodes-entries}
+use Rattle.strides.proofs.Marks.{trie-marks}
 use Rattle.strides.proofs.Capped.{least-capped, strides-capped, follows-capped, cap-never-bites}
 use Rattle.walk.specs.Limits.{WIDTH, LEVELS}
 use Rattle.choosers.specs.Limits.{COST-CAP, BYTE}
 use Rattle.choosers.specs.Scratch.{ROW, ask, Stands, BEFORE-COSTS, BEFORE-STRIDES, COST, STRIDE}
+use Rattle.layout.specs.Marks.{entryMarks}
 use Rattle.layout.specs.Laid.{tableTrie}
 use Rattle.choosers.specs.Trees.{Tree, nil, fork, shape, linkOf, HasRow, treeOf}
 use Rattle.choosers.specs.Making.{Prefixes, MakeIn, MakeOut}
@@ -31,7 +33,7 @@ use Rattle.choosers.proofs.Making.{tree-shape}
 use Rattle.choosers.proofs.Settling.{priced-none}
 use Rattle.choosers.specs.Plans.{PlanIn, Planned}
 use Rattle.choosers.proofs.ChooseTests.{table-prefixes}
-use Rattle.choosers.proofs.PlanRows.{small-tree, tree-stands, strides-own, root-cost, root-pick, least-variable, root-stride, fixed-strides}
+use Rattle.choosers.proofs.PlanRows.{Small, tree-stands, strides-own, root-cost, root-pick, least-variable, root-stride, fixed-strides}
 
 -- ---- the plan of each kind
 
@@ -40,16 +42,19 @@ module _ (W k : ℕ) (vs ls hs scratch : List ℕ) (g : PlanIn W k vs ls hs scra
   trie = tableTrie W vs ls hs
 
   abbrev tree : Tree
-  tree = treeOf W (at vs) (at ls) (at hs) (length vs)
+  tree = treeOf W (at vs) (at ls) (entryMarks ls hs) (length vs)
 
   plan-prefixes : Prefixes W vs ls
   plan-prefixes = table-prefixes W vs ls hs (g .table)
 
   tree-trie : shape tree ≡ trie
-  tree-trie = tree-shape W (at vs) (at ls) (at hs) (length vs) (plan-prefixes .prefix)
+  tree-trie = tree-shape W (at vs) (at ls) (entryMarks ls hs) (length vs) (plan-prefixes .prefix)
+
+  small-marks : AllMarks Small (shape tree)
+  small-marks = rw tree-trie (trie-marks Small (omega arith) W (at vs) (at ls) (entryMarks ls hs) (length vs) (λ i h. g .small i))
 
   plan-depth-width : depth trie ≤ W
-  plan-depth-width = trie-depth-width W (at vs) (at ls) (at hs) (length vs) (plan-prefixes .prefix)
+  plan-depth-width = trie-depth-width W (at vs) (at ls) (entryMarks ls hs) (length vs) (plan-prefixes .prefix)
 
   plan-depth : depth trie ≤ WIDTH
   plan-depth = omega (arith, plan-depth-width, g .table .width)
@@ -103,9 +108,9 @@ module _ (W k : ℕ) (vs ls hs scratch : List ℕ) (g : PlanIn W k vs ls hs scra
     pub fixed-in : (deep : ℕ) → deep ≡ longestLength (at ls) (length ls) → FixedIn counts deep k trie
     fixed-in deep e = record {
       counted = subst (CountsOf counts) tree-trie (m .counted);
-      depths = e ∙ ap (longestLength (at ls)) (g .table .lengths) ∙ sym (trie-depth W (at vs) (at ls) (at hs) (length vs) (plan-prefixes .prefix));
+      depths = e ∙ ap (longestLength (at ls)) (g .table .lengths) ∙ sym (trie-depth W (at vs) (at ls) (entryMarks ls hs) (length vs) (plan-prefixes .prefix));
       short = plan-depth;
-      few = λ j. omega (arith, nodes-entries W (at vs) (at ls) (at hs) (length vs) j (plan-prefixes .prefix), g .table .few);
+      few = λ j. omega (arith, nodes-entries W (at vs) (at ls) (entryMarks ls hs) (length vs) j (plan-prefixes .prefix), g .table .few);
       within = g .levels;
     }
 
@@ -128,7 +133,7 @@ module _ (W k : ℕ) (vs ls hs scratch : List ℕ) (g : PlanIn W k vs ls hs scra
             σ = chosenBy held fixed k trie;
             follows = follows-capped COST-CAP fixed k trie (g .levels .0) b;
             stands = for-trie (chosenBy held fixed k trie) rows plan
-                (tree-stands (chosenBy held fixed k trie) rows plan tree (m .laid .stand) (m .laid .deep) (small-tree W (at vs) (at ls) (at hs) (length vs) (g .marks)) rows-fit
+                (tree-stands (chosenBy held fixed k trie) rows plan tree (m .laid .stand) (m .laid .deep) small-marks rows-fit
                 (fixed-strides k trie (chosenBy held fixed k trie) rows plan tree (g .levels .0) (ap depth tree-trie) (read 0 (g .levels .0))
                 (λ i u p q. ap (λ (y : ℕ). getD plan (y - i) 0) long ∙ read (k - i) (omega (arith, long)))));
           };
@@ -159,7 +164,7 @@ module _ (W k : ℕ) (vs ls hs scratch : List ℕ) (g : PlanIn W k vs ls hs scra
             σ = chosenBy held variable k trie;
             follows = follows-capped COST-CAP variable k trie (g .levels .0) b;
             stands = for-trie (chosenBy held variable k trie) rows′ plan
-                (tree-stands (variableStride held) rows′ plan tree (o .stand) (o .depths) (small-tree W (at vs) (at ls) (at hs) (length vs) (g .marks)) fits
+                (tree-stands (variableStride held) rows′ plan tree (o .stand) (o .depths) small-marks fits
                 (strides-own k rows′ plan tree (getD-take {A = ℕ} k (replicate LEVELS 0) 0 0 (g .levels .0)) long (o .priced)));
           };
         }

@@ -11,6 +11,7 @@ use Rattle.strides.specs.Trie.{size}
 use Rattle.strides.specs.Entries.{trieOf}
 use Rattle.strides.specs.Insertion.{met}
 use Rattle.walk.specs.Limits.{WIDTH}
+use Rattle.layout.specs.Marks.{entryMarks}
 use Rattle.choosers.specs.LevelCounts.{CanCount, LevelsAdded, CountsOf}
 use Rattle.choosers.specs.Scratch.{DEPTH, ROW}
 use Rattle.choosers.specs.Trees.{Tree, shape, linkOf, rowFor, col, Stand, Deep, Apart, Under, addEntry, treeOf}
@@ -65,9 +66,9 @@ pub record MakeIn (W : ℕ) (vs ls hs rows counts : List ℕ) : Type 0 where
   pub zeros : (i : ℕ) → getD rows i 0 ≡ 0
   pub counts-long : length counts ≡ WIDTH
   pub no-counts : (j : ℕ) → at counts j ≡ 0
-  pub room : size (trieOf W (at vs) (at ls) (at hs) (length vs)) * ROW ≤ length rows
+  pub room : size (trieOf W (at vs) (at ls) (entryMarks ls hs) (length vs)) * ROW ≤ length rows
 
 pub record MakeOut (W : ℕ) (vs ls hs : List ℕ) (root : ℕ) (rows′ counts′ : List ℕ) : Type 0 where
-  pub counted : CountsOf counts′ (shape (treeOf W (at vs) (at ls) (at hs) (length vs)))
-  pub laid : InRows rows′ (treeOf W (at vs) (at ls) (at hs) (length vs))
-  pub link : root ≡ linkOf (treeOf W (at vs) (at ls) (at hs) (length vs))
+  pub counted : CountsOf counts′ (shape (treeOf W (at vs) (at ls) (entryMarks ls hs) (length vs)))
+  pub laid : InRows rows′ (treeOf W (at vs) (at ls) (entryMarks ls hs) (length vs))
+  pub link : root ≡ linkOf (treeOf W (at vs) (at ls) (entryMarks ls hs) (length vs))

@@ -5,7 +5,7 @@ use mathlib.Core.List.{List, []}
 use Prim.Native.Nat.{ℕ, _*_, _≤_, _<_}
 use lib.ListN.{length, replicate, take}
 use Rattle.table.specs.Lists.{padded}
-use Rattle.table.specs.Table.{at, Table}
+use Rattle.table.specs.Table.{Table}
 use Rattle.table.specs.declared.entry.Outcome.{Outcome}
 use Rattle.table.specs.declared.entry.Outcome.the-variants.{Accepted}
 use Rattle.strides.specs.Trie.{Trie, size}
@@ -13,6 +13,7 @@ use Rattle.strides.specs.Cheapest.{Kind}
 use Rattle.strides.specs.Recurrence.{plain, leastBy, stridesBy}
 use Rattle.strides.specs.Strides.{Follows}
 use Rattle.walk.specs.Limits.{LEVELS, Within}
+use Rattle.layout.specs.Marks.{entryMarks}
 use Rattle.layout.specs.Laid.{tableTrie}
 use Rattle.choosers.specs.Chooser.{ifAccepted, ChosenIs, Chooses}
 use Rattle.choosers.specs.Scratch.{ROW, MARKS, Stands}
@@ -31,7 +32,7 @@ pub record PlanIn (W k : ℕ) (vs ls hs scratch : List ℕ) : Type 0 where
   pub table : Table W vs ls hs
   pub levels : Within k LEVELS
   pub room : size (tableTrie W vs ls hs) * ROW ≤ length scratch
-  pub marks : (i : ℕ) → at hs i < MARKS
+  pub small : (i : ℕ) → entryMarks ls hs i < MARKS
 
 pub record Planned (kind : Kind) (W k : ℕ) (vs ls hs : List ℕ) (cost : ℕ) (strides plan : List ℕ) (root : ℕ) (rows : List ℕ) : Type 0 where
   pub least : cost ≡ leastBy plain kind k (tableTrie W vs ls hs)

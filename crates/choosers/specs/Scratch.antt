@@ -10,6 +10,7 @@ use lib.ListN.{length, getD}
 use lib.Dec.{eqb}
 use Rattle.strides.specs.Trie.{Trie, none, node, depth}
 use Rattle.walk.specs.Limits.{LEVELS}
+use Rattle.layout.specs.Marks.{LENGTHS}
 
 -- ---- the columns, under the names that the code gives them
 
@@ -37,9 +38,9 @@ ROW = STRIDE + LEVELS
 row-numbers : ROW ≡ 72
 row-numbers = refl
 
--- a mark is below this: it is a hop
+-- a mark is below this: it is a hop of 16 bits and a length in one
 abbrev pub MARKS : ℕ
-MARKS = 65536
+MARKS = 65536 * LENGTHS
 
 -- ---- reading a row
 

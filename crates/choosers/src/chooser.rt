@@ -130,7 +130,7 @@ fn plan_variable(
     }
 }
 
-// A fixed choice: the rows hold links, hops and depths, and no costs.
+// A fixed choice: the rows hold links, marks and depths, and no costs.
 fn plan_fixed(
     width: u32,
     levels: u32,

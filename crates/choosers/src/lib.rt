@@ -15,6 +15,7 @@ pub use chooser::Plan;
 pub use chooser::choose_fixed;
 pub use chooser::choose_variable;
 pub use chooser::plan_choice;
+pub use limits::LENGTHS;
 pub use scratch::BEFORE_STRIDES;
 pub use scratch::DEPTH;
 pub use scratch::ROW;

@@ -7,10 +7,12 @@ ghost use Rattle.choosers.specs.Scratch.{ROW, DEPTH};
 ghost use Rattle.choosers.specs.Trees.{col};
 ghost use Rattle.choosers.specs.Inserting.{Downed, InsertIn, Inserted};
 ghost use Rattle.walk.specs.Limits.{WIDTH};
+ghost use Rattle.layout.specs.Marks.{entryMark};
 ghost use Rattle.choosers.specs.Limits.{GROWS};
 ghost use Rattle.choosers.specs.LevelCounts.{CanCount, LevelsAdded};
 ghost use Rattle.choosers.specs.Making.{AddIn, Added, CountIn, AddCounted, MakeIn, MakeOut};
 use crate::caps::larger;
+use crate::limits::LENGTHS;
 use crate::scratch::DEPTH;
 use crate::scratch::ROW;
 use crate::scratch::put;
@@ -121,6 +123,13 @@ fn root_link(used: usize) -> usize
     if used == 0 { 0 } else { 1 }
 }
 
+// The mark of an entry: its hop and its length in one number.
+fn mark_of(hop: u16, len: u8) -> usize
+    ensures { λ r. ⌜ r ≡ entryMark hop len ⌝ }
+{
+    hop as usize * LENGTHS + len as usize
+}
+
 // Makes the rows of a table's 1-bit trie in rows that are all 0, counts its nodes level by level in counts that are all 0, and
 // returns the root's link.
 pub(crate) fn make_rows(
@@ -139,15 +148,9 @@ pub(crate) fn make_rows(
     let mut used = 0;
     let mut i = 0;
     while i < n {
-        used = add_counted(
-            rows,
-            counts,
-            used,
-            w,
-            vals[i] as usize,
-            lens[i] as usize,
-            hops[i] as usize,
-        );
+        let l = lens[i];
+        let mark = mark_of(hops[i], l);
+        used = add_counted(rows, counts, used, w, vals[i] as usize, l as usize, mark);
         i += 1;
     }
     root_link(used)

@@ -1,12 +1,12 @@
--- 02's example ([4]) for every accepted build of its table, in elements of any kind and k or as a tree bitmap: 1010 is discard, 1011 gives
--- hop 1, and 0111 has no route.
-use mathlib.Core.Path.{_≡_, ap, _∙_}
+-- 02's example ([4]) for every accepted build of its table, in elements of any kind and k or as a tree bitmap: 1010 is discard by 4 bits,
+-- 1011 gives hop 1 by 2 bits, and 0111 has no route.
+use mathlib.Core.Path.{_≡_, ap₂, _∙_}
 use mathlib.Core.List.{List}
 use Prim.Native.Nat.{ℕ, _^_, _<_}
 use native.Mathlib.Omega.{arith}
 use Rattle.table.specs.Prefix.{start, startsWith}
 use Rattle.table.specs.Table.{at}
-use Rattle.table.specs.Longest.{longer, best, ofWinner, matches, winner, longest, LongestHop}
+use Rattle.table.specs.Longest.{longer, best, ofWinner, matches, winner, longest, matched, LongestEntry}
 use Rattle.table.specs.Corner.{cornerValues, cornerLengths, cornerHops}
 use Rattle.table.specs.declared.entry.Outcome.{Outcome}
 use Rattle.table.specs.declared.entry.Outcome.the-variants.{Accepted}
@@ -19,7 +19,7 @@ use Rattle.walk.specs.declared.record.Record.{Record}
 use Rattle.walk.specs.declared.walk.Answer.{Answer}
 use Rattle.walk.specs.Limits.{WIDTH}
 use Rattle.walk.specs.Rows.{Lists}
-use Rattle.walk.specs.Answers.{numberOf, hopOf, readsOf, Case, answer}
+use Rattle.walk.specs.Answers.{numberOf, hopOf, lengthOf, readsOf, Case, answer}
 use Rattle.walk.specs.Meaning.{Looked}
 use Rattle.walk.proofs.Answers.{accepted-is}
 use Rattle.tries.specs.Build.{Builds}
@@ -32,15 +32,15 @@ use Rattle.supernodes.proofs.Demands.{bitmap-longest}
 use Rattle.gateway.specs.Corner.{CornerAnswers}
 
 -- from the longest match alone
-corner-is : (a : ℕ) (r : Answer) → Case r → (numberOf r ≡ 0) × LongestHop 4 cornerValues cornerLengths cornerHops a (hopOf r)
-    → r ≡ answer (longest 4 (at cornerValues) (at cornerLengths) (at cornerHops) 2 a) (readsOf r)
+corner-is : (a : ℕ) (r : Answer) → Case r → (numberOf r ≡ 0) × LongestEntry 4 cornerValues cornerLengths cornerHops a (hopOf r) (lengthOf r)
+    → r ≡ answer (longest 4 (at cornerValues) (at cornerLengths) (at cornerHops) 2 a) (matched 4 (at cornerValues) (at cornerLengths) 2 a) (readsOf r)
 corner-is a r c l =
     let t = accepted-table 4 cornerValues cornerLengths cornerHops corner-accepted in
-    let h = longest-unique 4 cornerValues cornerLengths cornerHops t a (l .1) (longest-is 4 (at cornerValues) (at cornerLengths) (at cornerHops) 2 a) in
-    accepted-is r (l .0) c ∙ ap (λ (x : ℕ). answer x (readsOf r)) h
+    let one = longest-unique 4 cornerValues cornerLengths cornerHops t a (l .1) (longest-is 4 (at cornerValues) (at cornerLengths) (at cornerHops) 2 a) in
+    accepted-is r (l .0) c ∙ ap₂ (λ (h l : ℕ). answer h l (readsOf r)) (one .0) (one .1)
 
 corner-answers : (Allows : ℕ → Answer → Type 0) → ((a : ℕ) → a < 2 ^ 4 → (r : Answer) → Allows a r
-    → Case r × ((numberOf r ≡ 0) × LongestHop 4 cornerValues cornerLengths cornerHops a (hopOf r))) → CornerAnswers Allows
+    → Case r × ((numberOf r ≡ 0) × LongestEntry 4 cornerValues cornerLengths cornerHops a (hopOf r) (lengthOf r))) → CornerAnswers Allows
 unfolding answer longest winner matches best longer ofWinner startsWith start
 corner-answers Allows f = record {
   corner = λ {r} l. let p = f 0b1010 (omega arith) r l in corner-is 0b1010 r (p .0) (p .1);

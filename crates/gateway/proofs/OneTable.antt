@@ -11,7 +11,7 @@ use Rattle.walk.specs.declared.record.Record.{Record}
 use Rattle.walk.specs.declared.walk.Answer.{Answer}
 use Rattle.walk.specs.Limits.{WIDTH}
 use Rattle.walk.specs.Rows.{Lists}
-use Rattle.walk.specs.Answers.{hopOf}
+use Rattle.walk.specs.Answers.{hopOf, lengthOf}
 use Rattle.walk.specs.Meaning.{Looked}
 use Rattle.tries.specs.Build.{Builds}
 use Rattle.tries.proofs.Demands.{build-longest}
@@ -26,11 +26,12 @@ module _ {W : ℕ} {vs ls hs scratch : List ℕ} {rows : RowLists} {hops : List 
     {r : Answer} (l : LookedBitmap WIDTH rec rows′ hops′ a r) where
   -- supernodes beside elements
   pub one-table-layouts : {kind : Kind} {k : ℕ} {scratch1 : List ℕ} {rows1 : Lists} {out1 : Outcome} {rec1 : Record} {s1 : List ℕ} {rows2 : Lists}
-      → Builds kind W k vs ls hs scratch1 rows1 out1 rec1 s1 rows2 → out1 ≡ Accepted → {r1 : Answer} → Looked WIDTH rec1 rows2 a r1 → hopOf r ≡ hopOf r1
+      → Builds kind W k vs ls hs scratch1 rows1 out1 rec1 s1 rows2 → out1 ≡ Accepted → {r1 : Answer} → Looked WIDTH rec1 rows2 a r1
+      → (hopOf r ≡ hopOf r1) × (lengthOf r ≡ lengthOf r1)
   one-table-layouts c e1 l1 = longest-unique W vs ls hs (b .laid e .table) a (bitmap-longest b e a h l .1) (build-longest c e1 a h l1 .1)
 
   -- supernodes beside supernodes
   pub one-table-bitmaps : {scratch1 : List ℕ} {rows1 : RowLists} {hops1 : List ℕ} {out1 : Outcome} {rec1 : Bitmap} {s1 : List ℕ} {rows2 : RowLists} {hops2 : List ℕ}
       → BuildsBitmap W vs ls hs scratch1 rows1 hops1 out1 rec1 s1 rows2 hops2 → out1 ≡ Accepted → {r1 : Answer} → LookedBitmap WIDTH rec1 rows2 hops2 a r1
-      → hopOf r ≡ hopOf r1
+      → (hopOf r ≡ hopOf r1) × (lengthOf r ≡ lengthOf r1)
   one-table-bitmaps c e1 l1 = longest-unique W vs ls hs (b .laid e .table) a (bitmap-longest b e a h l .1) (bitmap-longest c e1 a h l1 .1)

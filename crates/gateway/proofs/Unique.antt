@@ -65,8 +65,8 @@ module _ (kind : Kind) (W k : ℕ) (vs ls hs scratch : List ℕ) where
       let u = builds-unique kind W k vs ls hs scratch rows (t .1) (t′ .1) in
       (t .2 ∙ build-same {b = t .0} {b′ = t′ .0} (u .0) (u .1) ∙ sym (t′ .2), u .2, u .3)
 
-columns-same : {a a′ b b′ c c′ : List ℕ} → a ≡ a′ → b ≡ b′ → c ≡ c′ → columns a b c ≡ columns a′ b′ c′
-columns-same p q r = rw (p, q, r)
+columns-same : {a a′ b b′ c c′ d d′ : List ℕ} → a ≡ a′ → b ≡ b′ → c ≡ c′ → d ≡ d′ → columns a b c d ≡ columns a′ b′ c′ d′
+columns-same p q r s = rw (p, q, r, s)
 
 module _ (rec : Record) (ls : Lists) (xs : List ℕ) (cs : Columns) where
   -- the same at every index
@@ -88,6 +88,7 @@ module _ (rec : Record) (ls : Lists) (xs : List ℕ) (cs : Columns) where
         columns-same
             (ext-getD 0 (cs1 .number) (cs2 .number) (w .numbers ∙ sym (w′ .numbers)) (λ i h. ap (λ (f : AnswerNumbers). f .number) (one i)))
             (ext-getD 0 (cs1 .hop) (cs2 .hop) (w .hops ∙ sym (w′ .hops)) (λ i h. ap (λ (f : AnswerNumbers). f .hop) (one i)))
+            (ext-getD 0 (cs1 .len) (cs2 .len) (w .lens ∙ sym (w′ .lens)) (λ i h. ap (λ (f : AnswerNumbers). f .length) (one i)))
             (ext-getD 0 (cs1 .reads) (cs2 .reads) (w .counts ∙ sym (w′ .counts)) (λ i h. ap (λ (f : AnswerNumbers). f .reads) (one i))),
       )
 

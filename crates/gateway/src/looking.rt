@@ -11,54 +11,62 @@ use table::smaller;
 use walk::AnswerNumbers;
 use walk::Record;
 
-// Looks the address up: tests 1, 2, 8, 9. Over the record and lists that one accepted build left together it is the hop of the longest
-// prefix that begins the address, a discard's too, or none. No list changes.
+// Looks the address up: tests 1, 2, 8, 9. Over the record and lists that one accepted build left together it is the hop and the
+// length of the longest prefix that begins the address, a discard's too, or none. No list changes.
 #[no_mangle]
 pub extern "C" fn hongsamuk_lookup(
     rec: Record,
     hops: &[u16],
+    lens: &[u8],
     links: &[u32],
     strides: &[u8],
     address: u32,
 ) -> AnswerNumbers
-    ensures exact { λ r. ⌜ r ≡ answerNumbers (lookupOf WIDTH rec (lists (now (hops .entry)) (now (links .entry)) (now (strides .entry))) address) ⌝ }
+    ensures exact { λ r. ⌜
+        r ≡ answerNumbers (lookupOf WIDTH rec (lists (now (hops .entry)) (now (lens .entry)) (now (links .entry)) (now (strides .entry))) address) ⌝ }
     ensures meaning { λ r. ⌜
-        Told (Looked WIDTH rec (lists (now (hops .entry)) (now (links .entry)) (now (strides .entry))) address) answerNumbers r ⌝ }
+        Told (Looked WIDTH rec (lists (now (hops .entry)) (now (lens .entry)) (now (links .entry)) (now (strides .entry))) address) answerNumbers r ⌝ }
 {
-    walk::lookup_numbers(rec, hops, links, strides, address)
+    walk::lookup_numbers(rec, hops, lens, links, strides, address)
 }
 
-// Lookups one after the other: as many as the shortest of the address list and the three answer lists has. Number, hop and reads
-// of each are written at its index, later places are kept, and the answer is how many. No other list changes.
+// Lookups one after the other: as many as the shortest of the address list and the four answer lists has. Number, hop, length and
+// reads of each are written at its index, later places are kept, and the answer is how many. No other list changes.
 #[no_mangle]
 pub extern "C" fn hongsamuk_lookup_batch(
     rec: Record,
     hops: &[u16],
+    lens: &[u8],
     links: &[u32],
     strides: &[u8],
     address: &[u32],
     number: &mut [u32],
     hop: &mut [u16],
+    len: &mut [u8],
     reads: &mut [u32],
 ) -> usize
     ensures exact { λ r. ⌜
-        Answered (ExactAnswer rec (lists (now (hops .entry)) (now (links .entry)) (now (strides .entry)))) (now (address .entry))
-        (columns (now (number .entry)) (now (hop .entry)) (now (reads .entry)))
-        (columns (now (number .exit)) (now (hop .exit)) (now (reads .exit))) r ⌝ }
+        Answered (ExactAnswer rec (lists (now (hops .entry)) (now (lens .entry)) (now (links .entry)) (now (strides .entry)))) (now (address .entry))
+        (columns (now (number .entry)) (now (hop .entry)) (now (len .entry)) (now (reads .entry)))
+        (columns (now (number .exit)) (now (hop .exit)) (now (len .exit)) (now (reads .exit))) r ⌝ }
     ensures meaning { λ r. ⌜
-        Answered (Looked WIDTH rec (lists (now (hops .entry)) (now (links .entry)) (now (strides .entry)))) (now (address .entry))
-        (columns (now (number .entry)) (now (hop .entry)) (now (reads .entry)))
-        (columns (now (number .exit)) (now (hop .exit)) (now (reads .exit))) r ⌝ }
+        Answered (Looked WIDTH rec (lists (now (hops .entry)) (now (lens .entry)) (now (links .entry)) (now (strides .entry)))) (now (address .entry))
+        (columns (now (number .entry)) (now (hop .entry)) (now (len .entry)) (now (reads .entry)))
+        (columns (now (number .exit)) (now (hop .exit)) (now (len .exit)) (now (reads .exit))) r ⌝ }
 {
     let n = smaller(
         address.len(),
-        smaller(number.len(), smaller(hop.len(), reads.len())),
+        smaller(
+            number.len(),
+            smaller(hop.len(), smaller(len.len(), reads.len())),
+        ),
     );
     let mut i = 0;
     while i < n {
-        let found = walk::lookup_numbers(rec, hops, links, strides, address[i]);
+        let found = walk::lookup_numbers(rec, hops, lens, links, strides, address[i]);
         number[i] = found.number;
         hop[i] = found.hop;
+        len[i] = found.length;
         reads[i] = found.reads;
         i += 1;
     }

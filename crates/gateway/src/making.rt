@@ -41,19 +41,20 @@ pub extern "C" fn hongsamuk_build_fixed(
     hop: &[u16],
     scratch: &mut [u64],
     hops: &mut [u16],
+    lens: &mut [u8],
     links: &mut [u32],
     strides: &mut [u8],
 ) -> BuiltNumbers
     ensures exact { λ r. ⌜
         Told
         (ExactBuild fixed width levels (now (value .entry)) (now (length .entry)) (now (hop .entry)) (now (scratch .entry))
-        (lists (now (hops .entry)) (now (links .entry)) (now (strides .entry))) (now (scratch .exit))
-        (lists (now (hops .exit)) (now (links .exit)) (now (strides .exit)))) buildNumbers r ⌝ }
+        (lists (now (hops .entry)) (now (lens .entry)) (now (links .entry)) (now (strides .entry))) (now (scratch .exit))
+        (lists (now (hops .exit)) (now (lens .exit)) (now (links .exit)) (now (strides .exit)))) buildNumbers r ⌝ }
     ensures meaning { λ r. ⌜
         Told
         (AllowedBuild fixed width levels (now (value .entry)) (now (length .entry)) (now (hop .entry)) (now (scratch .entry))
-        (lists (now (hops .entry)) (now (links .entry)) (now (strides .entry))) (now (scratch .exit))
-        (lists (now (hops .exit)) (now (links .exit)) (now (strides .exit)))) buildNumbers r ⌝ }
+        (lists (now (hops .entry)) (now (lens .entry)) (now (links .entry)) (now (strides .entry))) (now (scratch .exit))
+        (lists (now (hops .exit)) (now (lens .exit)) (now (links .exit)) (now (strides .exit)))) buildNumbers r ⌝ }
 {
     build_numbers(tries::build(
         Kind::Fixed,
@@ -64,6 +65,7 @@ pub extern "C" fn hongsamuk_build_fixed(
         hop,
         scratch,
         hops,
+        lens,
         links,
         strides,
     ))
@@ -79,19 +81,20 @@ pub extern "C" fn hongsamuk_build_variable(
     hop: &[u16],
     scratch: &mut [u64],
     hops: &mut [u16],
+    lens: &mut [u8],
     links: &mut [u32],
     strides: &mut [u8],
 ) -> BuiltNumbers
     ensures exact { λ r. ⌜
         Told
         (ExactBuild variable width levels (now (value .entry)) (now (length .entry)) (now (hop .entry)) (now (scratch .entry))
-        (lists (now (hops .entry)) (now (links .entry)) (now (strides .entry))) (now (scratch .exit))
-        (lists (now (hops .exit)) (now (links .exit)) (now (strides .exit)))) buildNumbers r ⌝ }
+        (lists (now (hops .entry)) (now (lens .entry)) (now (links .entry)) (now (strides .entry))) (now (scratch .exit))
+        (lists (now (hops .exit)) (now (lens .exit)) (now (links .exit)) (now (strides .exit)))) buildNumbers r ⌝ }
     ensures meaning { λ r. ⌜
         Told
         (AllowedBuild variable width levels (now (value .entry)) (now (length .entry)) (now (hop .entry)) (now (scratch .entry))
-        (lists (now (hops .entry)) (now (links .entry)) (now (strides .entry))) (now (scratch .exit))
-        (lists (now (hops .exit)) (now (links .exit)) (now (strides .exit)))) buildNumbers r ⌝ }
+        (lists (now (hops .entry)) (now (lens .entry)) (now (links .entry)) (now (strides .entry))) (now (scratch .exit))
+        (lists (now (hops .exit)) (now (lens .exit)) (now (links .exit)) (now (strides .exit)))) buildNumbers r ⌝ }
 {
     build_numbers(tries::build(
         Kind::Variable,
@@ -102,6 +105,7 @@ pub extern "C" fn hongsamuk_build_variable(
         hop,
         scratch,
         hops,
+        lens,
         links,
         strides,
     ))

@@ -1,8 +1,8 @@
 -- A lookup over the rows of a trie: it reads one row for each node that begins the address and at which the strides begin a
--- block, that block's first row plus the next s bits, and answers the last nonzero mark on the address's path, else the floor.
+-- block, that block's first row plus the next s bits, and answers what the last nonzero mark on the address's path says, else the floor.
 use Prim.Native.Nat.{ℕ, zero, suc, pred, _+_, _-_, _/_, _%_, _^_, _≤_, _<_}
 use mathlib.Core.Path.{_≡_, refl, sym, ap, ap₂, _∙_}
-use mathlib.Core.Bool.{true}
+use mathlib.Core.Bool.{true, cond}
 use mathlib.Core.Logic.{⊎-elim}
 use mathlib.Core.List.{List, [], _∷_, map}
 use native.Mathlib.Omega.{arith}
@@ -10,20 +10,24 @@ use native.Mathlib.Nat.{mod-lt}
 use native.Mathlib.Decide.{decLe}
 use lib.ListN.{length, length-map}
 use lib.Pow.{pow-pos, shr-shr}
+use lib.Dec.{eqb}
 use Rattle.table.specs.Longest.{newer}
-use Rattle.strides.specs.Trie.{Trie, none, node, Some, left, right, kid, bit, markAlong, subAlong}
+use Rattle.strides.specs.Trie.{Trie, none, node, Some, left, right, kid, bit, AllMarks, markAlong, subAlong}
 use Rattle.strides.specs.Strides.{Good}
 use Rattle.strides.proofs.Paths.{bit-mod, bit-shr, some?, SameBits, sub-none, mark-none, sub-split, mark-same, sub-same, mark-newer, mark-split}
 use Rattle.walk.specs.declared.record.Record.{Record}
 use Rattle.walk.specs.Rows.{Row, Lists, shortest, rowAt, root, rowOf}
-use Rattle.walk.specs.Answers.{latest, answer}
+use Rattle.walk.specs.Answers.{Best, floorBest, rowBest, better, latest, answer}
 use Rattle.walk.specs.Lookup.{pathRows, lookupOf}
 use Rattle.walk.specs.Meaning.{Passed, Readable, Path, last, on, OnPath, empty, walked}
 use Rattle.layout.specs.Blocks.{Strides, wide, passed, leftOf, linkTo, strideOf, rowBelow, blockRows, levelRows, firstRow, levelsRows, rowsOf, rowCount, Hold, Begun, blocksAlong}
 use Rattle.layout.specs.Blocks.{blockRow, rowIn, rowsAlong}
+use Rattle.layout.specs.Marks.{markBest, HasHop}
 use Rattle.layout.specs.Laid.{LaidTrie}
 use Rattle.walk.proofs.Looked.{path-answer}
 use Rattle.walk.proofs.Reading.{path-rows}
+use Rattle.strides.proofs.Marks.{along-has, sub-marks}
+use Rattle.layout.proofs.Marks.{row-says}
 use Rattle.layout.proofs.GoodStrides.{good-level, good-root, good-block}
 use Rattle.layout.proofs.Blocks.{hold-first, hold-rest, hold-at, level-length, wide-own, level-own, wide-below, level-below, wide-past, left-same, left-own, left-below, left-split}
 use Rattle.layout.proofs.Blocks.{first-next, first-mono, first-past, levels-length, count-none}
@@ -58,7 +62,7 @@ module _ (σ : Strides) where
 abbrev deeper : Begun → Begun
 deeper b = record { level = suc (b .level); stride = b .stride; bits = b .bits }
 
-blocks-deeper : (σ : Strides) (f : Begun → ℕ) (w : ℕ) (t : Trie) (c n r x : ℕ)
+blocks-deeper : {A : Type 0} (σ : Strides) (f : Begun → A) (w : ℕ) (t : Trie) (c n r x : ℕ)
     → map f (blocksAlong σ w t c (suc n) r x) ≡ map (λ b. f (deeper b)) (blocksAlong σ w t c n r x)
 unfolding blocksAlong
 blocks-deeper σ f zero t c n r x = refl
@@ -66,10 +70,10 @@ blocks-deeper σ f (suc w) none c n r x = refl
 blocks-deeper σ f (suc w) (node p a q b) (suc c) n r x = blocks-deeper σ f w (kid (bit w x) (node p a q b)) c n r x
 blocks-deeper σ f (suc w) (node p a q b) zero n zero x = refl
 blocks-deeper σ f (suc w) (node p a q b) zero n (suc r) x =
-    ap (λ (l : List ℕ). f (record { level = suc n; stride = σ (suc r) (node p a q b); bits = suc w }) ∷ l)
+    ap (λ l. f (record { level = suc n; stride = σ (suc r) (node p a q b); bits = suc w }) ∷ l)
     (blocks-deeper σ f w (kid (bit w x) (node p a q b)) (pred (σ (suc r) (node p a q b))) (suc n) r x)
 
-map-same : (f g : Begun → ℕ) (bs : List Begun) → ((b : Begun) → f b ≡ g b) → map f bs ≡ map g bs
+pub map-same : {A : Type 0} (f g : Begun → A) (bs : List Begun) → ((b : Begun) → f b ≡ g b) → map f bs ≡ map g bs
 map-same f g [] e = refl
 map-same f g (b ∷ bs) e = rw (e b, map-same f g bs e)
 
@@ -135,7 +139,7 @@ module _ (σ : Strides) (ls : Lists) (e : ℕ) where
 
   record PathRead (x k w : ℕ) (t : Trie) (at : ℕ → ℕ) : Type 0 where
     pub path : Path e x (rowAt ls) k (at 0) (σ k t) w (rowsHere x k w t at) true
-    pub best : (b : ℕ) → latest (rowAt ls) b (rowsHere x k w t at) ≡ markAlong w t x b
+    pub best : AllMarks HasHop t → (b : ℕ) → latest (rowAt ls) (markBest b) (rowsHere x k w t at) ≡ markBest (markAlong w t x b)
 
   -- ---- one block, of stride suc s, where w bits of the address x are left before it
   module _ (x r s w : ℕ) (t : Trie) (at : ℕ → ℕ) (some : Some t) (h : σ (suc r) t ≡ suc s) (le : suc s ≤ w) (l : Lies t 0 (suc r) at) where
@@ -175,12 +179,12 @@ module _ (σ : Strides) (ls : Lists) (e : ℕ) where
     lies-next = lies-along (suc s) t r (λ n. at (suc n)) cut (lies-below t r s at h l)
 
     -- the rows on the path from here, and from the child block
-    blocks-next : (f : Begun → ℕ)
+    blocks-next : {A : Type 0} (f : Begun → A)
         → map f (blocksAlong σ w t 0 0 (suc r) x)
         ≡ f (record { level = 0; stride = suc s; bits = w }) ∷ map (λ b. f (deeper b)) (blocksAlong σ (w - suc s) sub 0 0 r x)
     blocks-next f =
         ap (map f) (blocks-own σ w t 0 r s x some (omega arith) h)
-        ∙ ap (λ (l : List ℕ). f (record { level = 0; stride = suc s; bits = w }) ∷ l)
+        ∙ ap (λ l. f (record { level = 0; stride = suc s; bits = w }) ∷ l)
         (ap (map f) (blocks-split σ (suc s) (w - suc s) w t 1 r x (omega arith)) ∙ blocks-deeper σ f (w - suc s) sub 0 0 r x)
 
     rows-next : rowsHere x (suc r) w t at ≡ row ∷ rowsHere x r (w - suc s) sub nextFirst
@@ -194,15 +198,23 @@ module _ (σ : Strides) (ls : Lists) (e : ℕ) where
         later : (n : ℕ) → at (suc n) + leftOf σ w t 0 (suc n) (suc r) x ≡ nextFirst n + leftOf σ (w - suc s) sub 0 n r x
         later n = omega (arith, left-below σ w t n r s x h, left-split σ (suc s) (w - suc s) w t n r x (omega arith))
 
-    row-hop-is : rowAt ls row .hop ≡ markAlong (suc s) t cut 0
+    -- the mark that it is made of
+    abbrev mark : ℕ
+    mark = markAlong (suc s) t cut 0
+
+    row-best-is : rowBest (rowAt ls row) ≡ markBest mark
     unfolding rowBelow
-    row-hop-is = ap (λ (v : Row). v .hop) row-is
+    row-best-is = ap rowBest row-is
 
     -- the best after the row
-    best-next : (best : ℕ) → markAlong w t x best ≡ markAlong (w - suc s) sub x (newer (rowAt ls row .hop) best)
-    best-next best =
-        mark-split (suc s) (w - suc s) w t x best (omega arith)
-        ∙ ap (markAlong (w - suc s) sub x) (mark-newer (suc s) t cut best ∙ ap (λ (v : ℕ). newer v best) (sym row-hop-is))
+    best-row : AllMarks HasHop t → (best : ℕ) → better (rowAt ls row) (markBest best) ≡ markBest (newer mark best)
+    unfolding better
+    best-row named best =
+        ap (λ (b : Best). cond (eqb (b .hop) 0) (markBest best) b) row-best-is
+        ∙ row-says mark best (along-has HasHop (λ e. refl) (suc s) t cut 0 named (λ e. refl))
+
+    best-next : (best : ℕ) → markAlong w t x best ≡ markAlong (w - suc s) sub x (newer mark best)
+    best-next best = mark-split (suc s) (w - suc s) w t x best (omega arith) ∙ ap (markAlong (w - suc s) sub x) (mark-newer (suc s) t cut best)
 
     link-is : rowAt ls row .link ≡ linkTo sub (nextFirst 0)
     unfolding rowBelow
@@ -222,7 +234,7 @@ module _ (σ : Strides) (ls : Lists) (e : ℕ) where
         let ends : (b : ℕ) → markAlong m sub x b ≡ b = λ b. rw z (mark-none m x b) in
         record {
           path = rw (list, h) (last readable (link-is ∙ ap (λ (u : Trie). linkTo u (nextFirst 0)) z));
-          best = λ b. rw list (sym (best-next b ∙ ends (newer (rowAt ls row .hop) b)));
+          best = λ named b. rw list (best-row named b ∙ ap markBest (sym (best-next b ∙ ends (newer mark b))));
         }
 
     -- a child block: the path goes on there
@@ -235,7 +247,9 @@ module _ (σ : Strides) (ls : Lists) (e : ℕ) where
         rw (to, st) (c .path) in
         record {
           path = rw (rows-next, h) (on readable (rw to positive) there);
-          best = λ b. rw rows-next (c .best (newer (rowAt ls row .hop) b) ∙ sym (best-next b));
+          best = λ named b. rw rows-next
+              (ap (λ (v : Best). latest (rowAt ls) v (rowsHere x r (w - suc s) sub nextFirst)) (best-row named b)
+              ∙ c .best (sub-marks HasHop (λ e. refl) (suc s) t cut named) (newer mark b) ∙ ap markBest (sym (best-next b)));
         }
       where
         link-some : (u : Trie) → Some u → (v : ℕ) → linkTo u v ≡ v
@@ -259,12 +273,12 @@ module _ (σ : Strides) (ls : Lists) (e : ℕ) where
       (reached x r (w - suc s) _ _ k (b .child (x / 2 ^ (w - suc s))) (lies-next x r s w t at some (b .stride) (b .fits) l)))
       (some? (subAlong (suc s) t (x / 2 ^ (w - suc s))))
 
-  -- ---- the hops of the rows on the path: said d (d + s) for a block of stride s at depth d, where said says so of each such part of the
-  -- address's path in the whole trie T of width W
+  -- ---- what the rows on the path say: the mark said d (d + s) for a block of stride s at depth d, where said says so of each such part of
+  -- the address's path in the whole trie T of width W
   module _ (x W : ℕ) (T : Trie) (said : ℕ → ℕ → ℕ)
       (told : (d s : ℕ) → d + s ≤ W → markAlong s (subAlong d T (x / 2 ^ (W - d))) (x / 2 ^ (W - (d + s))) 0 ≡ said d (d + s)) where
-    abbrev hopSaid : Begun → ℕ
-    hopSaid b = said (W - b .bits) (W - b .bits + b .stride)
+    abbrev bestSaid : Begun → Best
+    bestSaid b = markBest (said (W - b .bits) (W - b .bits + b .stride))
 
     -- where w bits are left, the subtrie is that of the address's first bits
     abbrev At : (w : ℕ) → Trie → Type 0
@@ -277,32 +291,32 @@ module _ (σ : Strides) (ls : Lists) (e : ℕ) where
         let n : W - (w - s) ≡ W - w + s = omega (arith, a .0) in
         (omega (arith, a .0), rw (n, a .1, ← e) (sym (sub-split (W - w) s (W - w + s) T y refl)))
 
-    hop-here : (w s : ℕ) (t : Trie) → s ≤ w → At w t → markAlong s t (x / 2 ^ (w - s)) 0 ≡ said (W - w) (W - w + s)
-    hop-here w s t le a =
+    mark-here : (w s : ℕ) (t : Trie) → s ≤ w → At w t → markAlong s t (x / 2 ^ (w - s)) 0 ≡ said (W - w) (W - w + s)
+    mark-here w s t le a =
         let d : W - (W - w) ≡ w = omega (arith, a .0) in
         let c : W - (W - w + s) ≡ w - s = omega (arith, a .0) in
         rw (a .1) (rw (d, c) at (told (W - w) s (omega (arith, a .0))))
 
-    hops-none : (k w : ℕ) (t : Trie) (at : ℕ → ℕ) → t ≡ none
-        → map (λ r. rowAt ls r .hop) (rowsHere x k w t at) ≡ map hopSaid (blocksAlong σ w t 0 0 k x)
-    hops-none k w t at z = let e : blocksAlong σ w t 0 0 k x ≡ [] = rw z (blocks-none σ w 0 0 k x) in rw e
+    says-none : (k w : ℕ) (t : Trie) (at : ℕ → ℕ) → t ≡ none
+        → map (λ r. rowBest (rowAt ls r)) (rowsHere x k w t at) ≡ map bestSaid (blocksAlong σ w t 0 0 k x)
+    says-none k w t at z = let e : blocksAlong σ w t 0 0 k x ≡ [] = rw z (blocks-none σ w 0 0 k x) in rw e
 
-    hops : (k w : ℕ) (t : Trie) (at : ℕ → ℕ) → At w t → Some t → Good σ t w 0 k → Lies t 0 k at
-        → map (λ r. rowAt ls r .hop) (rowsHere x k w t at) ≡ map hopSaid (blocksAlong σ w t 0 0 k x)
-    hops zero w t at a some good l = absurd (omega (arith, good-level σ t w 0 some good))
-    hops (suc r) w t at a some good l =
+    says : (k w : ℕ) (t : Trie) (at : ℕ → ℕ) → At w t → Some t → Good σ t w 0 k → Lies t 0 k at
+        → map (λ r. rowBest (rowAt ls r)) (rowsHere x k w t at) ≡ map bestSaid (blocksAlong σ w t 0 0 k x)
+    says zero w t at a some good l = absurd (omega (arith, good-level σ t w 0 some good))
+    says (suc r) w t at a some good l =
         let b = good-block σ t w r some good in
         let s = b .s in
         let m = w - suc s in
         let to = nextFirst x r s w t at some (b .stride) (b .fits) l in
         let u = subAlong (suc s) t (x / 2 ^ m) in
-        ap (map (λ r. rowAt ls r .hop)) (rows-next x r s w t at some (b .stride) (b .fits) l)
-        ∙ ap₂ (λ (v : ℕ) (vs : List ℕ). v ∷ vs)
-        (row-hop-is x r s w t at some (b .stride) (b .fits) l ∙ hop-here w (suc s) t (b .fits) a)
-        (⊎-elim (hops-none r m u to)
-        (λ k. hops r m u to (at-next w (suc s) t (b .fits) a) k (b .child (x / 2 ^ m)) (lies-next x r s w t at some (b .stride) (b .fits) l))
+        ap (map (λ r. rowBest (rowAt ls r))) (rows-next x r s w t at some (b .stride) (b .fits) l)
+        ∙ ap₂ (λ (v : Best) (vs : List Best). v ∷ vs)
+        (row-best-is x r s w t at some (b .stride) (b .fits) l ∙ ap markBest (mark-here w (suc s) t (b .fits) a))
+        (⊎-elim (says-none r m u to)
+        (λ k. says r m u to (at-next w (suc s) t (b .fits) a) k (b .child (x / 2 ^ m)) (lies-next x r s w t at some (b .stride) (b .fits) l))
         (some? u))
-        ∙ sym (blocks-next x r s w t at some (b .stride) (b .fits) l hopSaid)
+        ∙ sym (blocks-next x r s w t at some (b .stride) (b .fits) l bestSaid)
 
 -- ---- the whole trie
 module _ (σ : Strides) (t : Trie) (k : ℕ) (ls : Lists) where
@@ -351,10 +365,10 @@ module _ {most : ℕ} {σ : Strides} {t : Trie} {rec : Record} {ls : Lists} (g :
   abbrev k : ℕ
   k = rec .levels
 
-  -- it reads the rows of the nodes that begin the address and at which the strides begin a block, and they leave as best the
-  -- last nonzero mark on the address's path
+  -- it reads the rows of the nodes that begin the address and at which the strides begin a block, and they leave as best what the
+  -- last nonzero mark on the address's path says
   abbrev Finds : (x : ℕ) → List ℕ → Trie → Type 0
-  Finds x rs u = OnPath rec ls x rs × ((best : ℕ) → latest (rowAt ls) best rs ≡ markAlong W u x best)
+  Finds x rs u = OnPath rec ls x rs × (AllMarks HasHop u → (best : ℕ) → latest (rowAt ls) (markBest best) rs ≡ markBest (markAlong W u x best))
 
   finds : (x : ℕ) → Finds x (rowsAlong σ W k t x) t
   unfolding rowsAlong blockRow firstRow latest
@@ -364,7 +378,7 @@ module _ {most : ℕ} {σ : Strides} {t : Trie} {rec : Record} {ls : Lists} (g :
           → Finds x (rowsAlong σ W k u x) u
       go none h f c rows =
           let z : rowsAlong σ W k none x ≡ [] = ap (map _) (blocks-none σ W 0 0 k x) in
-          rw z (empty f, λ best. sym (mark-none W x best))
+          rw z (empty f, λ named best. ap markBest (sym (mark-none W x best)))
       go (node p a q b) h f c rows =
           let u = node p a q b in
           let r = reached σ ls (rowCount σ k u) x k W u (firstRow σ u k) tt h (lies-all σ u k ls W tt h rows) in
@@ -383,22 +397,24 @@ module _ {most : ℕ} {σ : Strides} {t : Trie} {rec : Record} {ls : Lists} (g :
     pub path-exactly : pathRows rec ls x ≡ rowsAlong σ W k t x
     path-exactly = path-rows rec ls x (finds x .0)
 
-    -- and the answer is the last nonzero mark on the address's path, else the floor, with one read for each such node
-    pub lookup-built : lookupOf most rec ls x ≡ answer (markAlong W t x (rec .floor)) (length (blocksAlong σ W t 0 0 k x))
+    -- and the answer is what the last nonzero mark on the address's path says, else the floor, with one read for each such node
+    pub lookup-built : AllMarks HasHop t → (m : ℕ) → markBest m ≡ floorBest (rec .floor)
+        → let b = markBest (markAlong W t x m) in lookupOf most rec ls x ≡ answer (b .hop) (b .len) (length (blocksAlong σ W t 0 0 k x))
     unfolding rowsAlong
-    lookup-built =
+    lookup-built named m floor =
+        let e = ap (λ (b : Best). latest (rowAt ls) b (rowsAlong σ W k t x)) (sym floor) ∙ finds x .1 named m in
         path-answer most rec ls x (passes x a) (finds x .0)
-        ∙ ap₂ answer (finds x .1 (rec .floor)) (length-map (blocksAlong σ W t 0 0 k x) (rowIn x (blockRow σ W k t x)))
+        ∙ ap₂ (λ (b : Best). answer (b .hop) (b .len)) e (length-map (blocksAlong σ W t 0 0 k x) (rowIn x (blockRow σ W k t x)))
 
-    -- the hops of the rows on the path, where said says what stands in each part of it
-    pub hops-built : (said : ℕ → ℕ → ℕ)
+    -- what the rows on the path say, where said says what mark stands in each part of it
+    pub rows-say : (said : ℕ → ℕ → ℕ)
         → ((d s : ℕ) → d + s ≤ W → markAlong s (subAlong d t (x / 2 ^ (W - d))) (x / 2 ^ (W - (d + s))) 0 ≡ said d (d + s))
-        → map (λ r. rowAt ls r .hop) (pathRows rec ls x) ≡ map (λ b. said (W - b .bits) (W - b .bits + b .stride)) (blocksAlong σ W t 0 0 k x)
+        → map (λ r. rowBest (rowAt ls r)) (pathRows rec ls x) ≡ map (λ b. markBest (said (W - b .bits) (W - b .bits + b .stride))) (blocksAlong σ W t 0 0 k x)
     unfolding rowsAlong blockRow subAlong
-    hops-built said told =
+    rows-say said told =
         let e = rowCount σ k t in
         let there : (W ≤ W) × (t ≡ subAlong (W - W) t (x / 2 ^ W)) = let z : W - W ≡ 0 = omega arith in rw z (omega arith, refl) in
-        ap (map (λ r. rowAt ls r .hop)) path-exactly
-        ∙ ⊎-elim (hops-none σ ls e x W t said told k W t (firstRow σ t k))
-        (λ some. hops σ ls e x W t said told k W t (firstRow σ t k) there some (g .good) (lies-all σ t k ls W some (g .good) (g .rows)))
+        ap (map (λ r. rowBest (rowAt ls r))) path-exactly
+        ∙ ⊎-elim (says-none σ ls e x W t said told k W t (firstRow σ t k))
+        (λ some. says σ ls e x W t said told k W t (firstRow σ t k) there some (g .good) (lies-all σ t k ls W some (g .good) (g .rows)))
         (some? t)

@@ -1,5 +1,5 @@
--- The row rule of 01 over the table: "For a block starting at depth d, a row's hop is that of the longest entry with length above d
--- and at most d + s that begins the row's path, else 0." The block's node is where the d bits of q lead, the row is x, and the row's
+-- The row rule over the table (01: "For a block starting at depth d, a row's hop is that of the longest entry with length above d
+-- and at most d + s that begins the row's path, else 0"; 02, [5]: and its length is that entry's). The block's node is where the d bits of q lead, the row is x, and the row's
 -- path, filled up with zeros, is an address: only its first d + s bits count.
 use Prim.Native.Nat.{ℕ, _+_, _-_, _*_, _/_, _^_, _≤_, _<_}
 use mathlib.Core.Path.{_≡_, sym, ap, ap₂, _∙_}
@@ -12,7 +12,6 @@ use Rattle.strides.specs.Trie.{bit, markAlong, subAlong}
 use Rattle.strides.specs.Entries.{trieOf}
 use Rattle.strides.proofs.Paths.{bit-mod, SameBits, mark-same}
 use Rattle.strides.proofs.Longest.{mark-block}
-use Rattle.layout.specs.Blocks.{Strides, rowBelow}
 use Rattle.layout.specs.PathBlocks.{rowPath}
 
 module _ (W d s q x : ℕ) (fits : d + s ≤ W) (first : q < 2 ^ d) (index : x < 2 ^ s) where
@@ -36,14 +35,13 @@ module _ (W d s q x : ℕ) (fits : d + s ≤ W) (first : q < 2 ^ d) (index : x <
       ∙ ap (λ (v : ℕ). v / 2 ^ s) (shl-shr (q * 2 ^ s + x) (W - (d + s)))
       ∙ high q s index
 
-  module _ (val len hop : ℕ → ℕ) (n : ℕ) (prefix : (i : ℕ) → i < n → IsPrefix W (val i) (len i)) (some-hop : (i : ℕ) → i < n → 0 < hop i) where
-    pub row-hop : (σ : Strides) (r free : ℕ)
-        → rowBelow σ s r (subAlong d (trieOf W val len hop n) q) 0 free x .hop ≡ ofWinner hop (winnerIn W val len n d (d + s) (rowPath W d s q x))
-    unfolding rowBelow
-    row-hop σ r free =
-        let T = trieOf W val len hop n in
+  module _ (val len mark : ℕ → ℕ) (n : ℕ) (prefix : (i : ℕ) → i < n → IsPrefix W (val i) (len i)) (some-mark : (i : ℕ) → i < n → 0 < mark i) where
+    -- the mark that the row is made of is the winner's
+    pub row-mark : markAlong s (subAlong d (trieOf W val len mark n) q) x 0 ≡ ofWinner mark (winnerIn W val len n d (d + s) (rowPath W d s q x))
+    row-mark =
+        let T = trieOf W val len mark n in
         let a = rowPath W d s q x in
         let same : SameBits s x (q * 2 ^ s + x) = λ j h. ap (bit j) (sym (low q s index)) ∙ bit-mod j s (q * 2 ^ s + x) h in
         mark-same s (subAlong d T q) x (q * 2 ^ s + x) 0 same
         ∙ sym (ap₂ (λ (v y : ℕ). markAlong s (subAlong d T v) y 0) path-node path-row)
-        ∙ mark-block W val len hop n prefix some-hop a path-lt d s fits
+        ∙ mark-block W val len mark n prefix some-mark a path-lt d s fits

@@ -1,3 +1,4 @@
+pub mod Marks
 pub mod Blocks
 pub mod Cost
 pub mod GoodStrides

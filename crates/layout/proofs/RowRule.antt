@@ -16,12 +16,15 @@ use Rattle.strides.specs.Strides.{Good}
 use Rattle.strides.proofs.Paths.{bit-mod, SameBits, sub-same}
 use Rattle.walk.specs.declared.record.Record.{Record}
 use Rattle.walk.specs.Rows.{Row, Lists, rowAt}
+use Rattle.walk.specs.Answers.{Best}
 use Rattle.layout.specs.Blocks.{Strides, leftOf, linkTo, strideOf, rowBelow, blockRows, firstRow, rowsOf, rowCount, Hold, blockRow}
 use Rattle.layout.specs.PathBlocks.{nodeOn, BlockAt, at-root, after, rowPath}
+use Rattle.layout.specs.Marks.{entryMarks, markBest}
 use Rattle.layout.specs.Laid.{tableTrie, Laid}
+use Rattle.layout.proofs.Marks.{some-mark, winner-says}
 use Rattle.layout.proofs.Blocks.{hold-at, level-own, left-same, left-own, left-below, left-split}
 use Rattle.layout.proofs.Answering.{Lies, lies-all, lies-next}
-use Rattle.layout.proofs.Hops.{path-lt, path-row, path-node, row-hop}
+use Rattle.layout.proofs.Hops.{path-lt, path-row, path-node, row-mark}
 use Rattle.layout.proofs.PathBlocks.{next-node, BlockHere, here}
 
 module _ (σ : Strides) (W k : ℕ) (t : Trie) (good : Good σ t W 0 k) (ls : Lists) (rows-held : Hold ls 0 (rowsOf σ k t)) where
@@ -155,14 +158,16 @@ module _ {most W : ℕ} {vs ls hs : List ℕ} {σ : Strides} {k : ℕ} {rec : Re
   rows-held : Hold rows 0 (rowsOf σ k T)
   rows-held = rw (g .levels) at (g .built .rows)
 
-  -- row i of the block of level n at depth d on the path of x, whose stride is s: its hop is that of the longest entry with length above d
-  -- and at most d + s that begins the row's path, else 0; its link is the first row of the child block, and its child stride that block's
+  -- row i of the block of level n at depth d on the path of x, whose stride is s: its hop and length are those of the longest entry with
+  -- length above d and at most d + s that begins the row's path, else 0; its link is the first row of the child block, and its child stride that block's
   -- stride; both are 0 where there is none
   pub row-rule : (x n d : ℕ) → x < 2 ^ W → BlockAt σ W k T x n d → (i : ℕ) → i < 2 ^ σ (k - n) (nodeOn W T x d)
       → let s = σ (k - n) (nodeOn W T x d) in
       let y = rowPath W d s (start W d x) i in
+      let w = winnerIn W (at vs) (at ls) (length vs) d (d + s) y in
       rowAt rows (blockRow σ W k T x n + i) ≡ record {
-        hop = ofWinner (at hs) (winnerIn W (at vs) (at ls) (length vs) d (d + s) y);
+        hop = ofWinner (at hs) w;
+        len = ofWinner (at ls) w;
         link = linkTo (nodeOn W T y (d + s)) (blockRow σ W k T y (suc n));
         stride = strideOf σ (k - suc n) (nodeOn W T y (d + s));
       }
@@ -177,21 +182,25 @@ module _ {most W : ℕ} {vs ls hs : List ℕ} {σ : Strides} {k : ℕ} {rec : Re
       let bits = first-bits σ W k T fine rows rows-held x n d small b i index in
       let inside = rw e at index in
       let free = st σ W k T fine rows rows-held x n d small b i index .at 1 in
-      let hop = row-hop W d (suc s) q i fits bits inside (at vs) (at ls) (at hs) (length vs) (λ j l. g .table .entry j l .prefix) (λ j l. g .table .entry j l .some-hop) σ r free in
+      let mark = row-mark W d (suc s) q i fits bits inside (at vs) (at ls) (entryMarks ls hs) (length vs) (λ j l. g .table .entry j l .prefix) (some-mark (g .table)) in
+      let own = ap markBest mark ∙ winner-says (g .table) _ in
       let child = child-node σ W k T fine rows rows-held x n d small b i index in
       let link = ap₂ linkTo child (child-row σ W k T fine rows rows-held x n d small b i index) in
       let levels : r ≡ k - suc n = omega (arith, here σ W k T fine x b .levels) in
       subst (λ (v : ℕ). rowAt rows (blockRow σ W k T x n + i) ≡ ruled v d q n i) (sym e)
-      (row-below σ W k T fine rows rows-held x n d small b i index ∙ same-row hop link (ap₂ (strideOf σ) levels child))
+      (row-below σ W k T fine rows rows-held x n d small b i index ∙ same-row own link (ap₂ (strideOf σ) levels child))
     where
       ruled : (v d q n i : ℕ) → Row
       ruled v d q n i =
           let y = rowPath W d v q i in
+          let w = winnerIn W (at vs) (at ls) (length vs) d (d + v) y in
           record {
-            hop = ofWinner (at hs) (winnerIn W (at vs) (at ls) (length vs) d (d + v) y);
+            hop = ofWinner (at hs) w;
+            len = ofWinner (at ls) w;
             link = linkTo (nodeOn W T y (d + v)) (blockRow σ W k T y (suc n));
             stride = strideOf σ (k - suc n) (nodeOn W T y (d + v));
           }
 
-      same-row : {h h′ l l′ c c′ : ℕ} → h ≡ h′ → l ≡ l′ → c ≡ c′ → _≡_ {A = Row} (record { hop = h; link = l; stride = c }) (record { hop = h′; link = l′; stride = c′ })
+      same-row : {b b′ : Best} {l l′ c c′ : ℕ} → b ≡ b′ → l ≡ l′ → c ≡ c′
+          → _≡_ {A = Row} (record { hop = b .hop; len = b .len; link = l; stride = c }) (record { hop = b′ .hop; len = b′ .len; link = l′; stride = c′ })
       same-row p q r = rw (p, q, r) refl

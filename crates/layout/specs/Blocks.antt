@@ -8,6 +8,7 @@ use mathlib.Core.List.{List, [], _∷_, _++_, map}
 use lib.ListN.{length}
 use Rattle.strides.specs.Trie.{Trie, none, node, left, kid, bit, markAlong, subAlong}
 use Rattle.walk.specs.Rows.{Row, Lists, rowAt, rowOf}
+use Rattle.layout.specs.Marks.{hopIn, lengthIn}
 
 abbrev pub Strides : Type 0
 Strides = ℕ → Trie → ℕ
@@ -45,12 +46,13 @@ abbrev pub strideOf : Strides → (r : ℕ) → Trie → ℕ
 strideOf σ r none = 0
 strideOf σ r (node p a q b) = σ r (node p a q b)
 
--- row x of the 2 ^ c rows below t: its hop is the last nonzero mark on the row's path, else `best`; the child blocks have r
--- levels left and lie from row `free` on
+-- row x of the 2 ^ c rows below t: its hop and length are those of the last nonzero mark on the row's path, else of `best`; the child
+-- blocks have r levels left and lie from row `free` on
 unfoldable pub rowBelow : Strides → (c r : ℕ) → Trie → (best free x : ℕ) → Row
 rowBelow σ c r t best free x =
+    let m = markAlong c t x best in
     let u = subAlong c t x in
-    record { hop = markAlong c t x best; link = linkTo u (free + leftOf σ c t c 0 r x); stride = strideOf σ r u }
+    record { hop = hopIn m; len = lengthIn m; link = linkTo u (free + leftOf σ c t c 0 r x); stride = strideOf σ r u }
 
 -- ---- all rows
 -- g 0, g 1, .., g (n - 1)

@@ -11,6 +11,7 @@ use Rattle.strides.specs.Strides.{Good}
 use Rattle.walk.specs.declared.record.Record.{Record}
 use Rattle.walk.specs.Limits.{LEVELS, Within}
 use Rattle.walk.specs.Rows.{Lists, shortest, root}
+use Rattle.layout.specs.Marks.{entryMarks}
 use Rattle.layout.specs.Blocks.{Strides, strideOf, rowsOf, rowCount, Hold}
 
 -- the record names the rows of t, and rows 0 to E - 1 are they; the widest address allowed is `most`
@@ -23,9 +24,9 @@ pub record LaidTrie (most : ℕ) (σ : Strides) (t : Trie) (rec : Record) (ls : 
   pub room : rec .elements ≤ shortest ls
   pub rows : Hold ls 0 (rowsOf σ (rec .levels) t)
 
--- the 1-bit trie of a table, and its floor
+-- the 1-bit trie of a table, marked by hop and length, and its floor, a hop
 abbrev pub tableTrie : (W : ℕ) (vs ls hs : List ℕ) → Trie
-tableTrie W vs ls hs = trieOf W (at vs) (at ls) (at hs) (length vs)
+tableTrie W vs ls hs = trieOf W (at vs) (at ls) (entryMarks ls hs) (length vs)
 
 abbrev pub tableFloor : (W : ℕ) (vs ls hs : List ℕ) → ℕ
 tableFloor W vs ls hs = floorOf W (at vs) (at ls) (at hs) (length vs)

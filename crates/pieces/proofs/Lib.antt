@@ -1,5 +1,6 @@
 pub mod Begins
 pub mod Over
+pub mod Longest
 pub mod Order
 pub mod Bits
 pub mod Table

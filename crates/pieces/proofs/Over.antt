@@ -1,60 +1,24 @@
--- The binary trie is the 1-bit trie with a mark over each node: so the last mark on an address's path is the longest match (strides'
--- law), and nothing about longest match is proved again.
+-- The binary trie is the 1-bit trie with a mark over each node; and what stands where an address's first bits lead: a node where they
+-- begin some entry, with the mark of the entry that they are.
 use Prim.Native.Nat.{ℕ, zero, suc, _+_, _-_, _/_, _^_, _≤_, _<_}
 use mathlib.Core.Path.{_≡_, refl, sym, ap, _∙_}
 use mathlib.Core.Bool.{Bool, true, false, cond, _&&_, _||_}
 use native.Mathlib.Omega.{arith}
 use lib.Dec.{eqb, ltb, leb}
-use borrow.Author.Tests.{lt-ltb, le-ltb, eq-eqb, ne-eqb, le-leb, lt-leb}
+use borrow.Author.Tests.{lt-ltb, le-ltb, ltb-false, eq-eqb, ne-eqb, le-leb, lt-leb}
 use native.Mathlib.Decide.{decLe}
 use lib.Pow.{shr-shr}
 use Rattle.table.specs.Prefix.{start}
 use Rattle.table.proofs.Bools.{or-false}
 use Rattle.table.proofs.Starts.{start-none}
-use Rattle.strides.specs.Trie.{Trie, none, node, kid, markOn, bit, markAlong}
+use Rattle.strides.specs.Trie.{bit}
 use Rattle.strides.specs.Entries.{withBit, nodeIf, trieBelow, beyond, properStart, wholeEntry, someStart, markAt, trieOf, floorOf}
-use Rattle.strides.proofs.Paths.{mark-none, bit-next}
+use Rattle.strides.proofs.Paths.{bit-next}
 use Rattle.table.specs.Prefix.{IsPrefix}
-use Rattle.table.specs.Longest.{longest, newer}
 use Rattle.strides.proofs.Bools.{or-right}
 use Rattle.strides.proofs.Entries.{Closed, closed}
-use Rattle.strides.proofs.Longest.{last-mark-is-longest}
-use Rattle.pieces.proofs.Passing.{last-empty}
 use Rattle.pieces.specs.Maps.{subtrieAlong, isNode}
-use Rattle.pieces.specs.BinaryTrie.{BinaryTrie, empty, knot, beginsEntry, someBegins, knotIf, binaryBelow, binaryTrieOf, leaf, over, mark, sideOf, lastMark}
-
--- ---- along a path
-mark-over : (m : ℕ) (t : Trie) → mark (over m t) ≡ m
-unfolding over leaf mark
-mark-over zero none = refl
-mark-over (suc m) none = refl
-mark-over m (node p a q b) = refl
-
-side-over : (i m p : ℕ) (a : Trie) (q : ℕ) (b : Trie) → sideOf i (over m (node p a q b)) ≡ over (markOn i (node p a q b)) (kid i (node p a q b))
-unfolding over
-side-over zero m p a q b = refl
-side-over (suc i) m p a q b = refl
-
-side-leaf : (i m : ℕ) → sideOf i (leaf m) ≡ empty
-unfolding leaf
-side-leaf i zero = refl
-side-leaf zero (suc m) = refl
-side-leaf (suc i) (suc m) = refl
-
-side-none : (i m : ℕ) → sideOf i (over m none) ≡ empty
-unfolding over
-side-none i m = side-leaf i m
-
-pub last-over : (n m : ℕ) (t : Trie) (x best : ℕ) → lastMark n (over m t) x best ≡ markAlong n t x (newer m best)
-unfolding lastMark markAlong
-last-over zero m t x best = ap (λ (v : ℕ). newer v best) (mark-over m t)
-last-over (suc n) m none x best =
-    ap (λ (v : ℕ). lastMark n (sideOf (bit n x) (over m none)) x (newer v best)) (mark-over m none)
-    ∙ ap (λ (t : BinaryTrie). lastMark n t x (newer m best)) (side-none (bit n x) m) ∙ last-empty n x (newer m best) ∙ sym (mark-none (suc n) x (newer m best))
-last-over (suc n) m (node p a q b) x best =
-    ap (λ (v : ℕ). lastMark n (sideOf (bit n x) (over m (node p a q b))) x (newer v best)) (mark-over m (node p a q b))
-    ∙ ap (λ (t : BinaryTrie). lastMark n t x (newer m best)) (side-over (bit n x) m p a q b)
-    ∙ last-over n (markOn (bit n x) (node p a q b)) (kid (bit n x) (node p a q b)) x (newer m best)
+use Rattle.pieces.specs.BinaryTrie.{BinaryTrie, empty, knot, beginsEntry, someBegins, knotIf, binaryBelow, binaryTrieOf, leaf, over, mark, sideOf}
 
 -- ---- where the nodes are
 -- the bits begin an entry exactly where they are one, or a proper start of one
@@ -162,6 +126,14 @@ module _ (S S′ : ℕ → ℕ → Bool) (M : ℕ → ℕ → ℕ) (c : Closed S
       go true = refl
       go false = refl
 
+  pub mark-below : (m d q : ℕ) → mark (binaryBelow S M (suc m) d q) ≡ M d q
+  unfolding binaryBelow knotIf mark
+  mark-below m d q = go (S d q) refl
+    where
+      go : (b : Bool) → S d q ≡ b → mark (knotIf b (M d q) (binaryBelow S M m (suc d) (withBit q 0)) (binaryBelow S M m (suc d) (withBit q 1))) ≡ M d q
+      go true e = refl
+      go false e = omega (arith, ltb-false 0 (M d q) (or-false (ltb 0 (M d q)) (S′ d q) (sym (or d q) ∙ e) .0))
+
   starts : (m d q : ℕ) → S′ d q ≡ true
       → binaryBelow S M (suc m) d q ≡ knot (M d q) (binaryBelow S M m (suc d) (withBit q 0)) (binaryBelow S M m (suc d) (withBit q 1))
   unfolding binaryBelow knotIf
@@ -183,42 +155,47 @@ module _ (S S′ : ℕ → ℕ → Bool) (M : ℕ → ℕ → ℕ) (c : Closed S
       go false e x y = ends (suc m) d q e
 
 -- ---- the whole table
-module _ (W : ℕ) (val len mark : ℕ → ℕ) (n : ℕ) (prefix : (i : ℕ) → i < n → IsPrefix W (val i) (len i)) (some-mark : (i : ℕ) → i < n → 0 < mark i) where
+module _ (W : ℕ) (val len hop : ℕ → ℕ) (n : ℕ) (prefix : (i : ℕ) → i < n → IsPrefix W (val i) (len i)) (some-hop : (i : ℕ) → i < n → 0 < hop i) where
   no-longer : (k q : ℕ) → k ≤ n → someStart W val len k W q ≡ false
   unfolding someStart properStart beyond
   no-longer zero q h = refl
   no-longer (suc k) q h = rw (le-ltb W (len k) (prefix k (omega arith) .short), no-longer k q (omega arith)) refl
 
-  pub tree-over-trie : binaryTrieOf W val len mark n ≡ over (floorOf W val len mark n) (trieOf W val len mark n)
+  pub tree-over-trie : binaryTrieOf W val len hop n ≡ over (floorOf W val len hop n) (trieOf W val len hop n)
   unfolding binaryTrieOf trieOf floorOf
   tree-over-trie =
-      tree-over (someBegins W val len n) (someStart W val len n) (markAt W val len mark n) (closed W val len mark n (λ i h. prefix i h .short))
-      (some-or W val len mark n some-mark) W 0 0 (λ k. let z : W + 0 ≡ W = omega arith in rw z (no-longer n k (omega arith)))
+      tree-over (someBegins W val len n) (someStart W val len n) (markAt W val len hop n) (closed W val len hop n (λ i h. prefix i h .short))
+      (some-or W val len hop n some-hop) W 0 0 (λ k. let z : W + 0 ≡ W = omega arith in rw z (no-longer n k (omega arith)))
 
-  -- a node begins the address with d bits exactly where they begin some entry
-  pub node-at : (a d : ℕ) → a < 2 ^ W → d ≤ W → isNode (subtrieAlong d (binaryTrieOf W val len mark n) (start W d a)) ≡ someBegins W val len n d (start W d a)
-  unfolding binaryTrieOf start
-  node-at a d h l =
-      let S = someBegins W val len n in
-      let S′ = someStart W val len n in
-      let M = markAt W val len mark n in
-      let c = closed W val len mark n (λ i h. prefix i h .short) in
-      let or = some-or W val len mark n some-mark in
-      let e : suc W ≡ d + suc (W - d) = omega arith in
-      let f : d + 0 ≡ d = omega arith in
-      let z : a / 2 ^ (W - d) / 2 ^ d ≡ 0 = shr-shr a (W - d) d ∙ ap (λ (k : ℕ). a / 2 ^ k) (omega arith) ∙ start-none W a h in
-      ap (λ (k : ℕ). isNode (subtrieAlong d (binaryBelow S M k 0 0) (a / 2 ^ (W - d)))) e
-      ∙ ap isNode (along-below S S′ M c or d (suc (W - d)) 0 0 (a / 2 ^ (W - d)) z)
-      ∙ is-node-below S S′ M c or (W - d) (d + 0) (a / 2 ^ (W - d))
-      ∙ ap (λ (k : ℕ). S k (a / 2 ^ (W - d))) f
+  -- where the first d bits of an address lead
+  module _ (a d : ℕ) (small : a < 2 ^ W) (within : d ≤ W) where
+    abbrev S : ℕ → ℕ → Bool
+    S = someBegins W val len n
 
-  -- demand 2's law: the last mark on the path of an address is the longest match
-  pub tree-longest : (a : ℕ) → a < 2 ^ W → lastMark W (binaryTrieOf W val len mark n) a 0 ≡ longest W val len mark n a
-  tree-longest a h =
-      ap (λ (t : BinaryTrie). lastMark W t a 0) tree-over-trie ∙ last-over W (floorOf W val len mark n) (trieOf W val len mark n) a 0
-      ∙ ap (markAlong W (trieOf W val len mark n) a) (newer-zero (floorOf W val len mark n))
-      ∙ last-mark-is-longest W val len mark n prefix some-mark a h
-    where
-      newer-zero : (x : ℕ) → newer x 0 ≡ x
-      newer-zero zero = refl
-      newer-zero (suc x) = rw (ne-eqb (suc x) 0 (λ e. omega arith)) refl
+    abbrev S′ : ℕ → ℕ → Bool
+    S′ = someStart W val len n
+
+    abbrev M : ℕ → ℕ → ℕ
+    M = markAt W val len hop n
+
+    along-start : subtrieAlong d (binaryTrieOf W val len hop n) (start W d a) ≡ binaryBelow S M (suc (W - d)) d (start W d a)
+    unfolding binaryTrieOf start
+    along-start =
+        let e : suc W ≡ d + suc (W - d) = omega arith in
+        let f : d + 0 ≡ d = omega arith in
+        let z : a / 2 ^ (W - d) / 2 ^ d ≡ 0 = shr-shr a (W - d) d ∙ ap (λ (k : ℕ). a / 2 ^ k) (omega arith) ∙ start-none W a small in
+        ap (λ (k : ℕ). subtrieAlong d (binaryBelow S M k 0 0) (a / 2 ^ (W - d))) e
+        ∙ along-below S S′ M (closed W val len hop n (λ i h. prefix i h .short)) (some-or W val len hop n some-hop) d (suc (W - d)) 0 0 (a / 2 ^ (W - d)) z
+        ∙ ap (λ (k : ℕ). binaryBelow S M (suc (W - d)) k (a / 2 ^ (W - d))) f
+
+    -- a node stands there exactly where they begin some entry
+    pub node-at : isNode (subtrieAlong d (binaryTrieOf W val len hop n) (start W d a)) ≡ someBegins W val len n d (start W d a)
+    node-at =
+        ap isNode along-start
+        ∙ is-node-below S S′ M (closed W val len hop n (λ i h. prefix i h .short)) (some-or W val len hop n some-hop) (W - d) d (start W d a)
+
+    -- and has the mark of the entry that they are, 0 where they are none
+    pub mark-on : mark (subtrieAlong d (binaryTrieOf W val len hop n) (start W d a)) ≡ markAt W val len hop n d (start W d a)
+    mark-on =
+        ap mark along-start
+        ∙ mark-below S S′ M (closed W val len hop n (λ i h. prefix i h .short)) (some-or W val len hop n some-hop) (W - d) d (start W d a)

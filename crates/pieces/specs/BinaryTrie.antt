@@ -9,8 +9,7 @@ use lib.Dec.{eqb, leb}
 use lib.ListN.{length}
 use Rattle.table.specs.Prefix.{start}
 use Rattle.table.specs.Table.{at}
-use Rattle.table.specs.Longest.{newer}
-use Rattle.strides.specs.Trie.{Trie, none, node, bit}
+use Rattle.strides.specs.Trie.{Trie, none, node}
 use Rattle.strides.specs.Entries.{withBit, markAt}
 
 pub data BinaryTrie : Type 0 where
@@ -55,7 +54,7 @@ unfoldable pub over : ℕ → Trie → BinaryTrie
 over m none = leaf m
 over m (node p a q b) = knot m (over p a) (over q b)
 
--- ---- along the last n bits of x: the last nonzero mark of the nodes passed, else `best`
+-- ---- of a node
 unfoldable pub mark : BinaryTrie → ℕ
 mark empty = 0
 mark (knot m l r) = m
@@ -64,10 +63,6 @@ abbrev pub sideOf : ℕ → BinaryTrie → BinaryTrie
 sideOf i empty = empty
 sideOf zero (knot m l r) = l
 sideOf (suc i) (knot m l r) = r
-
-unfoldable pub lastMark : (n : ℕ) → BinaryTrie → (x best : ℕ) → ℕ
-lastMark zero t x best = newer (mark t) best
-lastMark (suc n) t x best = lastMark n (sideOf (bit n x) t) x (newer (mark t) best)
 
 -- the binary trie of a table
 abbrev pub tableBinary : (W : ℕ) (vs ls hs : List ℕ) → BinaryTrie

@@ -54,18 +54,25 @@ pub fn say_scratch(scratch: &[u64]) {
     put(cases::count64(scratch, 0, 7) as u64);
 }
 
+// The length of a match or a discard, and its reads.
+fn say_length(length: u8, reads: u32) {
+    say(b" length");
+    put(length as u64);
+    say(b" reads");
+    put(reads as u64);
+}
+
 // What a lookup answers.
 pub fn say_answer(answer: Answer) {
     match answer {
-        Answer::Match { hop, reads } => {
+        Answer::Match { hop, length, reads } => {
             say(b"match");
             put(hop as u64);
-            say(b" reads");
-            put(reads as u64);
+            say_length(length, reads);
         }
-        Answer::Discard { reads } => {
-            say(b"discard reads");
-            put(reads as u64);
+        Answer::Discard { length, reads } => {
+            say(b"discard");
+            say_length(length, reads);
         }
         Answer::NoRoute { reads } => {
             say(b"none reads");
@@ -78,17 +85,24 @@ pub fn say_answer(answer: Answer) {
     }
 }
 
-// The same, short: hop/reads, d for a discard's hop, hop 0 for no route, or r and the number of the refusal.
+// The same, after a slash each.
+fn say_length_swept(length: u8, reads: u32) {
+    say(b"/");
+    say_number(length as u64);
+    say(b"/");
+    say_number(reads as u64);
+}
+
+// The same, short: hop/length/reads, d for a discard's hop, 0/reads for no route, or r and the number of the refusal.
 pub fn say_swept(answer: Answer) {
     match answer {
-        Answer::Match { hop, reads } => {
+        Answer::Match { hop, length, reads } => {
             put(hop as u64);
-            say(b"/");
-            say_number(reads as u64);
+            say_length_swept(length, reads);
         }
-        Answer::Discard { reads } => {
-            say(b" d/");
-            say_number(reads as u64);
+        Answer::Discard { length, reads } => {
+            say(b" d");
+            say_length_swept(length, reads);
         }
         Answer::NoRoute { reads } => {
             say(b" 0/");

@@ -24,6 +24,7 @@ use Rattle.strides.specs.Recurrence.{plain, leastBy}
 use Rattle.strides.proofs.Insertion.{trie-depth-width}
 use Rattle.strides.proofs.Cheapest.{least-cheapest, chosen-follows}
 use Rattle.strides.proofs.Follows.{follows-good, follows-unique}
+use Rattle.layout.specs.Marks.{entryMarks}
 use Rattle.layout.specs.Blocks.{Strides, rowCount, strideOf, Agree}
 use Rattle.tries.specs.Build.{buildTests}
 use Rattle.layout.specs.Laid.{tableTrie}
@@ -43,7 +44,7 @@ use Rattle.sheet.specs.declared.running.Report.{Report}
 use Rattle.sheet.specs.Limits.{LENT-ROWS, LENT-ELEMENTS}
 use Rattle.sheet.specs.Printing.{refusalLines, headLines, answerLines}
 use Rattle.sheet.specs.Answers.{wrong, firstWrong, queryLines, answersReport}
-use Rattle.sheet.specs.Solved.{longestHop, blocksRead, reportBy, buildOutcome, chosen, tableReport, reportFor, solved}
+use Rattle.sheet.specs.Solved.{longestHop, matchedLength, blocksRead, reportBy, buildOutcome, chosen, tableReport, reportFor, solved}
 use Rattle.sheet.specs.Tablet.{textReport, reportOf, answerFor, leftFor, Ran}
 use Rattle.sheet.specs.Meaning.{FirstWrong, pathLines, AnsweredBy, Solves, SheetSolves, Says, Reports}
 
@@ -70,7 +71,7 @@ module _ (W k : ℕ) (vs ls hs : List ℕ) (σ : Strides) (xs ds : List ℕ) whe
           → AnsweredBy W k vs ls hs σ xs ds
           (cond t (refusalLines 8 (firstWrong W ds))
           (headLines (rowCount σ k (tableTrie W vs ls hs)) (strideOf σ k (tableTrie W vs ls hs))
-          ++ joined (queryLines (longestHop W k vs ls hs) (blocksRead W k vs ls hs σ) xs ds) (length ds)))
+          ++ joined (queryLines (longestHop W k vs ls hs) (matchedLength W k vs ls hs) (blocksRead W k vs ls hs σ) xs ds) (length ds)))
       go true e =
           let h = ltb-true _ _ e in
           inl (firstWrong W ds, record { inside = h; unlike = eqb-false _ _ (not-true _ (first .holds h)); before = right }, refl)
@@ -79,6 +80,7 @@ module _ (W k : ℕ) (vs ls hs : List ℕ) (σ : Strides) (xs ds : List ℕ) whe
           inr (record {
             right = λ i l. right i (omega arith);
             hop = λ i. longestHop W k vs ls hs (at xs i);
+            len = λ i. matchedLength W k vs ls hs (at xs i);
             longest = λ i l. longest-is W (at vs) (at ls) (at hs) (length vs) (at xs i);
             lines = refl;
           })
@@ -134,13 +136,14 @@ module _ (W k : ℕ) (vs ls hs : List ℕ) (table : Table W vs ls hs) (σ τ : S
       let t = tableTrie W vs ls hs in
       a .lines
       ∙ same-head (count-same σ τ t k g) (stride-same σ τ t k g)
-      (joined-same (pathLines W k vs ls hs σ xs ds (a .hop)) (pathLines W k vs ls hs τ xs ds (b .hop)) (length ds)
+      (joined-same (pathLines W k vs ls hs σ xs ds (a .hop) (a .len)) (pathLines W k vs ls hs τ xs ds (b .hop) (b .len)) (length ds)
       (λ i h.
       same-line i (longest-unique W vs ls hs table (at xs i) (a .longest i h) (b .longest i h)) (ap length (blocks-same σ τ W t 0 0 k (at xs i) g))))
       ∙ sym (b .lines)
     where
-      same-line : (i : ℕ) {h h′ n n′ : ℕ} → h ≡ h′ → n ≡ n′ → answerLines (at xs i) (at ds i) h n ≡ answerLines (at xs i) (at ds i) h′ n′
-      same-line i p q = rw (p, q)
+      same-line : (i : ℕ) {h h′ l l′ n n′ : ℕ} → (h ≡ h′) × (l ≡ l′) → n ≡ n′
+          → answerLines (at xs i) (at ds i) h l n ≡ answerLines (at xs i) (at ds i) h′ l′ n′
+      same-line i p q = rw (p .0, p .1, q)
 
       same-head : {e e′ r r′ : ℕ} {l l′ : List ℕ} → e ≡ e′ → r ≡ r′ → l ≡ l′ → headLines e r ++ l ≡ headLines e′ r′ ++ l′
       same-head p q z = rw (p, q, z)
@@ -169,7 +172,7 @@ solves-unique kind W k vs ls hs xs ds {bytes} {bytes′} c d = go (c .out) refl
         let gives = subst (Gives tests) e (c .tested least (least-cheapest kind k t)) in
         let pass = accepted-tests W k vs ls hs (LENT-ROWS * ROW) LENT-ELEMENTS least (sym (gives-outcome tests Accepted gives)) in
         let table = accepted-tests-table W k vs ls hs (LENT-ROWS * ROW) pass in
-        let deep = trie-depth-width W (at vs) (at ls) (at hs) (length vs) (λ i l. table .entry i l .prefix) in
+        let deep = trie-depth-width W (at vs) (at ls) (entryMarks ls hs) (length vs) (λ i l. table .entry i l .prefix) in
         let fine = follows-good kind k t W (a .0) (accepted-levels W k vs ls hs (LENT-ROWS * ROW) pass .0) deep (a .1) in
         let agree = same-agree (a .0) (a′ .0) t W 0 k fine (follows-unique kind k t (a .0) (a′ .0) (a .1) (a′ .1)) in
         answers-one W k vs ls hs table (a .0) (a′ .0) agree xs ds (a .2) (a′ .2)

@@ -25,20 +25,20 @@ use Rattle.sheet.proofs.Writing.{length-refusal, length-head, length-an
 
 -- queries that are few, of few digits each
 module _ (xs ds : List ℕ) (few : length ds ≤ COUNT) (short : (i : ℕ) → i < length ds → at ds i ≤ BITS) where
-  answers-short : (hop reads : ℕ → ℕ) (W e r : ℕ) → length (answersReport hop reads xs ds W e r) ≤ PAGE
+  answers-short : (hop len reads : ℕ → ℕ) (W e r : ℕ) → length (answersReport hop len reads xs ds W e r) ≤ PAGE
   unfolding answersReport queryLines
-  answers-short hop reads W e r = go (ltb (firstWrong W ds) (length ds))
+  answers-short hop len reads W e r = go (ltb (firstWrong W ds) (length ds))
     where
       go : (t : Bool)
-          → length (cond t (refusalLines 8 (firstWrong W ds)) (headLines e r ++ joined (queryLines hop reads xs ds) (length ds))) ≤ PAGE
+          → length (cond t (refusalLines 8 (firstWrong W ds)) (headLines e r ++ joined (queryLines hop len reads xs ds) (length ds))) ≤ PAGE
       go true = omega (arith, length-refusal 8 (firstWrong W ds))
       go false =
           omega (
             arith,
-            length-append (headLines e r) (joined (queryLines hop reads xs ds) (length ds)),
+            length-append (headLines e r) (joined (queryLines hop len reads xs ds) (length ds)),
             length-head e r,
-            length-joined (queryLines hop reads xs ds) ANSWER-BYTES (length ds)
-                (λ i h. length-answer _ _ _ _ (short i h)),
+            length-joined (queryLines hop len reads xs ds) ANSWER-BYTES (length ds)
+                (λ i h. length-answer _ _ _ _ _ (short i h)),
           )
 
   for-short : (out : Outcome) (bytes : List ℕ) → length bytes ≤ PAGE → length (reportFor out bytes) ≤ PAGE
@@ -48,7 +48,7 @@ module _ (xs ds : List ℕ) (few : length ds ≤ COUNT) (short : (i : ℕ) → i
 
   solved-short : (n : Kind) (W k : ℕ) (bits ls hs : List ℕ) → length (solved n W k bits ls hs xs ds) ≤ PAGE
   unfolding solved reportBy
-  solved-short n W k bits ls hs = for-short _ _ (answers-short _ _ W _ _)
+  solved-short n W k bits ls hs = for-short _ _ (answers-short _ _ _ W _ _)
 
 -- the page holds the report of every text
 pub report-short : (s : List ℕ) → length (reportOf s) ≤ PAGE

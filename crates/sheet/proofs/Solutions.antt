@@ -17,7 +17,7 @@ use Rattle.layout.specs.Laid.{tableTrie, Laid}
 use Rattle.choosers.specs.Scratch.{ROW}
 use Rattle.choosers.specs.Kinds.{kindOf}
 use Rattle.walk.specs.declared.record.Record.{Record}
-use Rattle.layout.proofs.Laid.{hop-longest, reads-blocks}
+use Rattle.layout.proofs.Laid.{hop-longest, length-longest, reads-blocks}
 use Rattle.reading.specs.declared.parsing.Contents.{Contents}
 use Rattle.reading.specs.Sheet.{Sheet}
 use Rattle.reading.specs.Contents.{sheetIn, GoodContents}
@@ -25,8 +25,8 @@ use Rattle.reading.specs.Text.{good}
 use Rattle.sheet.specs.Limits.{LENT-ROWS, LENT-ELEMENTS}
 use Rattle.sheet.specs.Lent.{LentQueries, SheetBuilt}
 use Rattle.sheet.specs.Printing.{refusalLines}
-use Rattle.sheet.specs.Answers.{answersReport, hopFor, readsFor, lookedUp}
-use Rattle.sheet.specs.Solved.{chosen, buildOutcome, longestHop, blocksRead, reportBy, tableReport, reportFor, solved}
+use Rattle.sheet.specs.Answers.{answersReport, hopFor, lengthFor, readsFor, lookedUp}
+use Rattle.sheet.specs.Solved.{chosen, buildOutcome, longestHop, matchedLength, blocksRead, reportBy, tableReport, reportFor, solved}
 use Rattle.sheet.specs.Tablet.{textReport}
 use Rattle.sheet.specs.Values.{valuesOf}
 use Rattle.sheet.proofs.Queries.{report-same}
@@ -40,11 +40,13 @@ module _ (kind : Kind) (W k : ℕ) (vs ls hs : List ℕ) {rec : Record} {rows : 
       let σ = chosen kind W k vs ls hs in
       let t = tableTrie W vs ls hs in
       named (g .width) (g .built .elements ∙ ap (λ (l : ℕ). rowCount σ l t) (g .levels)) (g .built .first ∙ ap (λ (l : ℕ). strideOf σ l t) (g .levels))
-      ∙ report-same (hopFor rec rows) (readsFor rec rows) (longestHop W k vs ls hs) (blocksRead W k vs ls hs σ) W xs ds lent
-      (λ a h. (hop-longest g a h, reads-blocks g a h)) (rowCount σ k t) (strideOf σ k t)
+      ∙ report-same (hopFor rec rows) (lengthFor rec rows) (readsFor rec rows) (longestHop W k vs ls hs) (matchedLength W k vs ls hs)
+      (blocksRead W k vs ls hs σ) W xs ds lent
+      (λ a h. (hop-longest g a h, length-longest g a h, reads-blocks g a h)) (rowCount σ k t) (strideOf σ k t)
     where
       named : {w v e f r q : ℕ} → w ≡ v → e ≡ f → r ≡ q
-          → answersReport (hopFor rec rows) (readsFor rec rows) xs ds w e r ≡ answersReport (hopFor rec rows) (readsFor rec rows) xs ds v f q
+          → answersReport (hopFor rec rows) (lengthFor rec rows) (readsFor rec rows) xs ds w e r
+          ≡ answersReport (hopFor rec rows) (lengthFor rec rows) (readsFor rec rows) xs ds v f q
       named a b c = rw (a, b, c)
 
   module _ {scratch scratch′ : List ℕ} {lent : Lists} {out : Outcome} (words : length scratch ≡ LENT-ROWS * ROW) (room : shortest lent ≡ LENT-ELEMENTS)

@@ -18,7 +18,7 @@ use Rattle.reading.specs.Keys.{addressKey, hopKey}
 use Rattle.reading.specs.Numerals.{decimalLengthFrom, decimalLength, decimal, binary, lineOf, bitsLineOf, joined}
 use Rattle.reading.proofs.Numerals.{length-digits}
 use Rattle.sheet.specs.Limits.{REFUSAL-BYTES, HEAD-BYTES, ANSWER-BYTES, DECIMAL-BYTES, ADDRESS-BYTES}
-use Rattle.sheet.specs.Keys.{refusalKey, detailKey, elementsKey, rootKey, readsKey}
+use Rattle.sheet.specs.Keys.{refusalKey, detailKey, elementsKey, rootKey, lengthKey, readsKey}
 use Rattle.sheet.specs.Printing.{addressLine, refusalLines, headLines, answerLines, written, Wrote}
 
 -- ---- one run of bytes after another
@@ -161,15 +161,17 @@ length-head e r =
       length-line rootKey r,
     )
 
-pub length-answer : (v n h r : ℕ) → n ≤ BITS → length (answerLines v n h r) ≤ ANSWER-BYTES
+pub length-answer : (v n h l r : ℕ) → n ≤ BITS → length (answerLines v n h l r) ≤ ANSWER-BYTES
 unfolding answerLines
-length-answer v n h r few =
+length-answer v n h l r few =
     omega (
       arith,
-      length-append (addressLine v n ++ lineOf hopKey h) (lineOf readsKey r),
+      length-append (addressLine v n ++ lineOf hopKey h ++ lineOf lengthKey l) (lineOf readsKey r),
+      length-append (addressLine v n ++ lineOf hopKey h) (lineOf lengthKey l),
       length-append (addressLine v n) (lineOf hopKey h),
       length-address v n,
       length-line hopKey h,
+      length-line lengthKey l,
       length-line readsKey r,
     )
 

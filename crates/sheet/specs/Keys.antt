@@ -18,6 +18,10 @@ elementsKey = 101 ∷ 108 ∷ 101 ∷ 109 ∷ 101 ∷ 110 ∷ 116 ∷ 115 ∷ 61
 abbrev pub rootKey : List ℕ
 rootKey = 114 ∷ 111 ∷ 111 ∷ 116 ∷ 61 ∷ []
 
+-- `length=`
+abbrev pub lengthKey : List ℕ
+lengthKey = 108 ∷ 101 ∷ 110 ∷ 103 ∷ 116 ∷ 104 ∷ 61 ∷ []
+
 -- `reads=`
 abbrev pub readsKey : List ℕ
 readsKey = 114 ∷ 101 ∷ 97 ∷ 100 ∷ 115 ∷ 61 ∷ []

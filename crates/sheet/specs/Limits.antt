@@ -6,7 +6,7 @@ use lib.ListN.{length}
 use Rattle.choosers.specs.Scratch.{ROW}
 use Rattle.reading.specs.Limits.{BITS, DECIMAL-DIGITS}
 use Rattle.reading.specs.Keys.{hopKey, addressKey}
-use Rattle.sheet.specs.Keys.{refusalKey, detailKey, elementsKey, rootKey, readsKey}
+use Rattle.sheet.specs.Keys.{refusalKey, detailKey, elementsKey, rootKey, lengthKey, readsKey}
 
 -- a number's digits with an LF
 abbrev pub DECIMAL-BYTES : ℕ
@@ -25,9 +25,11 @@ abbrev pub HEAD-BYTES : ℕ
 HEAD-BYTES = REFUSAL-BYTES + length elementsKey + DECIMAL-BYTES + length rootKey + DECIMAL-BYTES
 
 abbrev pub ANSWER-BYTES : ℕ
-ANSWER-BYTES = BITS + ADDRESS-BYTES + length hopKey + DECIMAL-BYTES + length readsKey + DECIMAL-BYTES
+ANSWER-BYTES =
+    BITS + ADDRESS-BYTES + length hopKey + DECIMAL-BYTES + length lengthKey + DECIMAL-BYTES + length readsKey + DECIMAL-BYTES
 
--- the bytes of the page that a text is read to or a report printed to: LONGEST, and HEAD-BYTES + COUNT * ANSWER-BYTES, rounded up
+-- the bytes of the page that a text is read to or a report printed to: LONGEST, and HEAD-BYTES + COUNT * ANSWER-BYTES, which is
+-- 113 + 64 * 121 = 7,857, rounded up
 abbrev pub PAGE : ℕ
 PAGE = 8192
 

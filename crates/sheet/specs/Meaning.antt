@@ -1,7 +1,7 @@
 -- What a report means, with no way to find it. A text is that of a sound sheet, or it has a first bad line and the report is 11. A
 -- sheet's report is the first of the build's tests that fails, where 7 tests the least cost of all choices; or 8 and the first query
 -- whose digit count is not the width; or, for strides that follow the tie rule, the number of their rows, the root's stride, and for
--- each address the hop of the longest entry that matches it and the number of blocks on its path.
+-- each address hop and length of the longest entry that matches it and the number of blocks on its path.
 use mathlib.Core.Path.{_≡_}
 use mathlib.Core.List.{List, _++_}
 use mathlib.Core.Logic.{_⊎_}
@@ -15,7 +15,7 @@ use Rattle.strides.specs.Cheapest.{Kind, Cheapest}
 use Rattle.strides.specs.Strides.{Follows}
 use Rattle.layout.specs.Blocks.{Strides, rowCount, strideOf}
 use Rattle.tries.specs.Build.{buildTests}
-use Rattle.table.specs.Longest.{LongestHop}
+use Rattle.table.specs.Longest.{LongestEntry}
 use Rattle.layout.specs.Laid.{tableTrie}
 use Rattle.choosers.specs.Kinds.{kindOf}
 use Rattle.choosers.specs.Scratch.{ROW}
@@ -38,16 +38,17 @@ pub record FirstWrong (W : ℕ) (ds : List ℕ) (i : ℕ) : Type 0 where
 
 -- the strides σ of an accepted build
 module _ (W k : ℕ) (vs ls hs : List ℕ) (σ : Strides) (xs ds : List ℕ) where
-  -- what query i prints where its address has this hop
-  abbrev pub pathLines : (hop : ℕ → ℕ) → ℕ → List ℕ
-  pathLines hop i = answerLines (at xs i) (at ds i) (hop i) (blocksRead W k vs ls hs σ (at xs i))
+  -- what query i prints where its address has this hop and length
+  abbrev pub pathLines : (hop len : ℕ → ℕ) → ℕ → List ℕ
+  pathLines hop len i = answerLines (at xs i) (at ds i) (hop i) (len i) (blocksRead W k vs ls hs σ (at xs i))
 
   -- every address has the width's digits: the first four lines, then all answers
   pub record AllAnswered (bytes : List ℕ) : Type 0 where
     pub right : (i : ℕ) → i < length ds → at ds i ≡ W
     pub hop : ℕ → ℕ
-    pub longest : (i : ℕ) → i < length ds → LongestHop W vs ls hs (at xs i) (hop i)
-    pub lines : bytes ≡ headLines (rowCount σ k (tableTrie W vs ls hs)) (strideOf σ k (tableTrie W vs ls hs)) ++ joined (pathLines hop) (length ds)
+    pub len : ℕ → ℕ
+    pub longest : (i : ℕ) → i < length ds → LongestEntry W vs ls hs (at xs i) (hop i) (len i)
+    pub lines : bytes ≡ headLines (rowCount σ k (tableTrie W vs ls hs)) (strideOf σ k (tableTrie W vs ls hs)) ++ joined (pathLines hop len) (length ds)
 
   -- 8 and the first query that is wrong, or all answers
   abbrev pub AnsweredBy : (bytes : List ℕ) → Type 0

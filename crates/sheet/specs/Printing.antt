@@ -1,6 +1,6 @@
 -- The report's lines (01, "The tablet program"): a key, a number in decimal, LF. "A refusal prints only the lines
--- `refusal` and `detail`"; an accepted run prints them with 0, then elements and root, then address, hop and reads of
--- each query.
+-- `refusal` and `detail`"; an accepted run prints them with 0, then elements and root, then address, hop, length
+-- (02, [5]) and reads of each query.
 use mathlib.Core.Path.{_≡_}
 use mathlib.Core.List.{List, _++_}
 use Prim.Native.Nat.{ℕ, _+_, _≤_}
@@ -8,7 +8,7 @@ use lib.ListN.{length}
 use lib.Seq.{sets}
 use Rattle.reading.specs.Keys.{addressKey, hopKey}
 use Rattle.reading.specs.Numerals.{lineOf, bitsLineOf}
-use Rattle.sheet.specs.Keys.{refusalKey, detailKey, elementsKey, rootKey, readsKey}
+use Rattle.sheet.specs.Keys.{refusalKey, detailKey, elementsKey, rootKey, lengthKey, readsKey}
 
 abbrev pub addressLine : (v n : ℕ) → List ℕ
 addressLine v n = bitsLineOf addressKey v n
@@ -19,8 +19,8 @@ refusalLines number detail = lineOf refusalKey number ++ lineOf detailKey detail
 unfoldable pub headLines : (elements root : ℕ) → List ℕ
 headLines elements root = refusalLines 0 0 ++ lineOf elementsKey elements ++ lineOf rootKey root
 
-unfoldable pub answerLines : (address n hop reads : ℕ) → List ℕ
-answerLines address n hop reads = addressLine address n ++ lineOf hopKey hop ++ lineOf readsKey reads
+unfoldable pub answerLines : (address n hop len reads : ℕ) → List ℕ
+answerLines address n hop len reads = addressLine address n ++ lineOf hopKey hop ++ lineOf lengthKey len ++ lineOf readsKey reads
 
 -- ---- what a function that prints leaves
 

@@ -1,11 +1,11 @@
 -- A good sheet, solved (01, "The tablet program"): the build's refusal, or the report of its answers. The entries' bits are
--- values of the table; elements and root are those of its rows; the hop of an address is that of the longest entry that
--- matches it, and its reads the number of blocks on its path.
+-- values of the table; elements and root are those of its rows; hop and length of an address are those of the longest
+-- entry that matches it, and its reads the number of blocks on its path.
 use mathlib.Core.List.{List}
 use Prim.Native.Nat.{ℕ, _*_}
 use lib.ListN.{length}
 use Rattle.table.specs.Table.{at}
-use Rattle.table.specs.Longest.{longest}
+use Rattle.table.specs.Longest.{longest, matched}
 use Rattle.table.specs.Refusals.{outcome}
 use Rattle.table.specs.declared.entry.Outcome.{Outcome}
 use Rattle.table.specs.declared.entry.Outcome.the-variants.{Accepted, Refused}
@@ -27,12 +27,16 @@ module _ (W k : ℕ) (vs ls hs : List ℕ) where
   abbrev pub longestHop : ℕ → ℕ
   longestHop = longest W (at vs) (at ls) (at hs) (length vs)
 
+  abbrev pub matchedLength : ℕ → ℕ
+  matchedLength = matched W (at vs) (at ls) (length vs)
+
   abbrev pub blocksRead : Strides → ℕ → ℕ
   blocksRead σ a = blockCount σ W (tableTrie W vs ls hs) k a
 
   -- the report where the build accepts, and has the strides σ
   unfoldable pub reportBy : Strides → (xs ds : List ℕ) → List ℕ
-  reportBy σ xs ds = answersReport longestHop (blocksRead σ) xs ds W (rowCount σ k (tableTrie W vs ls hs)) (strideOf σ k (tableTrie W vs ls hs))
+  reportBy σ xs ds =
+      answersReport longestHop matchedLength (blocksRead σ) xs ds W (rowCount σ k (tableTrie W vs ls hs)) (strideOf σ k (tableTrie W vs ls hs))
 
 module _ (kind : Kind) (W k : ℕ) (vs ls hs : List ℕ) where
   -- the strides that the build chooses

@@ -6,7 +6,7 @@ ghost use Rattle.walk.specs.Rows.{lists};
 ghost use Rattle.reading.specs.Limits.{BITS};
 ghost use Rattle.sheet.specs.Limits.{ANSWER-BYTES, PAGE};
 ghost use Rattle.sheet.specs.Lent.{LentQueries};
-ghost use Rattle.walk.specs.Answers.{hopOf, readsOf};
+ghost use Rattle.walk.specs.Answers.{hopOf, lengthOf, readsOf};
 ghost use Rattle.sheet.specs.Printing.{Wrote, answerLines};
 ghost use Rattle.sheet.specs.Answers.{firstWrong, answered, lookedUp};
 use crate::printing::put_answer;
@@ -34,13 +34,13 @@ fn first_wrong(width: u32, digs: &[u8]) -> usize
 // Puts the lines of an answer. (A lookup of an address of the right width is not refused.)
 fn put_found(out: &mut [u8], p: usize, address: u32, n: usize, answer: Answer) -> usize
     requires { ⌜ (p + ANSWER-BYTES ≤ length (now out)) × (n ≤ BITS) ⌝ }
-    ensures { λ r. ⌜ Wrote (now (out .entry)) p (answerLines address n (hopOf answer) (readsOf answer)) (now (out .exit)) r ⌝ }
+    ensures { λ r. ⌜ Wrote (now (out .entry)) p (answerLines address n (hopOf answer) (lengthOf answer) (readsOf answer)) (now (out .exit)) r ⌝ }
 {
     match answer {
-        Answer::Match { hop, reads } => put_answer(out, p, address, n, hop, reads),
-        Answer::Discard { reads } => put_answer(out, p, address, n, DISCARD, reads),
-        Answer::NoRoute { reads } => put_answer(out, p, address, n, 0, reads),
-        Answer::Refused { number: _ } => put_answer(out, p, address, n, 0, 0),
+        Answer::Match { hop, length, reads } => put_answer(out, p, address, n, hop, length, reads),
+        Answer::Discard { length, reads } => put_answer(out, p, address, n, DISCARD, length, reads),
+        Answer::NoRoute { reads } => put_answer(out, p, address, n, 0, 0, reads),
+        Answer::Refused { number: _ } => put_answer(out, p, address, n, 0, 0, 0),
     }
 }
 
@@ -50,6 +50,7 @@ fn put_answers(
     p: usize,
     rec: Record,
     hop: &[u16],
+    lens: &[u8],
     link: &[u32],
     stride: &[u8],
     adds: &[u32],
@@ -57,14 +58,14 @@ fn put_answers(
 ) -> usize
     requires { ⌜ (p + length (now digs) * ANSWER-BYTES ≤ length (now out)) × LentQueries (now adds) (now digs) ⌝ }
     ensures { λ r. ⌜ Wrote (now (out .entry)) p
-        (answered rec (lists (now (hop .entry)) (now (link .entry)) (now (stride .entry))) (now (adds .entry)) (now (digs .entry)))
+        (answered rec (lists (now (hop .entry)) (now (lens .entry)) (now (link .entry)) (now (stride .entry))) (now (adds .entry)) (now (digs .entry)))
         (now (out .exit)) r ⌝ }
 {
     let mut q = p;
     let mut i = 0;
     while i < digs.len() {
         let address = adds[i];
-        let found = tries::lookup(rec, hop, link, stride, address);
+        let found = tries::lookup(rec, hop, lens, link, stride, address);
         q = put_found(out, q, address, digs[i] as usize, found);
         i += 1;
     }
@@ -76,6 +77,7 @@ pub(crate) fn put_report(
     out: &mut [u8],
     rec: Record,
     hop: &[u16],
+    lens: &[u8],
     link: &[u32],
     stride: &[u8],
     adds: &[u32],
@@ -83,7 +85,7 @@ pub(crate) fn put_report(
 ) -> usize
     requires { ⌜ (PAGE ≤ length (now out)) × LentQueries (now adds) (now digs) ⌝ }
     ensures { λ r. ⌜ Wrote (now (out .entry)) 0
-        (lookedUp rec (lists (now (hop .entry)) (now (link .entry)) (now (stride .entry))) (now (adds .entry)) (now (digs .entry)))
+        (lookedUp rec (lists (now (hop .entry)) (now (lens .entry)) (now (link .entry)) (now (stride .entry))) (now (adds .entry)) (now (digs .entry)))
         (now (out .exit)) r ⌝ }
 {
     let wrong = first_wrong(rec.width, digs);
@@ -91,5 +93,5 @@ pub(crate) fn put_report(
         return put_refusal(out, 0, 8, wrong as u64);
     }
     let p = put_head(out, rec.elements, rec.strides[0]);
-    put_answers(out, p, rec, hop, link, stride, adds, digs)
+    put_answers(out, p, rec, hop, lens, link, stride, adds, digs)
 }

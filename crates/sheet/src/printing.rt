@@ -85,19 +85,21 @@ pub(crate) fn put_head(out: &mut [u8], elements: u32, root: u8) -> usize
     put_line(out, q, b"root=", root as u64)
 }
 
-// Puts the three lines of a query.
+// Puts the four lines of a query.
 pub(crate) fn put_answer(
     out: &mut [u8],
     p: usize,
     address: u32,
     n: usize,
     hop: u16,
+    len: u8,
     reads: u32,
 ) -> usize
     requires { ⌜ (p + ANSWER-BYTES ≤ length (now out)) × (n ≤ BITS) ⌝ }
-    ensures { λ r. ⌜ Wrote (now (out .entry)) p (answerLines address n hop reads) (now (out .exit)) r ⌝ }
+    ensures { λ r. ⌜ Wrote (now (out .entry)) p (answerLines address n hop len reads) (now (out .exit)) r ⌝ }
 {
     let q = put_address(out, p, address, n);
     let e = put_line(out, q, b"hop=", hop as u64);
-    put_line(out, e, b"reads=", reads as u64)
+    let f = put_line(out, e, b"length=", len as u64);
+    put_line(out, f, b"reads=", reads as u64)
 }

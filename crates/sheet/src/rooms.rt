@@ -1,4 +1,4 @@
-// What the program lends to a build, all zeros: scratch rows, and the three lists of the elements. Each promise gives only
+// What the program lends to a build, all zeros: scratch rows, and the four lists of the elements. Each promise gives only
 // the length, which lending the array as a slice needs.
 ghost use mathlib.Core.Path.{_≡_};
 ghost use Prim.Native.Nat.{_*_};
@@ -16,6 +16,12 @@ pub(crate) fn scratch_room() -> [u64; LENT_ROWS * ROW]
 }
 
 pub(crate) fn hop_room() -> [u16; LENT_ELEMENTS]
+    ensures { λ r. ⌜ LENT-ELEMENTS ≡ length r ⌝ }
+{
+    [0; LENT_ELEMENTS]
+}
+
+pub(crate) fn length_room() -> [u8; LENT_ELEMENTS]
     ensures { λ r. ⌜ LENT-ELEMENTS ≡ length r ⌝ }
 {
     [0; LENT_ELEMENTS]

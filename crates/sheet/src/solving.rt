@@ -12,6 +12,7 @@ ghost use Rattle.sheet.specs.Tablet.{textReport};
 use crate::answering::put_report;
 use crate::printing::put_refusal;
 use crate::rooms::hop_room;
+use crate::rooms::length_room;
 use crate::rooms::link_room;
 use crate::rooms::scratch_room;
 use crate::rooms::stride_room;
@@ -21,15 +22,21 @@ use table::Outcome;
 use tries::Built;
 
 // Builds the table of a sheet's entries, over scratch of its own, into the lists lent.
-fn build_sheet(got: Contents, hop: &mut [u16], link: &mut [u32], stride: &mut [u8]) -> Built
+fn build_sheet(
+    got: Contents,
+    hop: &mut [u16],
+    lens: &mut [u8],
+    link: &mut [u32],
+    stride: &mut [u8],
+) -> Built
     requires { ⌜ GoodContents got ⌝ }
-    ensures { λ r. ⌜ SheetBuilt (sheetIn got) (lists (now (hop .entry)) (now (link .entry)) (now (stride .entry)))
-        (r .outcome) (r .record) (lists (now (hop .exit)) (now (link .exit)) (now (stride .exit))) ⌝ }
+    ensures { λ r. ⌜ SheetBuilt (sheetIn got) (lists (now (hop .entry)) (now (lens .entry)) (now (link .entry)) (now (stride .entry)))
+        (r .outcome) (r .record) (lists (now (hop .exit)) (now (lens .exit)) (now (link .exit)) (now (stride .exit))) ⌝ }
 {
     let n = got.entries;
     let kind = got.kind;
     let vals = sheet_values(got);
-    let lens = got.lengths;
+    let lengths = got.lengths;
     let hops = got.hops;
     let mut scratch = scratch_room();
     tries::build(
@@ -37,10 +44,11 @@ fn build_sheet(got: Contents, hop: &mut [u16], link: &mut [u32], stride: &mut [u
         got.width,
         got.levels,
         &vals[0..n],
-        &lens[0..n],
+        &lengths[0..n],
         &hops[0..n],
         &mut scratch,
         hop,
+        lens,
         link,
         stride,
     )
@@ -52,9 +60,10 @@ pub(crate) fn solve(out: &mut [u8], got: Contents) -> usize
     ensures { λ r. ⌜ Wrote (now (out .entry)) 0 (textReport (good (sheetIn got))) (now (out .exit)) r ⌝ }
 {
     let mut hop = hop_room();
+    let mut lens = length_room();
     let mut link = link_room();
     let mut stride = stride_room();
-    let built = build_sheet(got, &mut hop, &mut link, &mut stride);
+    let built = build_sheet(got, &mut hop, &mut lens, &mut link, &mut stride);
     let outcome = built.outcome;
     let rec = built.record;
     let m = got.queries;
@@ -62,6 +71,15 @@ pub(crate) fn solve(out: &mut [u8], got: Contents) -> usize
     let digs = got.places;
     match outcome {
         Outcome::Refused { number, detail } => put_refusal(out, 0, number as u64, detail),
-        Outcome::Accepted => put_report(out, rec, &hop, &link, &stride, &adds[0..m], &digs[0..m]),
+        Outcome::Accepted => put_report(
+            out,
+            rec,
+            &hop,
+            &lens,
+            &link,
+            &stride,
+            &adds[0..m],
+            &digs[0..m],
+        ),
     }
 }

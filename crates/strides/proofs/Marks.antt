@@ -1,13 +1,16 @@
 -- What a trie costs is a matter of its nodes, not of their marks: tables of the same prefixes have the same least cost, whatever their
--- hops are, a discard's too.
-use Prim.Native.Nat.{ℕ, zero, suc, pred, max, _+_, _*_, _^_, _≤_}
+-- hops are, a discard's too. And what each entry's mark has, each mark of their trie has, and each that is met along a path.
+use Prim.Native.Nat.{ℕ, zero, suc, pred, max, _+_, _*_, _^_, _≤_, _<_}
 use mathlib.Core.Path.{_≡_, refl, sym, ap, ap₂, _∙_, subst}
-use mathlib.Core.Bool.{Bool, true, false}
+use mathlib.Core.Bool.{Bool, true, false, cond}
+use native.Mathlib.Omega.{arith}
+use lib.Dec.{eqb}
 use mathlib.Core.List.{List, [], _∷_}
-use Rattle.strides.specs.Trie.{Trie, none, node, depth, sumBy, nodesAt}
+use Rattle.table.specs.Longest.{newer}
+use Rattle.strides.specs.Trie.{Trie, none, node, kid, markOn, bit, AllMarks, markAlong, subAlong, depth, sumBy, nodesAt}
 use Rattle.strides.specs.Choice.{Choice, onSide, Valid, cost, ValidFixed, costFixed}
 use Rattle.strides.specs.Cheapest.{Kind, fixed, variable, Cheapest}
-use Rattle.strides.specs.Entries.{withBit, nodeIf, trieBelow, someStart, markAt, trieOf}
+use Rattle.strides.specs.Entries.{withBit, nodeIf, trieBelow, wholeEntry, someStart, markAt, trieOf}
 
 -- two tries have nodes at the same places
 abbrev pub SameNodes : Trie → Trie → Type 0
@@ -99,3 +102,58 @@ cheapest-same variable k t u s m c =
       reached = (r .0, valid-same t u 0 k (r .0) s (r .1), sym (cost-same t u 0 (r .0) s) ∙ r .2);
       lower = λ σ v. subst (λ (x : ℕ). m ≤ x) (cost-same t u 0 σ s) (c .lower σ (valid-same u t 0 k σ (same-back t u s) v));
     }
+
+-- ---- what each mark has
+module _ (P : ℕ → Type 0) (none-has : P 0) where
+  below-marks : (S : ℕ → ℕ → Bool) (M : ℕ → ℕ → ℕ) → ((d q : ℕ) → P (M d q)) → (m d q : ℕ) → AllMarks P (trieBelow S M m d q)
+  unfolding trieBelow nodeIf
+  below-marks S M h zero d q = tt
+  below-marks S M h (suc m) d q = go (S d q) (below-marks S M h m (suc d) (withBit q 0)) (below-marks S M h m (suc d) (withBit q 1))
+    where
+      go : (t : Bool) → AllMarks P (trieBelow S M m (suc d) (withBit q 0)) → AllMarks P (trieBelow S M m (suc d) (withBit q 1))
+          → AllMarks P (nodeIf t (M (suc d) (withBit q 0)) (trieBelow S M m (suc d) (withBit q 0)) (M (suc d) (withBit q 1)) (trieBelow S M m (suc d) (withBit q 1)))
+      go true a b = (h (suc d) (withBit q 0), a, h (suc d) (withBit q 1), b)
+      go false a b = tt
+
+  mark-at-has : (W : ℕ) (val len mark : ℕ → ℕ) (n d q : ℕ) → ((i : ℕ) → i < n → P (mark i)) → P (markAt W val len mark n d q)
+  unfolding markAt
+  mark-at-has W val len mark zero d q h = none-has
+  mark-at-has W val len mark (suc n) d q h = go (wholeEntry W val len d q n) (mark-at-has W val len mark n d q (λ i l. h i (omega arith)))
+    where
+      go : (t : Bool) → P (markAt W val len mark n d q) → P (cond t (mark n) (markAt W val len mark n d q))
+      go true r = h n (omega arith)
+      go false r = r
+
+  pub trie-marks : (W : ℕ) (val len mark : ℕ → ℕ) (n : ℕ) → ((i : ℕ) → i < n → P (mark i)) → AllMarks P (trieOf W val len mark n)
+  unfolding trieOf
+  trie-marks W val len mark n h = below-marks _ _ (λ d q. mark-at-has W val len mark n d q h) W 0 0
+
+  kid-marks : (i : ℕ) (t : Trie) → AllMarks P t → AllMarks P (kid i t)
+  kid-marks zero none a = tt
+  kid-marks (suc i) none a = tt
+  kid-marks zero (node p x q y) a = a .1
+  kid-marks (suc i) (node p x q y) a = a .3
+
+  own-mark : (i : ℕ) (t : Trie) → AllMarks P t → P (markOn i t)
+  own-mark zero none a = none-has
+  own-mark (suc i) none a = none-has
+  own-mark zero (node p x q y) a = a .0
+  own-mark (suc i) (node p x q y) a = a .2
+
+  newer-has : (mark best : ℕ) → P mark → P best → P (newer mark best)
+  newer-has mark best m b = go (eqb mark 0)
+    where
+      go : (t : Bool) → P (cond t best mark)
+      go true = b
+      go false = m
+
+  pub along-has : (n : ℕ) (t : Trie) (x best : ℕ) → AllMarks P t → P best → P (markAlong n t x best)
+  unfolding markAlong
+  along-has zero t x best a b = b
+  along-has (suc n) t x best a b =
+      along-has n (kid (bit n x) t) x (newer (markOn (bit n x) t) best) (kid-marks (bit n x) t a) (newer-has _ best (own-mark (bit n x) t a) b)
+
+  pub sub-marks : (n : ℕ) (t : Trie) (x : ℕ) → AllMarks P t → AllMarks P (subAlong n t x)
+  unfolding subAlong
+  sub-marks zero t x a = a
+  sub-marks (suc n) t x a = sub-marks n (kid (bit n x) t) x (kid-marks (bit n x) t a)

@@ -10,7 +10,7 @@ use borrow.Author.Tests.{lt-ltb, le-ltb, ltb-true, ltb-false}
 use Rattle.table.specs.Refusals.{Test, outcome, Gives, Numbered, andThen, outcomeNumber, outcomeDetail}
 use Rattle.table.specs.Prefix.{start}
 use Rattle.table.specs.Table.{at, tableTests}
-use Rattle.table.specs.Longest.{NoPrefix, LongestHop, LongestDiscards}
+use Rattle.table.specs.Longest.{NoPrefix, LongestEntry, LongestDiscards}
 use Rattle.table.specs.declared.entry.Outcome.{Outcome}
 use Rattle.table.specs.declared.entry.Outcome.the-variants.{Accepted, Refused}
 use Rattle.table.proofs.Refusals.{outcome-gives, outcome-append, gives-outcome, gives-unique, given-exactly, refused-not-accepted}
@@ -19,7 +19,7 @@ use Rattle.table.proofs.Unique.{longest-discards}
 use Rattle.walk.specs.declared.walk.Answer.{Answer}
 use Rattle.walk.specs.declared.walk.Answer.the-variants.{Discard, NoRoute}
 use Rattle.walk.specs.Limits.{WIDTH}
-use Rattle.walk.specs.Answers.{numberOf, hopOf, readsOf}
+use Rattle.walk.specs.Answers.{numberOf, hopOf, lengthOf, readsOf}
 use Rattle.walk.proofs.Answers.{refused-none, discard-by-hop}
 use Rattle.pieces.specs.BinaryTrie.{empty, SomeBegins, tableBinary}
 use Rattle.pieces.specs.Maps.{STEP, subtrieAlong}
@@ -132,13 +132,13 @@ module _ {W : ℕ} {vs ls hs scratch : List ℕ} {rows : RowLists} {hops : List 
       from (inl (h, e)) = given (inl (lt-ltb _ _ h, ap (Refused 7) e))
       from (inr (l, h, e)) = given (inr (le-ltb _ _ l, inl (lt-ltb _ _ h, ap (Refused 7) e)))
 
--- a lookup gives number n exactly when test n is the first that fails, 0 when none does; refused, it has no hop and 0 reads
+-- a lookup gives number n exactly when test n is the first that fails, 0 when none does; refused, it has no hop, no length and 0 reads
 module _ {most : ℕ} {rec : Bitmap} {rows : RowLists} {hops : List ℕ} {a : ℕ} where
   pub bitmap-lookup-first : {r : Answer} → LookedBitmap most rec rows hops a r → (n : ℕ) → (numberOf r ≡ n) ↔ BitmapTested most rec rows hops a n
   bitmap-lookup-first {r} l n =
       (λ (e : numberOf r ≡ n). subst (BitmapTested most rec rows hops a) e (l .tested), λ t. bitmap-tested-unique (l .tested) t)
 
-  pub bitmap-lookup-refused : {r : Answer} → LookedBitmap most rec rows hops a r → 0 < numberOf r → (hopOf r ≡ 0) × (readsOf r ≡ 0)
+  pub bitmap-lookup-refused : {r : Answer} → LookedBitmap most rec rows hops a r → 0 < numberOf r → (hopOf r ≡ 0) × (lengthOf r ≡ 0) × (readsOf r ≡ 0)
   bitmap-lookup-refused {r} l h = refused-none r h
 
 -- ==== demand 3 over any record and lists: the path is what the rule visits
@@ -177,8 +177,8 @@ module _ {W : ℕ} {vs ls hs scratch : List ℕ} {rows : RowLists} {hops : List 
     is-looked : r ≡ lookupBitmapOf WIDTH rec rows′ hops′ a
     is-looked = looked-bitmap-unique l (looked-bitmap WIDTH rec rows′ hops′ a)
 
-    -- ---- demand 2: the hop of the longest table prefix that begins the address
-    pub bitmap-longest : (numberOf r ≡ 0) × LongestHop W vs ls hs a (hopOf r)
+    -- ---- demand 2: hop and length of the longest table prefix that begins the address (02, [5])
+    pub bitmap-longest : (numberOf r ≡ 0) × LongestEntry W vs ls hs a (hopOf r) (lengthOf r)
     bitmap-longest = let g = b .laid e in rw is-looked (bitmap-not-refused g a h, laid-bitmap-longest g a h)
 
     -- they say that there is none exactly when no prefix does
@@ -186,7 +186,7 @@ module _ {W : ℕ} {vs ls hs scratch : List ℕ} {rows : RowLists} {hops : List 
     bitmap-none = let g = b .laid e in rw (is-looked, bitmap-reads g a h) (no-bitmap-route g a h)
 
     -- and it is a discard exactly when the longest prefix that begins the address discards (02, [4])
-    pub bitmap-discard : (r ≡ Discard (readsOf r)) ↔ LongestDiscards W vs ls hs a
+    pub bitmap-discard : (r ≡ Discard (lengthOf r) (readsOf r)) ↔ LongestDiscards W vs ls hs a
     bitmap-discard = Iff·trans (discard-by-hop r (l .case)) (longest-discards W vs ls hs (b .laid e .table) a (bitmap-longest .1))
 
     -- ---- demand 3: r reads are r supernodes, one at each of the levels 0, 4, .. at which the address's start begins some entry, and no other

@@ -6,14 +6,15 @@ use Rattle.table.specs.Prefix.{start, startsWith, prefixBad}
 use Rattle.table.specs.Entry.{hopBad, below}
 use Rattle.table.specs.Refusals.{outcome}
 use Rattle.table.specs.Table.{at, shapeBad, testsAt, eachTests, orderBad, entryBad, listTests, tableTests, checkOf}
-use Rattle.table.specs.Longest.{longer, best, ofWinner, matches, winner, longest}
-use Rattle.table.specs.Corner.{cornerValues, cornerLengths, cornerHops, cornerAddresses, cornerMatches}
+use Rattle.table.specs.Longest.{longer, best, ofWinner, matches, winner, longest, matched}
+use Rattle.table.specs.Corner.{cornerValues, cornerLengths, cornerHops, cornerAddresses, cornerMatches, cornerMatched}
 use Rattle.table.specs.declared.entry.Outcome.the-variants.{Accepted}
 
 pub corner-accepted : checkOf 4 cornerValues cornerLengths cornerHops ≡ Accepted
 unfolding outside prefixBad hopBad below outcome shapeBad testsAt eachTests orderBad entryBad listTests tableTests checkOf
 corner-accepted = refl
 
-pub corner-matches : map (longest 4 (at cornerValues) (at cornerLengths) (at cornerHops) 2) cornerAddresses ≡ cornerMatches
+pub corner-matches : (map (longest 4 (at cornerValues) (at cornerLengths) (at cornerHops) 2) cornerAddresses ≡ cornerMatches)
+    × (map (matched 4 (at cornerValues) (at cornerLengths) 2) cornerAddresses ≡ cornerMatched)
 unfolding longest winner matches best longer ofWinner startsWith start
-corner-matches = refl
+corner-matches = (refl, refl)

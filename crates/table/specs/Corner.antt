@@ -11,9 +11,12 @@ cornerLengths = 2 ∷ 4 ∷ []
 abbrev pub cornerHops : List ℕ
 cornerHops = 1 ∷ 65535 ∷ []
 
--- addresses and the hops of their longest matches: the corner, its neighbours in the wider route, and one outside
+-- addresses, and the hops and lengths of their longest matches: the corner, its neighbours in the wider route, and one outside
 abbrev pub cornerAddresses : List ℕ
 cornerAddresses = 0b1010 ∷ 0b1011 ∷ 0b1001 ∷ 0b0111 ∷ []
 
 abbrev pub cornerMatches : List ℕ
 cornerMatches = 65535 ∷ 1 ∷ 1 ∷ 0 ∷ []
+
+abbrev pub cornerMatched : List ℕ
+cornerMatched = 4 ∷ 2 ∷ 2 ∷ 0 ∷ []

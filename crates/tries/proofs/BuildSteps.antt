@@ -33,6 +33,7 @@ use Rattle.walk.specs.Limits.{WIDTH, LEVELS}
 use Rattle.tries.specs.Limits.{ELEMENTS}
 use Rattle.walk.specs.Rows.{Lists, shortest}
 use Rattle.layout.specs.Blocks.{Strides, strideOf, rowCount, Agree}
+use Rattle.layout.specs.Marks.{entryMarks}
 use Rattle.layout.specs.Laid.{tableTrie, tableFloor, Laid}
 use Rattle.tries.specs.Filling.{LayAsks, LayGives, Lays}
 use Rattle.choosers.specs.Chooser.{chooseTests, ifAccepted}
@@ -136,7 +137,7 @@ module _ {kind : Kind} {W k : ℕ} {vs ls hs : List ℕ} {cost root : ℕ} {stri
   σ = g .planned .holds .σ
 
   depth-width : depth trie ≤ W
-  depth-width = trie-depth-width W (at vs) (at ls) (at hs) (length vs) (λ i h. g .table .entry i h .prefix)
+  depth-width = trie-depth-width W (at vs) (at ls) (entryMarks ls hs) (length vs) (λ i h. g .table .entry i h .prefix)
 
   plan-good : Good σ trie W 0 k
   plan-good = follows-good kind k trie W σ (g .levels .0) depth-width (g .planned .holds .follows)
@@ -202,7 +203,7 @@ nothing-written : (kind : Kind) (W k : ℕ) (vs ls hs : List ℕ) (lent : Lists)
 nothing-written kind W k vs ls hs lent e z = record {
   laid = λ a. absurd (refused-not-accepted (sym e ∙ a));
   named = λ a. absurd (refused-not-accepted (sym e ∙ a));
-  keeps = record { hops = refl; links = refl; strides = refl; later = λ a. absurd (refused-not-accepted (sym e ∙ a)); refused = λ ne. (z, refl) };
+  keeps = record { hops = refl; lens = refl; links = refl; strides = refl; later = λ a. absurd (refused-not-accepted (sym e ∙ a)); refused = λ ne. (z, refl) };
 }
 
 module _ {kind : Kind} {W k : ℕ} {vs ls hs : List ℕ} {cost root : ℕ} {strides plan rows : List ℕ} (g : PlanFor kind W k vs ls hs cost strides plan root rows)
@@ -217,11 +218,11 @@ module _ {kind : Kind} {W k : ℕ} {vs ls hs : List ℕ} {cost root : ℕ} {stri
 
   -- built: what `lay` gave, with the record's fields
   pub built-is : (lent′ : Lists) {e : ℕ} → (ltb (shortest lent) cost || ltb ELEMENTS cost) ≡ false → Lays rows (take k plan) root W k lent e lent′
-      → length (lent′ .hop) ≡ length (lent .hop) → length (lent′ .link) ≡ length (lent .link) → length (lent′ .stride) ≡ length (lent .stride)
+      → length (lent′ .hop) ≡ length (lent .hop) → length (lent′ .len) ≡ length (lent .len) → length (lent′ .link) ≡ length (lent .link) → length (lent′ .stride) ≡ length (lent .stride)
       → rec .width ≡ W → rec .levels ≡ k → rec .elements ≡ cost → rec .floor ≡ tableFloor W vs ls hs → rec .strides ≡ strides
       → out ≡ Accepted → RowsBuilt kind W k vs ls hs lent out rec lent′
   unfolding outcome
-  built-is lent′ {e} f lays sh sl ss ew ek ee ef es o =
+  built-is lent′ {e} f lays sh se sl ss ew ek ee ef es o =
       let asks = may-lay g lent f in
       let gives = lays _ _ asks in
       let same : shortest lent′ ≡ shortest lent = omega arith in
@@ -231,7 +232,7 @@ module _ {kind : Kind} {W k : ℕ} {vs ls hs : List ℕ} {cost root : ℕ} {stri
         written = record {
           laid = λ a. accepted-laid g rec asks gives same ew ek ee ef es;
           named = λ a. es ∙ g .planned .named;
-          keeps = record { hops = sh; links = sl; strides = ss; later = λ a i h. gives .after i (omega (arith, count, ee)); refused = λ ne. absurd (ne o) };
+          keeps = record { hops = sh; lens = se; links = sl; strides = ss; later = λ a i h. gives .after i (omega (arith, count, ee)); refused = λ ne. absurd (ne o) };
         };
       }
 

@@ -14,7 +14,7 @@ use denote.Ref.{RefT, now}
 use borrow.Author.Tests.{lt-ltb, le-ltb}
 use Rattle.table.specs.Refusals.{Test, outcome, Gives}
 use Rattle.table.specs.Prefix.{start}
-use Rattle.table.specs.Longest.{ofWinner, winnerIn, NoPrefix, LongestHop, LongestDiscards}
+use Rattle.table.specs.Longest.{ofWinner, winnerIn, NoPrefix, LongestEntry, LongestDiscards}
 use Rattle.table.specs.Table.{at, tableTests}
 use Rattle.table.specs.Zone.{PartOf}
 use Rattle.table.specs.Answers.{sharedOutcome, sharedTests, Shares, spanOutcome, spanIndex, spanCount, zoneTests, Spans, PartFor, HandsBack}
@@ -41,11 +41,12 @@ use Rattle.walk.specs.declared.walk.Answer.the-variants.{Discard, NoRoute}
 use Rattle.walk.specs.Limits.{WIDTH, LEVELS}
 use Rattle.tries.specs.Limits.{ELEMENTS}
 use Rattle.walk.specs.Rows.{Lists, shortest, rowAt}
-use Rattle.walk.specs.Answers.{numberOf, hopOf, readsOf}
+use Rattle.walk.specs.Answers.{numberOf, hopOf, lengthOf, readsOf}
 use Rattle.walk.specs.Lookup.{lookupOf}
 use Rattle.walk.specs.Meaning.{OnPath, Tested, Looked}
 use Rattle.layout.specs.Blocks.{linkTo, strideOf, blockRow, rowsAlong, Begun, blocksAlong, blockCount}
 use Rattle.layout.specs.PathBlocks.{nodeOn, BlockAt, rowPath}
+use Rattle.layout.specs.Marks.{entryMarks}
 use Rattle.layout.specs.Laid.{tableTrie}
 use Rattle.choosers.specs.Chooser.{chooseTests, Chooses}
 use Rattle.tries.specs.Build.{roomTest, buildTests, NoRecord, Builds}
@@ -146,12 +147,12 @@ module _ {kind : Kind} {W k : ℕ} {vs ls hs scratch : List ℕ} {rows : Lists} 
       go Accepted p = subst (Gives tests) p (outcome-gives tests)
       go (Refused n x) p = absurd (refused-not-accepted (sym (refused-early (subst (Gives tests) p (outcome-gives tests)) .0) ∙ e))
 
--- a lookup gives number n exactly when test n is the first that fails, 0 when none does; refused, it has no hop and 0 reads
+-- a lookup gives number n exactly when test n is the first that fails, 0 when none does; refused, it has no hop, no length and 0 reads
 module _ {most : ℕ} {rec : Record} {ls : Lists} {a : ℕ} where
   pub lookup-first : {r : Answer} → Looked most rec ls a r → (n : ℕ) → (numberOf r ≡ n) ↔ Tested most rec ls a n
   lookup-first {r} l n = (λ (e : numberOf r ≡ n). subst (Tested most rec ls a) e (l .tested), λ t. tested-unique (l .tested) t)
 
-  pub lookup-refused : {r : Answer} → Looked most rec ls a r → 0 < numberOf r → (hopOf r ≡ 0) × (readsOf r ≡ 0)
+  pub lookup-refused : {r : Answer} → Looked most rec ls a r → 0 < numberOf r → (hopOf r ≡ 0) × (lengthOf r ≡ 0) × (readsOf r ≡ 0)
   lookup-refused {r} l h = refused-none r h
 
 -- ==== demands 2 and 3 over one accepted build, and a lookup over what it left
@@ -217,8 +218,10 @@ module _ {kind : Kind} {W k : ℕ} {vs ls hs scratch : List ℕ} {rows : Lists} 
       let t = tableTrie W vs ls hs in
       let s = σ (k - n) (nodeOn W t x d) in
       let y = rowPath W d s (start W d x) i in
+      let w = winnerIn W (at vs) (at ls) (length vs) d (d + s) y in
       rowAt rows′ (blockRow σ W k t x n + i) ≡ record {
-        hop = ofWinner (at hs) (winnerIn W (at vs) (at ls) (length vs) d (d + s) y);
+        hop = ofWinner (at hs) w;
+        len = ofWinner (at ls) w;
         link = linkTo (nodeOn W t y (d + s)) (blockRow σ W k t y (suc n));
         stride = strideOf σ (k - suc n) (nodeOn W t y (d + s));
       }
@@ -228,8 +231,8 @@ module _ {kind : Kind} {W k : ℕ} {vs ls hs scratch : List ℕ} {rows : Lists} 
     is-looked : r ≡ lookupOf WIDTH rec rows′ a
     is-looked = looked-unique l (looked WIDTH rec rows′ a)
 
-    -- ---- demand 2: the hop of the longest table prefix that begins the address, for either kind
-    pub build-longest : (numberOf r ≡ 0) × LongestHop W vs ls hs a (hopOf r)
+    -- ---- demand 2: hop and length of the longest table prefix that begins the address, for either kind
+    pub build-longest : (numberOf r ≡ 0) × LongestEntry W vs ls hs a (hopOf r) (lengthOf r)
     build-longest = let g = b .laid e .2 in rw is-looked (accepted g a h, laid-longest g a h)
 
     -- they say that there is none exactly when no prefix does
@@ -237,7 +240,7 @@ module _ {kind : Kind} {W k : ℕ} {vs ls hs scratch : List ℕ} {rows : Lists} 
     build-none = let g = b .laid e .2 in rw (is-looked, reads-blocks g a h) (no-route g a h)
 
     -- and it is a discard exactly when the longest prefix that begins the address discards (02, [4])
-    pub build-discard : (r ≡ Discard (readsOf r)) ↔ LongestDiscards W vs ls hs a
+    pub build-discard : (r ≡ Discard (lengthOf r) (readsOf r)) ↔ LongestDiscards W vs ls hs a
     build-discard = Iff·trans (discard-by-hop r (l .case)) (longest-discards W vs ls hs (b .laid e .2 .table) a (build-longest .1))
 
     -- ---- demand 3: the rows on the path are exactly those of the blocks of the 1-bit nodes that begin the address and at which the
@@ -254,7 +257,7 @@ module _ {kind : Kind} {W k : ℕ} {vs ls hs scratch : List ℕ} {rows : Lists} 
 
     pub build-nodes : (d : ℕ) → d ≤ W → Some (nodeOn W (tableTrie W vs ls hs) a d) ↔ SomeStart W (at vs) (at ls) (length vs) d (start W d a)
     build-nodes d le =
-        node-begins W (at vs) (at ls) (at hs) (length vs) (λ i l. b .laid e .2 .table .entry i l .prefix .short) a d h le
+        node-begins W (at vs) (at ls) (entryMarks ls hs) (length vs) (λ i l. b .laid e .2 .table .entry i l .prefix .short) a d h le
 
     -- r reads are r such blocks
     pub build-blocks : readsOf r ≡ blockCount (b .laid e .0) W (tableTrie W vs ls hs) k a
@@ -278,9 +281,8 @@ module _ {kind : Kind} {W k : ℕ} {vs ls hs scratch : List ℕ} {rows : Lists} 
 -- one table gives one answer, however it is built: any kinds, any k, any room
 pub one-table : {kind kind′ : Kind} {W k k′ : ℕ} {vs ls hs scratch scratch′ : List ℕ} {rows rows′ : Lists} {out out′ : Outcome} {rec rec′ : Record} {s s′ : List ℕ} {rows1 rows2 : Lists}
     → Builds kind W k vs ls hs scratch rows out rec s rows1 → Builds kind′ W k′ vs ls hs scratch′ rows′ out′ rec′ s′ rows2 → out ≡ Accepted → out′ ≡ Accepted
-    → (a : ℕ) → a < 2 ^ W → {r r′ : Answer} → Looked WIDTH rec rows1 a r → Looked WIDTH rec′ rows2 a r′ → hopOf r ≡ hopOf r′
-one-table b c e e′ a h l l′ =
-    ap hopOf (is-looked b e a h l) ∙ one-answer (b .laid e .2) (c .laid e′ .2) a h ∙ sym (ap hopOf (is-looked c e′ a h l′))
+    → (a : ℕ) → a < 2 ^ W → {r r′ : Answer} → Looked WIDTH rec rows1 a r → Looked WIDTH rec′ rows2 a r′ → (hopOf r ≡ hopOf r′) × (lengthOf r ≡ lengthOf r′)
+one-table b c e e′ a h l l′ = rw (is-looked b e a h l, is-looked c e′ a h l′) (one-answer (b .laid e .2) (c .laid e′ .2) a h)
 
 -- an entry counts by its prefix, whatever its hop is, a discard's too: two accepted builds of one kind and k, of tables with the same
 -- prefixes, have as many elements (02, [4])
@@ -288,7 +290,7 @@ pub build-hops-free : {kind : Kind} {W k : ℕ} {vs ls hs hs′ scratch scratch�
     → Builds kind W k vs ls hs scratch rows out rec s rows1 → Builds kind W k vs ls hs′ scratch′ rows′ out′ rec′ s′ rows2 → out ≡ Accepted → out′ ≡ Accepted
     → rec .elements ≡ rec′ .elements
 build-hops-free {kind} {W} {k} {vs} {ls} {hs} {hs′} {rec = rec} b c e e′ =
-    let same = trie-nodes W (at vs) (at ls) (at hs) (at hs′) (length vs) in
+    let same = trie-nodes W (at vs) (at ls) (entryMarks ls hs) (entryMarks ls hs′) (length vs) in
     cheapest-unique kind k (tableTrie W vs ls hs′)
     (cheapest-same kind k (tableTrie W vs ls hs) (tableTrie W vs ls hs′) same (rec .elements) (build-fewest b e)) (build-fewest c e′)
 

@@ -14,8 +14,9 @@ use Rattle.strides.specs.Trie.{Trie, none, left, right, leftMark, rightMark, bi
 use Rattle.strides.proofs.Paths.{bit-mod, mark-same, sub-same, sub-none, mark-none}
 use Rattle.walk.specs.Limits.{WIDTH, LEVELS}
 use Rattle.tries.specs.Limits.{ELEMENTS}
-use Rattle.walk.specs.Rows.{Lists, lists, shortest, rowAt}
+use Rattle.walk.specs.Rows.{Row, Lists, shortest, rowAt}
 use Rattle.choosers.specs.Scratch.{ROW, ask, strideAt, MARKS}
+use Rattle.layout.specs.Marks.{hopIn, lengthIn}
 use Rattle.layout.specs.Blocks.{Strides, wide, leftOf, linkTo, rowBelow}
 use Rattle.tries.specs.Filling.{HasRoom, Spread, Bare, FillAsks, FillGives}
 use Rattle.layout.proofs.Blocks.{wide-sides, left-same}
@@ -62,17 +63,35 @@ pub room-kept : {e : ℕ} {ls ls′ : Lists} → shortest ls′ ≡ shortest ls 
 room-kept s r = record { fits = omega (arith, r .fits); few = r .few }
 
 -- ---- one row written
-module _ (hop link stride : List ℕ) (i h l s : ℕ) {hop′ link′ stride′ : List ℕ}
-    (e0 : hop′ ≡ set hop i h) (e1 : link′ ≡ set link i l) (e2 : stride′ ≡ set stride i s) where
-  row-other : (j : ℕ) → (j ≡ i → ⊥) → rowAt (lists hop′ link′ stride′) j ≡ rowAt (lists hop link stride) j
-  row-other j ne = rw (e0, e1, e2, getD-set-other hop i j h 0 ne, getD-set-other link i j l 0 ne, getD-set-other stride i j s 0 ne)
+pub record Written (ls : Lists) (i : ℕ) (row : Row) (ls′ : Lists) : Type 0 where
+  pub hop : ls′ .hop ≡ set (ls .hop) i (row .hop)
+  pub len : ls′ .len ≡ set (ls .len) i (row .len)
+  pub link : ls′ .link ≡ set (ls .link) i (row .link)
+  pub stride : ls′ .stride ≡ set (ls .stride) i (row .stride)
 
-  row-same : i < shortest (lists hop link stride) → rowAt (lists hop′ link′ stride′) i ≡ record { hop = h; link = l; stride = s }
+module _ {ls : Lists} {i : ℕ} {row : Row} {ls′ : Lists} (w : Written ls i row ls′) where
+  row-other : (j : ℕ) → (j ≡ i → ⊥) → rowAt ls′ j ≡ rowAt ls j
+  row-other j ne = rw (w .hop, w .len, w .link, w .stride, other (ls .hop) (row .hop), other (ls .len) (row .len), other (ls .link) (row .link), other (ls .stride) (row .stride))
+    where
+      other : (l : List ℕ) (v : ℕ) → getD (set l i v) j 0 ≡ getD l j 0
+      other l v = getD-set-other l i j v 0 ne
+
+  row-same : i < shortest ls → rowAt ls′ i ≡ row
   row-same b =
-      let h0 : i < length hop = omega arith in
-      let h1 : i < length link = omega arith in
-      let h2 : i < length stride = omega arith in
-      rw (e0, e1, e2, getD-set-same hop i h 0 h0, getD-set-same link i l 0 h1, getD-set-same stride i s 0 h2)
+      let h0 : i < length (ls .hop) = omega arith in
+      let h1 : i < length (ls .len) = omega arith in
+      let h2 : i < length (ls .link) = omega arith in
+      let h3 : i < length (ls .stride) = omega arith in
+      rw (
+        w .hop,
+        w .len,
+        w .link,
+        w .stride,
+        getD-set-same (ls .hop) i (row .hop) 0 h0,
+        getD-set-same (ls .len) i (row .len) 0 h1,
+        getD-set-same (ls .link) i (row .link) 0 h2,
+        getD-set-same (ls .stride) i (row .stride) 0 h3,
+      )
 
 -- ---- the row at the end of a path
 pub record LeafBounds (rows plan : List ℕ) (k r base free : ℕ) (ls : Lists) : Type 0 where
@@ -99,8 +118,8 @@ module _ {σ : Strides} {t : Trie} {rows plan : List ℕ} {k r base free : ℕ} 
 
   -- s: the stride read; p: the rows of the child block
   module _ (some : 0 < k) (best : ℕ) {s p : ℕ} {ls′ : Lists} (es : s ≡ strideAt rows plan k r) (ep : p ≡ 2 ^ s)
-      (e0 : ls′ .hop ≡ set (ls .hop) base best) (e1 : ls′ .link ≡ set (ls .link) base free) (e2 : ls′ .stride ≡ set (ls .stride) base s) where
-    made : record { hop = best; link = free; stride = s } ≡ rowBelow σ 0 r t best free 0
+      (w : Written ls base (record { hop = hopIn best; len = lengthIn best; link = free; stride = s }) ls′) where
+    made : record { hop = hopIn best; len = lengthIn best; link = free; stride = s } ≡ rowBelow σ 0 r t best free 0
     unfolding rowBelow markAlong subAlong leftOf
     made =
         let b = trunk-child (g .trunk) in
@@ -114,9 +133,9 @@ module _ {σ : Strides} {t : Trie} {rows plan : List ℕ} {k r base free : ℕ} 
           next = omega arith;
           wrote = λ x h.
               let z : x ≡ 0 = omega arith in
-              rw (z, add-zero) (row-same (ls .hop) (ls .link) (ls .stride) base best free s e0 e1 e2 (leaf-bounds .own) ∙ made);
-          before = λ i h. row-other (ls .hop) (ls .link) (ls .stride) base best free s e0 e1 e2 i (λ e. omega arith);
-          after = λ i h. row-other (ls .hop) (ls .link) (ls .stride) base best free s e0 e1 e2 i (λ e. omega arith);
+              rw (z, add-zero) (row-same w (leaf-bounds .own) ∙ made);
+          before = λ i h. row-other w i (λ e. omega arith);
+          after = λ i h. row-other w i (λ e. omega arith);
         }
 
 -- ---- no node: all rows are alike
@@ -138,7 +157,7 @@ spread-more {base} {i} {v} {l} {l′} le h s =
 pub spread-end : {base i end v : ℕ} {l l′ : List ℕ} → i ≡ end → Spread base i v l l′ → Spread base end v l l′
 spread-end e s = rw e at s
 
-row-bare : (σ : Strides) (c r best free x : ℕ) → rowBelow σ c r none best free x ≡ record { hop = best; link = 0; stride = 0 }
+row-bare : (σ : Strides) (c r best free x : ℕ) → rowBelow σ c r none best free x ≡ record { hop = hopIn best; len = lengthIn best; link = 0; stride = 0 }
 unfolding rowBelow
 row-bare σ c r best free x = rw (sub-none c x, mark-none c x best)
 
@@ -159,11 +178,11 @@ module _ {σ : Strides} {t : Trie} {rows plan : List ℕ} {k c r base free : ℕ
             let i = base + x in
             let lo : base ≤ i = omega arith in
             let hi : i < base + p = omega arith in
-            rw (b .hop .wrote i lo hi, b .link .wrote i lo hi, b .stride .wrote i lo hi) (sym (rw n (row-bare σ c r best free x)));
-        before = λ i h. rw (b .hop .before i h, b .link .before i h, b .stride .before i h);
+            rw (b .hop .wrote i lo hi, b .len .wrote i lo hi, b .link .wrote i lo hi, b .stride .wrote i lo hi) (sym (rw n (row-bare σ c r best free x)));
+        before = λ i h. rw (b .hop .before i h, b .len .before i h, b .link .before i h, b .stride .before i h);
         after = λ i h.
             let q : base + p ≤ i = omega arith in
-            rw (b .hop .after i q, b .link .after i q, b .stride .after i q);
+            rw (b .hop .after i q, b .len .after i q, b .link .after i q, b .stride .after i q);
       }
 
 -- ---- no bit left

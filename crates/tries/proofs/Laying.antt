@@ -31,8 +31,8 @@ lays-built rec g o s pw pk ew ek ee er = record {
 }
 
 -- ---- nothing is left open
-lists-same : {a a′ b b′ c c′ : List ℕ} → a ≡ a′ → b ≡ b′ → c ≡ c′ → lists a b c ≡ lists a′ b′ c′
-lists-same p q r = rw (p, q, r)
+lists-same : {a a′ b b′ c c′ d d′ : List ℕ} → a ≡ a′ → b ≡ b′ → c ≡ c′ → d ≡ d′ → lists a b c d ≡ lists a′ b′ c′ d′
+lists-same p q r s = rw (p, q, r, s)
 
 module _ {σ : Strides} {t : Trie} where
   -- two builds with as many levels have the same rows
@@ -45,13 +45,14 @@ module _ {σ : Strides} {t : Trie} where
 
     -- from one set of lists one set of lists comes, of the same lengths
     pub lay-unique : {e e′ : ℕ} {ls1 ls2 : Lists} → LayGives σ t k ls e ls1 → LayGives σ t k ls e′ ls2
-        → length (ls1 .hop) ≡ length (ls2 .hop) → length (ls1 .link) ≡ length (ls2 .link) → length (ls1 .stride) ≡ length (ls2 .stride)
+        → length (ls1 .hop) ≡ length (ls2 .hop) → length (ls1 .len) ≡ length (ls2 .len) → length (ls1 .link) ≡ length (ls2 .link) → length (ls1 .stride) ≡ length (ls2 .stride)
         → (e ≡ e′) × (ls1 ≡ ls2)
-    lay-unique {ls1 = ls1} {ls2 = ls2} g h a b c =
+    lay-unique {ls1 = ls1} {ls2 = ls2} g h a b c d =
         let one = rows-one g h in (
           g .count ∙ sym (h .count),
           lists-same
               (ext-getD 0 (ls1 .hop) (ls2 .hop) a (λ i l. ap (λ (v : Row). v .hop) (one i)))
-              (ext-getD 0 (ls1 .link) (ls2 .link) b (λ i l. ap (λ (v : Row). v .link) (one i)))
-              (ext-getD 0 (ls1 .stride) (ls2 .stride) c (λ i l. ap (λ (v : Row). v .stride) (one i))),
+              (ext-getD 0 (ls1 .len) (ls2 .len) b (λ i l. ap (λ (v : Row). v .len) (one i)))
+              (ext-getD 0 (ls1 .link) (ls2 .link) c (λ i l. ap (λ (v : Row). v .link) (one i)))
+              (ext-getD 0 (ls1 .stride) (ls2 .stride) d (λ i l. ap (λ (v : Row). v .stride) (one i))),
         )

@@ -76,7 +76,7 @@ module _ (kind : Kind) (W k : ℕ) (vs ls hs scratch : List ℕ) (rows : Lists) 
         let g = same-agree σ (l′ .0) t W 0 k good (follows-unique kind k t σ (l′ .0) (l .1) (l′ .1)) in
         let g′ = good-agree σ σ (λ r u. refl) t W 0 k good in
         let one = lay-unique {σ = σ} (laid-as g′ L (c .keeps .later e)) (laid-as g L′ (d .keeps .later e′))
-        (c .keeps .hops ∙ sym (d .keeps .hops)) (c .keeps .links ∙ sym (d .keeps .links)) (c .keeps .strides ∙ sym (d .keeps .strides)) in
+        (c .keeps .hops ∙ sym (d .keeps .hops)) (c .keeps .lens ∙ sym (d .keeps .lens)) (c .keeps .links ∙ sym (d .keeps .links)) (c .keeps .strides ∙ sym (d .keeps .strides)) in
         let n = c .named e in
         let n′ = d .named e′ in
         let strides = n .2 ∙ ap (padded LEVELS) (named-unique kind k t (n .0) (n′ .0) (n .1) (n′ .1)) ∙ sym (n′ .2) in

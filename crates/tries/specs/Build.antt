@@ -43,6 +43,7 @@ pub record NoRecord (rec : Record) : Type 0 where
 -- what the element lists then hold besides the rows built: refused, what they held; accepted, later rows are kept
 pub record Keeps (rows : Lists) (out : Outcome) (rec : Record) (rows′ : Lists) : Type 0 where
   pub hops : length (rows′ .hop) ≡ length (rows .hop)
+  pub lens : length (rows′ .len) ≡ length (rows .len)
   pub links : length (rows′ .link) ≡ length (rows .link)
   pub strides : length (rows′ .stride) ≡ length (rows .stride)
   pub later : out ≡ Accepted → (i : ℕ) → rec .elements ≤ i → rowAt rows′ i ≡ rowAt rows i

@@ -11,6 +11,7 @@ use Rattle.walk.specs.Limits.{WIDTH, LEVELS}
 use Rattle.tries.specs.Limits.{ELEMENTS}
 use Rattle.walk.specs.Rows.{Lists, shortest, rowAt}
 use Rattle.choosers.specs.Scratch.{Stands}
+use Rattle.layout.specs.Marks.{hopIn, lengthIn}
 use Rattle.layout.specs.Blocks.{Strides, wide, rowBelow, levelRows, rowsOf, rowCount, Hold}
 
 -- the lists have e rows, and that is not too many (refusal 7)
@@ -32,9 +33,10 @@ pub record Spread (base end v : ℕ) (l l′ : List ℕ) : Type 0 where
   pub before : (i : ℕ) → i < base → getD l′ i 0 ≡ getD l i 0
   pub after : (i : ℕ) → end ≤ i → getD l′ i 0 ≡ getD l i 0
 
--- ---- the rows from `base` to before `end`, below which there is no node: the hop `best` and no child
+-- ---- the rows from `base` to before `end`, below which there is no node: hop and length of the mark `best`, and no child
 pub record Bare (base end best : ℕ) (ls ls′ : Lists) : Type 0 where
-  pub hop : Spread base end best (ls .hop) (ls′ .hop)
+  pub hop : Spread base end (hopIn best) (ls .hop) (ls′ .hop)
+  pub len : Spread base end (lengthIn best) (ls .len) (ls′ .len)
   pub link : Spread base end 0 (ls .link) (ls′ .link)
   pub stride : Spread base end 0 (ls .stride) (ls′ .stride)
 
@@ -48,7 +50,7 @@ pub record FillAsks (σ : Strides) (t : Trie) (rows plan : List ℕ) (k c r base
   pub children : free + wide σ t c 0 r ≤ e
   pub room : HasRoom e ls
 
--- where `best` is the hop so far in the block; the next free row is then free′
+-- where `best` is the mark so far in the block; the next free row is then free′
 pub record FillGives (σ : Strides) (t : Trie) (c r base best free : ℕ) (ls : Lists) (free′ : ℕ) (ls′ : Lists) : Type 0 where
   pub next : free′ ≡ free + wide σ t c 0 r
   pub wrote : (x : ℕ) → x < 2 ^ c → rowAt ls′ (base + x) ≡ rowBelow σ c r t best free x

@@ -10,10 +10,12 @@ ghost use Rattle.choosers.specs.Limits.{BYTE};
 ghost use Rattle.tries.specs.Limits.{LINKS};
 ghost use Rattle.walk.specs.Rows.{lists, shortest};
 ghost use Rattle.choosers.specs.Scratch.{ROW, MARKS, ask};
+ghost use Rattle.layout.specs.Marks.{hopIn, lengthIn};
 ghost use Rattle.tries.specs.Filling.{Spread, Bare, CanFill, Fills, CanBlock, WritesBlock, CanLevel, WritesLevel, CanLay, Lays};
 use crate::scratch::asked;
 use crate::scratch::stride_at;
 use choosers::DEPTH;
+use choosers::LENGTHS;
 
 fn power(n: usize) -> usize
     requires { ⌜ n ≤ WIDTH ⌝ }
@@ -30,38 +32,76 @@ fn given(k: usize, v: usize) -> usize
     if k == 0 { 0 } else { v }
 }
 
-// The best hop below the link k on a side, where `best` is the one so far in the block: a nonzero mark is the new best.
-fn best_below(rows: &[u64], k: usize, side: usize, best: u16) -> u16
-    requires { ⌜ (k * ROW ≤ length (now rows)) × (side < 2) × (ask (now rows) k (2 + side) < MARKS) ⌝ }
+// The best mark below the link k on a side, where `best` is the one so far in the block: a nonzero mark is the new best.
+fn best_below(rows: &[u64], k: usize, side: usize, best: u32) -> u32
+    requires { ⌜ (k * ROW ≤ length (now rows)) × (side < 2) × (ask (now rows) k (2 + side) < MARKS) × (best < MARKS) ⌝ }
     ensures { λ r. ⌜ r ≡ newer (ask (now (rows .entry)) k (2 + side)) best ⌝ }
+    ensures small { λ r. ⌜ r < MARKS ⌝ }
 {
     let mark = asked(rows, k, 2 + side);
     if mark == 0 {
         return best;
     }
-    mark as u16
+    mark as u32
 }
 
-// Writes element row i.
-fn write(hop: &mut [u16], link: &mut [u32], stride: &mut [u8], i: usize, h: u16, l: usize, s: usize)
-    requires { ⌜ (i < length (now hop)) × (i < length (now link)) × (i < length (now stride)) × (l < LINKS) × (s < BYTE) ⌝ }
-    ensures hops { λ _. ⌜ now (hop .exit) ≡ set (now (hop .entry)) i h ⌝ }
+// The hop in a mark, and the length.
+fn hop_in(mark: u32) -> u16
+    requires { ⌜ mark < MARKS ⌝ }
+    ensures { λ r. ⌜ r ≡ hopIn mark ⌝ }
+{
+    (mark as usize / LENGTHS) as u16
+}
+
+fn length_in(mark: u32) -> u8
+    ensures { λ r. ⌜ r ≡ lengthIn mark ⌝ }
+{
+    (mark as usize % LENGTHS) as u8
+}
+
+// Writes element row i: hop and length are those of the mark.
+fn write(
+    hop: &mut [u16],
+    len: &mut [u8],
+    link: &mut [u32],
+    stride: &mut [u8],
+    i: usize,
+    mark: u32,
+    l: usize,
+    s: usize,
+)
+    requires { ⌜ (i < shortest (lists (now hop) (now len) (now link) (now stride))) × (mark < MARKS) × (l < LINKS) × (s < BYTE) ⌝ }
+    ensures hops { λ _. ⌜ now (hop .exit) ≡ set (now (hop .entry)) i (hopIn mark) ⌝ }
+    ensures lens { λ _. ⌜ now (len .exit) ≡ set (now (len .entry)) i (lengthIn mark) ⌝ }
     ensures links { λ _. ⌜ now (link .exit) ≡ set (now (link .entry)) i l ⌝ }
     ensures strides { λ _. ⌜ now (stride .exit) ≡ set (now (stride .entry)) i s ⌝ }
 {
-    hop[i] = h;
+    hop[i] = hop_in(mark);
+    len[i] = length_in(mark);
     link[i] = l as u32;
     stride[i] = s as u8;
 }
 
-// The hops from `base` to before `end` become `best`.
-fn spread_hop(hop: &mut [u16], base: usize, end: usize, best: u16)
+// The hops from `base` to before `end` become `h`.
+fn spread_hop(hop: &mut [u16], base: usize, end: usize, h: u16)
     requires { ⌜ (base ≤ end) × (end ≤ length (now hop)) ⌝ }
-    ensures { λ _. ⌜ Spread base end best (now (hop .entry)) (now (hop .exit)) ⌝ }
+    ensures { λ _. ⌜ Spread base end h (now (hop .entry)) (now (hop .exit)) ⌝ }
 {
     let mut i = base;
     while i < end {
-        hop[i] = best;
+        hop[i] = h;
+        i += 1;
+    }
+}
+
+// The lengths, or child strides, from `base` to before `end` become `b`.
+fn spread_byte(list: &mut [u8], base: usize, end: usize, b: u8)
+    requires { ⌜ (base ≤ end) × (end ≤ length (now list)) ⌝ }
+    ensures { λ _. ⌜ Spread base end b (now (list .entry)) (now (list .exit)) ⌝ }
+{
+    let mut i = base;
+    while i < end {
+        list[i] = b;
         i += 1;
     }
 }
@@ -78,29 +118,26 @@ fn clear_link(link: &mut [u32], base: usize, end: usize)
     }
 }
 
-// The child strides from `base` to before `end` become 0: no child.
-fn clear_stride(stride: &mut [u8], base: usize, end: usize)
-    requires { ⌜ (base ≤ end) × (end ≤ length (now stride)) ⌝ }
-    ensures { λ _. ⌜ Spread base end 0 (now (stride .entry)) (now (stride .exit)) ⌝ }
-{
-    let mut i = base;
-    while i < end {
-        stride[i] = 0;
-        i += 1;
-    }
-}
-
-// Writes the rows from `base` to before `end`, below which there is no node: all have the hop `best` and no child. One list after
-// the other, so that the compiler takes `memset` for links and strides: over three lists in one loop it does not.
-fn bare(hop: &mut [u16], link: &mut [u32], stride: &mut [u8], base: usize, end: usize, best: u16)
-    requires { ⌜ (base ≤ end) × (end ≤ shortest (lists (now hop) (now link) (now stride))) ⌝ }
+// Writes the rows from `base` to before `end`, below which there is no node: all have hop and length of the mark `best` and no child. One
+// list after the other, so that the compiler takes `memset` for all but the hops: over four lists in one loop it does not.
+fn bare(
+    hop: &mut [u16],
+    len: &mut [u8],
+    link: &mut [u32],
+    stride: &mut [u8],
+    base: usize,
+    end: usize,
+    best: u32,
+)
+    requires { ⌜ (base ≤ end) × (end ≤ shortest (lists (now hop) (now len) (now link) (now stride))) × (best < MARKS) ⌝ }
     ensures { λ _. ⌜
-        Bare base end best (lists (now (hop .entry)) (now (link .entry)) (now (stride .entry)))
-        (lists (now (hop .exit)) (now (link .exit)) (now (stride .exit))) ⌝ }
+        Bare base end best (lists (now (hop .entry)) (now (len .entry)) (now (link .entry)) (now (stride .entry)))
+        (lists (now (hop .exit)) (now (len .exit)) (now (link .exit)) (now (stride .exit))) ⌝ }
 {
-    spread_hop(hop, base, end, best);
+    spread_hop(hop, base, end, hop_in(best));
+    spread_byte(len, base, end, length_in(best));
     clear_link(link, base, end);
-    clear_stride(stride, base, end);
+    spread_byte(stride, base, end, 0);
 }
 
 // Writes the row at the end of a path where a child block begins, at the node of link k. Returns the next free row.
@@ -110,23 +147,25 @@ fn leaf(
     k: usize,
     r: usize,
     base: usize,
-    best: u16,
+    best: u32,
     free: usize,
     hop: &mut [u16],
+    len: &mut [u8],
     link: &mut [u32],
     stride: &mut [u8],
 ) -> usize
-    requires { ⌜ (0 < k) × CanFill (now rows) (now plan) k 0 r base free (lists (now hop) (now link) (now stride)) ⌝ }
+    requires { ⌜ (0 < k) × (best < MARKS) × CanFill (now rows) (now plan) k 0 r base free (lists (now hop) (now len) (now link) (now stride)) ⌝ }
     ensures { λ f. ⌜
-        Fills (now (rows .entry)) (now (plan .entry)) k 0 r base best free (lists (now (hop .entry)) (now (link .entry)) (now (stride .entry))) f
-        (lists (now (hop .exit)) (now (link .exit)) (now (stride .exit))) ⌝ }
+        Fills (now (rows .entry)) (now (plan .entry)) k 0 r base best free
+        (lists (now (hop .entry)) (now (len .entry)) (now (link .entry)) (now (stride .entry))) f
+        (lists (now (hop .exit)) (now (len .exit)) (now (link .exit)) (now (stride .exit))) ⌝ }
 {
     let s = stride_at(rows, plan, k, r);
-    write(hop, link, stride, base, best, free, s);
+    write(hop, len, link, stride, base, best, free, s);
     free + power(s)
 }
 
-// Writes the 2 ^ c rows from `base` on, below the trie at link k, where `best` is the hop so far in the block. Child blocks have
+// Writes the 2 ^ c rows from `base` on, below the trie at link k, where `best` is the mark so far in the block. Child blocks have
 // r levels left and lie from row `free` on; returns the row after them. Most rows of a wide block have no node, so those are written
 // in one go.
 fn fill(
@@ -136,43 +175,34 @@ fn fill(
     c: usize,
     r: usize,
     base: usize,
-    best: u16,
+    best: u32,
     free: usize,
     hop: &mut [u16],
+    len: &mut [u8],
     link: &mut [u32],
     stride: &mut [u8],
 ) -> usize
-    requires { ⌜ CanFill (now rows) (now plan) k c r base free (lists (now hop) (now link) (now stride)) ⌝ }
+    requires { ⌜ (best < MARKS) × CanFill (now rows) (now plan) k c r base free (lists (now hop) (now len) (now link) (now stride)) ⌝ }
     ensures { λ f. ⌜
-        Fills (now (rows .entry)) (now (plan .entry)) k c r base best free (lists (now (hop .entry)) (now (link .entry)) (now (stride .entry))) f
-        (lists (now (hop .exit)) (now (link .exit)) (now (stride .exit))) ⌝ }
+        Fills (now (rows .entry)) (now (plan .entry)) k c r base best free
+        (lists (now (hop .entry)) (now (len .entry)) (now (link .entry)) (now (stride .entry))) f
+        (lists (now (hop .exit)) (now (len .exit)) (now (link .exit)) (now (stride .exit))) ⌝ }
 {
     if k == 0 {
-        bare(hop, link, stride, base, base + power(c), best);
+        bare(hop, len, link, stride, base, base + power(c), best);
         return free;
     }
     if c == 0 {
-        return leaf(rows, plan, k, r, base, best, free, hop, link, stride);
+        return leaf(rows, plan, k, r, base, best, free, hop, len, link, stride);
     }
-    let h0 = best_below(rows, k, 0, best);
-    let h1 = best_below(rows, k, 1, best);
+    let m0 = best_below(rows, k, 0, best);
+    let m1 = best_below(rows, k, 1, best);
     let k0 = asked(rows, k, 0);
     let k1 = asked(rows, k, 1);
-    let half = power(c - 1);
-    let f = fill(rows, plan, k0, c - 1, r, base, h0, free, hop, link, stride);
-    fill(
-        rows,
-        plan,
-        k1,
-        c - 1,
-        r,
-        base + half,
-        h1,
-        f,
-        hop,
-        link,
-        stride,
-    )
+    let d = c - 1;
+    let mid = base + power(d);
+    let f = fill(rows, plan, k0, d, r, base, m0, free, hop, len, link, stride);
+    fill(rows, plan, k1, d, r, mid, m1, f, hop, len, link, stride)
 }
 
 // Where the next block of a level lies, and where the next child block does.
@@ -189,28 +219,28 @@ fn block(
     r: usize,
     to: Front,
     hop: &mut [u16],
+    len: &mut [u8],
     link: &mut [u32],
     stride: &mut [u8],
 ) -> Front
-    requires { ⌜ (0 < k) × CanBlock (now rows) (now plan) k r (to .base) (to .free) (lists (now hop) (now link) (now stride)) ⌝ }
+    requires { ⌜ (0 < k) × CanBlock (now rows) (now plan) k r (to .base) (to .free) (lists (now hop) (now len) (now link) (now stride)) ⌝ }
     ensures { λ s. ⌜
         WritesBlock (now (rows .entry)) (now (plan .entry)) k r (to .base) (to .free)
-        (lists (now (hop .entry)) (now (link .entry)) (now (stride .entry))) (s .base) (s .free)
-        (lists (now (hop .exit)) (now (link .exit)) (now (stride .exit))) ⌝ }
+        (lists (now (hop .entry)) (now (len .entry)) (now (link .entry)) (now (stride .entry))) (s .base) (s .free)
+        (lists (now (hop .exit)) (now (len .exit)) (now (link .exit)) (now (stride .exit))) ⌝ }
 {
     let s = stride_at(rows, plan, k, r);
     let base = to.base;
     let free = to.free;
-    let f = fill(rows, plan, k, s, r - 1, base, 0, free, hop, link, stride);
-    Front {
-        base: base + power(s),
-        free: f,
-    }
+    let q = r - 1;
+    let f = fill(rows, plan, k, s, q, base, 0, free, hop, len, link, stride);
+    let end = base + power(s);
+    Front { base: end, free: f }
 }
 
 // Writes the blocks of level n below the trie at link k, left to right, from row `to.base` on. The next block on a path begins c
 // levels lower, with r levels left; w address bits are left. The n-th block after one begins at least n levels lower, so a subtrie
-// that is too shallow for it is left. Where one side alone has a node, the other is not called for: a call hands five lists down.
+// that is too shallow for it is left. Where one side alone has a node, the other is not called for: a call hands six lists down.
 fn level(
     rows: &[u64],
     plan: &[u8],
@@ -221,38 +251,43 @@ fn level(
     r: usize,
     to: Front,
     hop: &mut [u16],
+    len: &mut [u8],
     link: &mut [u32],
     stride: &mut [u8],
 ) -> Front
-    requires { ⌜ CanLevel (now rows) (now plan) k w c n r (to .base) (to .free) (lists (now hop) (now link) (now stride)) ⌝ }
+    requires { ⌜ CanLevel (now rows) (now plan) k w c n r (to .base) (to .free) (lists (now hop) (now len) (now link) (now stride)) ⌝ }
     ensures { λ s. ⌜
         WritesLevel (now (rows .entry)) (now (plan .entry)) k w c n r (to .base) (to .free)
-        (lists (now (hop .entry)) (now (link .entry)) (now (stride .entry))) (s .base) (s .free)
-        (lists (now (hop .exit)) (now (link .exit)) (now (stride .exit))) ⌝ }
+        (lists (now (hop .entry)) (now (len .entry)) (now (link .entry)) (now (stride .entry))) (s .base) (s .free)
+        (lists (now (hop .exit)) (now (len .exit)) (now (link .exit)) (now (stride .exit))) ⌝ }
 {
     if k == 0 {
         return to;
     }
     if c == 0 {
         if n == 0 {
-            return block(rows, plan, k, r, to, hop, link, stride);
+            return block(rows, plan, k, r, to, hop, len, link, stride);
         }
         if asked(rows, k, DEPTH) <= n {
             return to;
         }
         let s = stride_at(rows, plan, k, r);
-        return level(rows, plan, k, w, s, n - 1, r - 1, to, hop, link, stride);
+        let m = n - 1;
+        let q = r - 1;
+        return level(rows, plan, k, w, s, m, q, to, hop, len, link, stride);
     }
     let k0 = asked(rows, k, 0);
     let k1 = asked(rows, k, 1);
+    let v = w - 1;
+    let d = c - 1;
     if k0 == 0 {
-        return level(rows, plan, k1, w - 1, c - 1, n, r, to, hop, link, stride);
+        return level(rows, plan, k1, v, d, n, r, to, hop, len, link, stride);
     }
-    let then = level(rows, plan, k0, w - 1, c - 1, n, r, to, hop, link, stride);
+    let then = level(rows, plan, k0, v, d, n, r, to, hop, len, link, stride);
     if k1 == 0 {
         return then;
     }
-    level(rows, plan, k1, w - 1, c - 1, n, r, then, hop, link, stride)
+    level(rows, plan, k1, v, d, n, r, then, hop, len, link, stride)
 }
 
 // Writes all rows of the trie at link `root`, level by level, and returns their number E. `width` is the number of address
@@ -264,13 +299,14 @@ pub(crate) fn lay(
     width: usize,
     levels: usize,
     hop: &mut [u16],
+    len: &mut [u8],
     link: &mut [u32],
     stride: &mut [u8],
 ) -> usize
-    requires { ⌜ CanLay (now rows) (now plan) root width levels (lists (now hop) (now link) (now stride)) ⌝ }
+    requires { ⌜ CanLay (now rows) (now plan) root width levels (lists (now hop) (now len) (now link) (now stride)) ⌝ }
     ensures { λ e. ⌜
-        Lays (now (rows .entry)) (now (plan .entry)) root width levels (lists (now (hop .entry)) (now (link .entry)) (now (stride .entry))) e
-        (lists (now (hop .exit)) (now (link .exit)) (now (stride .exit))) ⌝ }
+        Lays (now (rows .entry)) (now (plan .entry)) root width levels (lists (now (hop .entry)) (now (len .entry)) (now (link .entry)) (now (stride .entry))) e
+        (lists (now (hop .exit)) (now (len .exit)) (now (link .exit)) (now (stride .exit))) ⌝ }
 {
     let first = given(root, power(stride_at(rows, plan, root, levels)));
     let mut to = Front {
@@ -279,7 +315,20 @@ pub(crate) fn lay(
     };
     let mut n = 0;
     while n < levels {
-        to = level(rows, plan, root, width, 0, n, levels, to, hop, link, stride);
+        to = level(
+            rows,
+            plan,
+            root,
+            width,
+            0,
+            n,
+            levels,
+            to,
+            hop,
+            len,
+            link,
+            stride,
+        );
         n += 1;
     }
     to.base

@@ -46,10 +46,10 @@ fn refused(number: u32, detail: u64) -> Built
 }
 
 // Whether e rows are more than one of the lists has, or more than there may be.
-fn is_crowded(e: u64, hops: usize, links: usize, strides: usize) -> bool
-    ensures { λ r. ⌜ r ≡ (ltb (min hops (min links strides)) e || ltb ELEMENTS e) ⌝ }
+fn is_crowded(e: u64, hops: usize, lens: usize, links: usize, strides: usize) -> bool
+    ensures { λ r. ⌜ r ≡ (ltb (min hops (min lens (min links strides))) e || ltb ELEMENTS e) ⌝ }
 {
-    if (smaller(hops, smaller(links, strides)) as u64) < e {
+    if (smaller(hops, smaller(lens, smaller(links, strides))) as u64) < e {
         return true;
     }
     (ELEMENTS as u64) < e
@@ -74,21 +74,22 @@ fn build_rows(
     p: Plan,
     width: u32,
     levels: u32,
-    lens: &[u8],
-    marks: &[u16],
+    length: &[u8],
+    hop: &[u16],
     scratch: &[u64],
     hops: &mut [u16],
+    lens: &mut [u8],
     links: &mut [u32],
     strides: &mut [u8],
 ) -> Built
-    requires { ⌜ CanBuild width levels (now lens) (now marks) (p .cost) (p .strides) (p .plan) (p .root) (now scratch) ⌝ }
+    requires { ⌜ CanBuild width levels (now length) (now hop) (p .cost) (p .strides) (p .plan) (p .root) (now scratch) ⌝ }
     ensures { λ r. ⌜
-        RowsDone width levels (now (lens .entry)) (now (marks .entry)) (p .cost) (p .strides) (p .plan) (p .root) (now (scratch .entry))
-        (lists (now (hops .entry)) (now (links .entry)) (now (strides .entry))) (r .outcome) (r .record)
-        (lists (now (hops .exit)) (now (links .exit)) (now (strides .exit))) ⌝ }
+        RowsDone width levels (now (length .entry)) (now (hop .entry)) (p .cost) (p .strides) (p .plan) (p .root) (now (scratch .entry))
+        (lists (now (hops .entry)) (now (lens .entry)) (now (links .entry)) (now (strides .entry))) (r .outcome) (r .record)
+        (lists (now (hops .exit)) (now (lens .exit)) (now (links .exit)) (now (strides .exit))) ⌝ }
 {
     let e = p.cost;
-    if is_crowded(e, hops.len(), links.len(), strides.len()) {
+    if is_crowded(e, hops.len(), lens.len(), links.len(), strides.len()) {
         return refused(7, e);
     }
     let k = levels as usize;
@@ -100,6 +101,7 @@ fn build_rows(
         width as usize,
         k,
         hops,
+        lens,
         links,
         strides,
     );
@@ -110,7 +112,7 @@ fn build_rows(
             width: width,
             levels: levels,
             elements: e as u32,
-            floor: floor_hop(lens, marks),
+            floor: floor_hop(length, hop),
             strides: named,
         },
     }
@@ -127,24 +129,36 @@ pub fn build(
     hop: &[u16],
     scratch: &mut [u64],
     hops: &mut [u16],
+    lens: &mut [u8],
     links: &mut [u32],
     strides: &mut [u8],
 ) -> Built
     ensures exact { λ r. ⌜
         BuildIs (kindOf kind) width levels (now (value .entry)) (now (length .entry)) (now (hop .entry)) (now (scratch .entry))
-        (lists (now (hops .entry)) (now (links .entry)) (now (strides .entry))) (r .outcome) (r .record) (now (scratch .exit))
-        (lists (now (hops .exit)) (now (links .exit)) (now (strides .exit))) ⌝ }
+        (lists (now (hops .entry)) (now (lens .entry)) (now (links .entry)) (now (strides .entry))) (r .outcome) (r .record) (now (scratch .exit))
+        (lists (now (hops .exit)) (now (lens .exit)) (now (links .exit)) (now (strides .exit))) ⌝ }
     ensures meaning { λ r. ⌜
         Builds (kindOf kind) width levels (now (value .entry)) (now (length .entry)) (now (hop .entry)) (now (scratch .entry))
-        (lists (now (hops .entry)) (now (links .entry)) (now (strides .entry))) (r .outcome) (r .record) (now (scratch .exit))
-        (lists (now (hops .exit)) (now (links .exit)) (now (strides .exit))) ⌝ }
+        (lists (now (hops .entry)) (now (lens .entry)) (now (links .entry)) (now (strides .entry))) (r .outcome) (r .record) (now (scratch .exit))
+        (lists (now (hops .exit)) (now (lens .exit)) (now (links .exit)) (now (strides .exit))) ⌝ }
 {
     let p = plan_choice(kind, width, levels, value, length, hop, scratch);
     let outcome = p.outcome;
     if let Outcome::Refused { number, detail } = outcome {
         return refused(number, detail);
     }
-    let built = build_rows(p, width, levels, length, hop, scratch, hops, links, strides);
+    let built = build_rows(
+        p,
+        width,
+        levels,
+        length,
+        hop,
+        scratch,
+        hops,
+        lens,
+        links,
+        strides,
+    );
     zero(scratch);
     built
 }

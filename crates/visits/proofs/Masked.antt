@@ -12,10 +12,10 @@ use lib.Pow.{pow-mono, pow-pos, shr-lt, split}
 use Rattle.table.proofs.Shifts.{one-shl}
 use Rattle.table.proofs.Leading.{digits-most}
 use Rattle.walk.proofs.Bits.{and-shl}
-use Rattle.pieces.specs.Maps.{INTERNAL, EXTERNAL, maskOf, bitAt}
+use Rattle.pieces.specs.Maps.{INTERNAL, EXTERNAL, maskOf, bitAt, placeLevel}
 use Rattle.pieces.specs.Cuts.{pathAt, limit, found, onesBefore, highest}
 use Rattle.pieces.proofs.Bits.{bit-zero, no-bits, highest-is, Highest}
-use Rattle.pieces.proofs.Places.{limit-15, small-bit, true-false}
+use Rattle.pieces.proofs.Places.{level-of, level-some, limit-within, limit-15, small-bit, true-false}
 
 -- ---- the places within the width, as bits
 pub within-0 : (left : ℕ) → left ≡ 0 → 1 ≡ 2 ^ limit left - 1
@@ -38,13 +38,17 @@ within-more (suc (suc zero)) a b c = absurd (c refl)
 within-more (suc (suc (suc n))) a b c = refl
 
 pub found-on : (map mask left : ℕ) {r : ℕ} → r ≡ 2 ^ limit left - 1
-    → ((p : ℕ) → mask ≡ maskOf p → bitAnd (bitAnd map mask) r ≡ found map p left) × (bitAnd (bitAnd map mask) r < 2 ^ INTERNAL)
+    → ((p : ℕ) → mask ≡ maskOf p → bitAnd (bitAnd map mask) r ≡ found map p left) × (bitAnd (bitAnd map mask) r < 2 ^ limit left)
 unfolding found
 found-on map mask left {r} f =
     let is : bitAnd (bitAnd map mask) r ≡ bitAnd map mask % 2 ^ limit left = ap (bitAnd (bitAnd map mask)) f ∙ and-mask (bitAnd map mask) (limit left) in (
       λ p e. is ∙ ap (λ (m : ℕ). bitAnd map m % 2 ^ limit left) e,
-      rw is (lt-of-lt-of-le (mod-lt (bitAnd map mask) (pow-pos (limit left))) (pow-mono {j = INTERNAL} (limit-15 left))),
+      rw is (mod-lt (bitAnd map mask) (pow-pos (limit left))),
     )
+
+-- so they are internal places
+pub found-few : (left : ℕ) {on : ℕ} → on < 2 ^ limit left → on < 2 ^ INTERNAL
+found-few left h = lt-of-lt-of-le h (pow-mono {j = INTERNAL} (limit-15 left))
 
 -- ---- the highest bit
 -- no bit from h on: below 2 ^ h
@@ -67,26 +71,54 @@ bits-below (suc n) x h l g f = ⊎-elim (λ (e : h ≡ suc n). rw e l) (λ (e : 
 bit-le : (x h : ℕ) → bitAt x h ≡ true → 2 ^ h ≤ x
 bit-le x h e = elim (decLe (2 ^ h) x) [ yes p ↦ p | no p ↦ absurd (true-false (small-bit x h (omega arith)) e) ]
 
+more : (x h m : ℕ) → 2 ^ h ≤ x → x < 2 ^ m → h < m
+more x h m a b = elim (decLe m h) [ yes p ↦ absurd (omega (arith, pow-mono p)) | no p ↦ omega arith ]
+
 module _ (x : ℕ) (some : 0 < x) (small : x < 32768) where
   top : Highest 15 x (highest 15 x)
   top = ⊎-elim (λ (f : (k : ℕ) → k < 15 → bitAt x k ≡ false). absurd (omega (arith, no-bits 15 x small f))) (λ (g : Highest 15 x (highest 15 x)). g) (highest-is 15 x)
 
+  highest-le : 2 ^ highest 15 x ≤ x
+  highest-le = bit-le x (highest 15 x) (top .set)
+
+  highest-lt : x < 2 ^ suc (highest 15 x)
+  highest-lt = bits-below 15 x (suc (highest 15 x)) small (top .within) (λ k a b. top .above k a b)
+
   pub leading-highest : leadingZeros 32 x + suc (highest 15 x) ≡ 32
   leading-highest =
-      let h = highest 15 x in
       let s = leading-length 32 x (omega arith) in
-      let m = s .0 in
-      let low : 2 ^ h ≤ x = bit-le x h (top .set) in
-      let up : x < 2 ^ suc h = bits-below 15 x (suc h) small (top .within) (λ k a b. top .above k a b) in
-      let a : h < m = more h m low (s .2) in
-      let b : m ≤ suc h = digits-most x m (suc h) (s .3) up in
+      let a : highest 15 x < s .0 = more x (highest 15 x) (s .0) highest-le (s .2) in
+      let b : s .0 ≤ suc (highest 15 x) = digits-most x (s .0) (suc (highest 15 x)) (s .3) highest-lt in
       omega (arith, s .1)
-    where
-      more : (h m : ℕ) → 2 ^ h ≤ x → x < 2 ^ m → h < m
-      more h m a b = elim (decLe m h) [ yes p ↦ absurd (omega (arith, pow-mono p)) | no p ↦ omega arith ]
 
   pub highest-lead : (31 - leadingZeros 32 x ≡ highest 15 x) × (31 - leadingZeros 32 x < 15)
   highest-lead = (omega (arith, leading-highest), omega (arith, leading-highest, top .within))
+
+  -- below 2 ^ n it is below n
+  highest-below : (n : ℕ) → x < 2 ^ n → highest 15 x < n
+  highest-below n h = more x (highest 15 x) n highest-le h
+
+-- ---- the level of a place
+-- 2 ^ j - 1 places come before level j, so it is the highest bit of the place's number counted from 1
+pub highest-level : (i : ℕ) → i < 15 → highest 15 (i + 1) ≡ placeLevel i
+highest-level i h =
+    let v = level-some i h in
+    let j = v .0 in
+    let le : 2 ^ j ≤ i + 1 = omega (arith, v .1 .low) in
+    let lt : i + 1 < 2 ^ suc j = omega (arith, v .1 .high) in
+    let a : highest 15 (i + 1) < suc j = highest-below (i + 1) (omega arith) (omega arith) (suc j) lt in
+    let b : j < suc (highest 15 (i + 1)) = more (i + 1) j (suc (highest 15 (i + 1))) le (highest-lt (i + 1) (omega arith) (omega arith)) in
+    let e : highest 15 (i + 1) ≡ j = omega arith in
+    e ∙ sym (level-of i j (v .1))
+
+-- that of a place within the width is within it, and so is the highest bit found
+pub level-within : (left i : ℕ) {l : ℕ} → l ≡ placeLevel i → i < limit left → l ≤ left
+level-within left i e h =
+    let v = level-some i (omega (arith, limit-15 left)) in
+    rw (e ∙ level-of i (v .0) (v .1)) (limit-within i (v .0) left (v .1) h)
+
+pub highest-within : (left : ℕ) {on : ℕ} → 0 < on → on < 2 ^ limit left → highest INTERNAL on < limit left
+highest-within left {on} some h = highest-below on some (found-few left h) (limit left) h
 
 -- ---- the count before a place
 pub before-is : (map i : ℕ) → map < 65536 → i < EXTERNAL

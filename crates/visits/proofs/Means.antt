@@ -29,11 +29,11 @@ better-after row p left best h = go (found-longest (row .internal) p left h)
 
     go : ((on ≡ 0) × ((j : ℕ) → Matchable left j → NoBit (row .internal) (placeOn p j)))
         ⊎ ((on ≡ 0 → ⊥) × IsLongest (row .internal) p left (placeLevel i) × (placeOn p (placeLevel i) ≡ i))
-        → After row p left best (cond (eqb on 0) best (Won (row .firstHop + onesBefore (row .internal) i)))
+        → After row p left best (cond (eqb on 0) best (Won (row .firstHop + onesBefore (row .internal) i) (left - placeLevel i)))
     go (inl a) = rw (eq-eqb on 0 (a .0)) (kept (a .1))
     go (inr a) =
         rw (ne-eqb on 0 (a .0))
-        (subst (λ (x : ℕ). After row p left best (Won (row .firstHop + onesBefore (row .internal) x))) (a .2) (newest (placeLevel i) (a .1)))
+        (subst (λ (x : ℕ). After row p left best (Won (row .firstHop + onesBefore (row .internal) x) (left - placeLevel i))) (a .2) (newest (placeLevel i) (a .1)))
 
 pub path-small : (address left : ℕ) → pathAt address left < EXTERNAL
 unfolding pathAt

@@ -1,7 +1,7 @@
 -- What a lookup reads, over any record and any lists (02 [1]: demand 3's last sentence, "with these for blocks, that bound for k, and the
 -- winning hop's row besides"): as many supernodes as there are on its path, at most W / 4 + 1, each below the count; and nothing but the
 -- record, their rows and the winner's hop can change its answer.
-use Prim.Native.Nat.{ℕ, suc, _+_, _/_, _≤_, _<_}
+use Prim.Native.Nat.{ℕ, suc, _+_, _-_, _/_, _≤_, _<_}
 use mathlib.Core.Path.{_≡_, refl, sym, ap, _∙_}
 use mathlib.Core.Bool.{Bool, true, false, cond}
 use mathlib.Core.List.{List, _∷_, List·Memᴰ, List·Memᴰ·head, List·Memᴰ·tail, List·Memᴰ·not-nil, List·Memᴰ·eq-of-singleton, List·Memᴰ·cases-cons}
@@ -78,12 +78,12 @@ module _ (rec : Bitmap) (rows : RowLists) (address : ℕ) where
 module _ {most : ℕ} {rec : Bitmap} {rows : RowLists} {hops : List ℕ} {address : ℕ} {a : Answer} (l : LookedBitmap most rec rows hops address a) where
   -- an accepted lookup has as many reads as there are supernodes on its path
   pub reads-numbers : NotRefused a → readsOf a ≡ length (pathNumbers rec rows address)
-  reads-numbers z = let t = l .told z in t .4 ∙ ap length (sym (way-numbers rec rows address (t .2) .0))
+  reads-numbers z = let t = l .told z in t .5 ∙ ap length (sym (way-numbers rec rows address (t .2) .0))
 
   -- no lookup has more reads than W / 4 and one
   pub reads-bound : readsOf a ≤ suc (rec .width / STEP)
   reads-bound = elim (decLe (numberOf a) 0) [
-    | yes z ↦ let t = l .told (omega arith) in omega (arith, t .4, few (t .2))
+    | yes z ↦ let t = l .told (omega arith) in omega (arith, t .5, few (t .2))
     | no z ↦ omega (arith, refused-none a (omega arith))
   ]
     where
@@ -107,14 +107,16 @@ module _ (rec : Bitmap) (address : ℕ) (rows rows′ : RowLists) (hops hops′ 
       go true s = (refl, refl, refl)
       go false s = way-unique (way-local (visit-way _ _ _ _ _ _ _ refl) s) (visit-way _ _ _ _ _ _ _ refl)
 
-  best-same : (b : Best) (n reads : ℕ) → (InCount b n → winningHop hops b ≡ winningHop hops′ b) → tellBest n (at hops) b reads ≡ tellBest n (at hops′) b reads
+  best-same : (b : Best) (n reads : ℕ) → (InCount b n → winningHop hops b ≡ winningHop hops′ b)
+      → tellBest (rec .width) n (at hops) b reads ≡ tellBest (rec .width) n (at hops′) b reads
   unfolding tellBest
   best-same Missing n reads f = refl
-  best-same (Won place) n reads f = go (leb n place) refl
+  best-same (Won place left) n reads f = go (leb n place) refl
     where
-      go : (z : Bool) → leb n place ≡ z → cond z (Refused 9) (answer (at hops place) reads) ≡ cond z (Refused 9) (answer (at hops′ place) reads)
+      go : (z : Bool) → leb n place ≡ z
+          → cond z (Refused 9) (answer (at hops place) (rec .width - left) reads) ≡ cond z (Refused 9) (answer (at hops′ place) (rec .width - left) reads)
       go true e = refl
-      go false e = ap (λ (h : ℕ). answer h reads) (f (leb-false _ _ e))
+      go false e = ap (λ (h : ℕ). answer h (rec .width - left) reads) (f (leb-false _ _ e))
 
   -- and the answer, where no list is shorter than its count
   pub lookup-alone : (most : ℕ) → rec .supernodes ≤ rowRoom rows → rec .supernodes ≤ rowRoom rows′ → rec .hops ≤ length hops → rec .hops ≤ length hops′

@@ -10,7 +10,7 @@ use lib.ListN.{length}
 use Rattle.walk.specs.declared.walk.Answer.{Answer}
 use Rattle.walk.specs.declared.numbers.AnswerNumbers.{AnswerNumbers}
 use Rattle.table.specs.Answers.{Told}
-use Rattle.walk.specs.Answers.{numberOf, hopOf, readsOf, answerNumbers}
+use Rattle.walk.specs.Answers.{numberOf, hopOf, lengthOf, readsOf, answerNumbers}
 use Rattle.table.proofs.Unique.{told-unique}
 use Rattle.walk.proofs.Answers.{refused-none, answer-unique}
 use Rattle.walk.proofs.Unique.{test-unique}
@@ -23,7 +23,7 @@ use Rattle.visits.specs.declared.looking.Best.the-variants.{Won}
 use Rattle.visits.specs.declared.record.Bitmap.{Bitmap}
 use Rattle.visits.specs.Rows.{RowLists}
 use Rattle.visits.specs.Meaning.{After, kept, newest, Way, past, last, above, on}
-use Rattle.visits.specs.Meaning.{OnWay, empty, visited, winningHop, BitmapTested, LookedBitmap}
+use Rattle.visits.specs.Meaning.{OnWay, empty, visited, winningHop, winningLength, BitmapTested, LookedBitmap}
 
 -- one level is the longest
 longest-one : (map p left i j : ℕ) → IsLongest map p left i → IsLongest map p left j → i ≡ j
@@ -39,7 +39,7 @@ after-unique (kept f) (kept g) = refl
 after-unique (kept f) (newest j g) = absurd (true-false (f j (g .within)) (g .set))
 after-unique (newest i f) (kept g) = absurd (true-false (g i (f .within)) (f .set))
 after-unique {row = row} {p = p} {left = left} (newest i f) (newest j g) =
-    ap (λ (k : ℕ). Won (row .firstHop + onesBefore (row .internal) (placeOn p k))) (longest-one (row .internal) p left i j f g)
+    ap (λ (k : ℕ). Won (row .firstHop + onesBefore (row .internal) (placeOn p k)) (left - k)) (longest-one (row .internal) p left i j f g)
 
 -- one way starts at a supernode
 pub way-unique : {count address : ℕ} {row : ℕ → SupernodeRow} {i left : ℕ} {b c c′ : Best} {is is′ : List ℕ} {w w′ : Bool}
@@ -78,17 +78,17 @@ module _ {most : ℕ} {rec : Bitmap} {rows : RowLists} {hops : List ℕ} {addres
   bitmap-tested-unique = test-unique (λ i j. test-unique (λ i j. test-unique (λ i j p q. p ∙ sym q)))
 
   same-told : {a b : Answer} → LookedBitmap most rec rows hops address a → LookedBitmap most rec rows hops address b → numberOf a ≡ numberOf b
-      → (hopOf a ≡ hopOf b) × (readsOf a ≡ readsOf b)
+      → (hopOf a ≡ hopOf b) × (lengthOf a ≡ lengthOf b) × (readsOf a ≡ readsOf b)
   same-told {a} {b} l m e = elim (decLe (numberOf a) 0) [
     | yes z ↦
         let p = l .told (omega arith) in
         let q = m .told (omega arith) in
         let one = on-way-unique (p .2) (q .2) in
-        (p .3 ∙ ap (winningHop hops) (one .1) ∙ sym (q .3), p .4 ∙ ap length (one .0) ∙ sym (q .4))
+        (p .3 ∙ ap (winningHop hops) (one .1) ∙ sym (q .3), p .4 ∙ ap (winningLength (rec .width) hops) (one .1) ∙ sym (q .4), p .5 ∙ ap length (one .0) ∙ sym (q .5))
     | no z ↦
         let p = refused-none a (omega arith) in
         let q = refused-none b (omega arith) in
-        (p .0 ∙ sym (q .0), p .1 ∙ sym (q .1))
+        (p .0 ∙ sym (q .0), p .1 ∙ sym (q .1), p .2 ∙ sym (q .2))
   ]
 
   -- one answer is allowed
@@ -96,7 +96,7 @@ module _ {most : ℕ} {rec : Bitmap} {rows : RowLists} {hops : List ℕ} {addres
   looked-bitmap-unique {a} {b} l m =
       let n : numberOf a ≡ numberOf b = bitmap-tested-unique (l .tested) (m .tested) in
       let s = same-told l m n in
-      answer-unique a b n (s .0) (s .1) (l .case) (m .case)
+      answer-unique a b n (s .0) (s .1) (s .2) (l .case) (m .case)
 
   -- and so one is told in numbers
   pub lookup-bitmap-unique : {r r′ : AnswerNumbers}

@@ -36,14 +36,14 @@ abbrev eightAnswer : (supernodes hops address : ℕ) → Answer
 eightAnswer s h a = lookupBitmapOf WIDTH (rec 7 s h) eightLists eightHopRows a
 
 -- addresses 1100001, with its path, 1100000, 1101000 and 1001111, and one that is not below 2 ^ 7
-eight-bitmap-lookups : (eightAnswer 3 8 0b1100001 ≡ Match 7 2) × (pathNumbers (rec 7 3 8) eightLists 0b1100001 ≡ 0 ∷ 2 ∷ [])
-    × (eightAnswer 3 8 0b1100000 ≡ Match 8 2) × (eightAnswer 3 8 0b1101000 ≡ Match 3 1)
-    × (eightAnswer 3 8 0b1001111 ≡ Match 2 1) × (eightAnswer 3 8 128 ≡ Refused 8)
+eight-bitmap-lookups : (eightAnswer 3 8 0b1100001 ≡ Match 7 6 2) × (pathNumbers (rec 7 3 8) eightLists 0b1100001 ≡ 0 ∷ 2 ∷ [])
+    × (eightAnswer 3 8 0b1100000 ≡ Match 8 7 2) × (eightAnswer 3 8 0b1101000 ≡ Match 3 2 1)
+    × (eightAnswer 3 8 0b1001111 ≡ Match 2 1 1) × (eightAnswer 3 8 128 ≡ Refused 8)
 unfolding outside answer placeLevel placeOn onPath mapOf bitAt maskOf pathAt limit found onesBefore highest ones onesIn
     betterOf visit tellBest tellVisited visitedBy listsShort bitmapRefusal lookupBitmapOf
 eight-bitmap-lookups = (refl, refl, refl, refl, refl, refl)
 
--- the corner of 02, [4] (10 to hop 1 and 1010 to hop 65,535 at width 4): 1010 is discard, 1011 gives hop 1, 0111 has no route
+-- the corner of 02, [4] (10 to hop 1 and 1010 to hop 65,535 at width 4): 1010 is discard by 4 bits, 1011 gives hop 1 by 2, 0111 has no route
 abbrev cornerLists : RowLists
 cornerLists = record { internal = 32 ∷ 1 ∷ []; external = 1024 ∷ 0 ∷ []; firstChild = 1 ∷ 0 ∷ []; firstHop = 0 ∷ 1 ∷ [] }
 
@@ -53,7 +53,7 @@ cornerAnswer a = lookupBitmapOf WIDTH (rec 4 2 2) cornerLists (1 ∷ 65535 ∷ [
 corner-held : HoldRows cornerLists 0 cornerSupernodes
 corner-held = (refl, (refl, tt))
 
-corner-bitmap-lookups : (cornerAnswer 0b1010 ≡ Discard 2) × (cornerAnswer 0b1011 ≡ Match 1 1) × (cornerAnswer 0b0111 ≡ NoRoute 1)
+corner-bitmap-lookups : (cornerAnswer 0b1010 ≡ Discard 4 2) × (cornerAnswer 0b1011 ≡ Match 1 2 1) × (cornerAnswer 0b0111 ≡ NoRoute 1)
 unfolding outside answer placeLevel placeOn onPath mapOf bitAt maskOf pathAt limit found onesBefore highest ones onesIn
     betterOf visit tellBest tellVisited visitedBy listsShort bitmapRefusal lookupBitmapOf
 corner-bitmap-lookups = (refl, refl, refl)
@@ -67,9 +67,9 @@ abbrev branchAnswer : (width supernodes hops : ℕ) → List ℕ → Answer
 branchAnswer w s h hs = lookupBitmapOf WIDTH (rec w s h) branching hs 0
 
 bitmap-damage : (eightAnswer 4 8 0 ≡ Refused 9) × (eightAnswer 3 9 0 ≡ Refused 9)
-    × (eightAnswer 2 8 0b1100001 ≡ Refused 9) × (eightAnswer 2 8 0b1000100 ≡ Match 5 2)
-    × (eightAnswer 3 6 0b1100001 ≡ Refused 9) × (eightAnswer 3 6 0 ≡ Match 1 1)
-    × (branchAnswer 3 2 2 (7 ∷ 8 ∷ []) ≡ Refused 9) × (branchAnswer 4 2 2 (7 ∷ 8 ∷ []) ≡ Match 8 2)
+    × (eightAnswer 2 8 0b1100001 ≡ Refused 9) × (eightAnswer 2 8 0b1000100 ≡ Match 5 5 2)
+    × (eightAnswer 3 6 0b1100001 ≡ Refused 9) × (eightAnswer 3 6 0 ≡ Match 1 1 1)
+    × (branchAnswer 3 2 2 (7 ∷ 8 ∷ []) ≡ Refused 9) × (branchAnswer 4 2 2 (7 ∷ 8 ∷ []) ≡ Match 8 4 2)
     × (branchAnswer 4 0 0 [] ≡ NoRoute 0) × (branchAnswer 4 2 2 (7 ∷ 0 ∷ []) ≡ NoRoute 2)
 unfolding outside answer placeLevel placeOn onPath mapOf bitAt maskOf pathAt limit found onesBefore highest ones onesIn
     betterOf visit tellBest tellVisited visitedBy listsShort bitmapRefusal lookupBitmapOf
@@ -83,9 +83,24 @@ tooLong = record { internal = 0b1001 ∷ []; external = 0 ∷ []; firstChild = 0
 abbrev farBest : RowLists
 farBest = record { internal = 1 ∷ 1 ∷ []; external = 1 ∷ 0 ∷ []; firstChild = 1 ∷ 0 ∷ []; firstHop = 5 ∷ 1 ∷ [] }
 
-bitmap-edges : (lookupBitmapOf WIDTH (rec 1 1 2) tooLong (7 ∷ 8 ∷ []) 0 ≡ Match 7 1) × (lookupBitmapOf WIDTH (rec 2 1 2) tooLong (7 ∷ 8 ∷ []) 0 ≡ Match 8 1)
-    × (lookupBitmapOf WIDTH (rec 4 2 2) farBest (7 ∷ 8 ∷ []) 0 ≡ Match 8 2) × (lookupBitmapOf WIDTH (rec 4 2 2) farBest (7 ∷ 8 ∷ []) 1 ≡ Refused 9)
+bitmap-edges : (lookupBitmapOf WIDTH (rec 1 1 2) tooLong (7 ∷ 8 ∷ []) 0 ≡ Match 7 0 1)
+    × (lookupBitmapOf WIDTH (rec 2 1 2) tooLong (7 ∷ 8 ∷ []) 0 ≡ Match 8 2 1)
+    × (lookupBitmapOf WIDTH (rec 4 2 2) farBest (7 ∷ 8 ∷ []) 0 ≡ Match 8 4 2) × (lookupBitmapOf WIDTH (rec 4 2 2) farBest (7 ∷ 8 ∷ []) 1 ≡ Refused 9)
     × (lookupBitmapOf WIDTH (rec 0 0 0) farBest [] 0 ≡ Refused 1)
 unfolding outside answer placeLevel placeOn onPath mapOf bitAt maskOf pathAt limit found onesBefore highest ones onesIn
     betterOf visit tellBest tellVisited visitedBy listsShort bitmapRefusal lookupBitmapOf
 bitmap-edges = (refl, refl, refl, refl, refl)
+
+-- the winner is the place of 00 in the second supernode: its length is 4 and 2. Its hop 0 is no route, although the place is set and
+-- length 0 has hop 7; at width 5 it is too long, and length 0 wins
+abbrev second : RowLists
+second = record { internal = 1 ∷ 0b1000 ∷ []; external = 1 ∷ 0 ∷ []; firstChild = 1 ∷ 0 ∷ []; firstHop = 0 ∷ 1 ∷ [] }
+
+abbrev secondAnswer : (width : ℕ) → List ℕ → Answer
+secondAnswer w hs = lookupBitmapOf WIDTH (rec w 2 2) second hs 0
+
+bitmap-second : (secondAnswer 6 (7 ∷ 8 ∷ []) ≡ Match 8 6 2) × (secondAnswer 6 (7 ∷ 65535 ∷ []) ≡ Discard 6 2)
+    × (secondAnswer 6 (7 ∷ 0 ∷ []) ≡ NoRoute 2) × (secondAnswer 5 (7 ∷ 8 ∷ []) ≡ Match 7 0 2)
+unfolding outside answer placeLevel placeOn onPath mapOf bitAt maskOf pathAt limit found onesBefore highest ones onesIn
+    betterOf visit tellBest tellVisited visitedBy listsShort bitmapRefusal lookupBitmapOf
+bitmap-second = (refl, refl, refl, refl)

@@ -1,7 +1,8 @@
 -- A lookup over supernodes, as a function of record, lists and address: tests 1, 8, then 9 (02 [1]). First the supernodes that the rule
 -- visits and the winner, then what they say. `left` address bits are left. k supernodes may still be visited, W / 4 + 1 at first: one
--- more would begin at a level above W. The widest address allowed is `most`.
-use Prim.Native.Nat.{ℕ, zero, suc, _+_, _-_, _/_, _^_}
+-- more would begin at a level above W. The widest address allowed is `most`. A winner's length is the bits of the address that are not
+-- left behind it (02, [5]).
+use Prim.Native.Nat.{ℕ, zero, suc, _+_, _-_, _/_, _^_, _≤_}
 use mathlib.Core.Bool.{Bool, true, false, cond, _||_}
 use mathlib.Core.List.{List, [], _∷_}
 use lib.Dec.{eqb, ltb, leb}
@@ -11,7 +12,7 @@ use Rattle.table.specs.Table.{at}
 use Rattle.walk.specs.declared.walk.Answer.{Answer}
 use Rattle.walk.specs.declared.walk.Answer.the-variants.{Refused}
 use Rattle.walk.specs.Answers.{answer}
-use Rattle.pieces.specs.Maps.{STEP, INTERNAL, bitAt}
+use Rattle.pieces.specs.Maps.{STEP, INTERNAL, bitAt, placeLevel}
 use Rattle.pieces.specs.Rows.{SupernodeRow}
 use Rattle.pieces.specs.Cuts.{pathAt, found, onesBefore, highest, childAt}
 use Rattle.visits.specs.declared.looking.Best.{Best}
@@ -19,10 +20,11 @@ use Rattle.visits.specs.declared.looking.Best.the-variants.{Missing, Won
 use Rattle.visits.specs.declared.record.Bitmap.{Bitmap}
 use Rattle.visits.specs.Rows.{RowLists, rowRoom, supernodeAt}
 
--- the best after one supernode
+-- the best after one supernode: that before, or the place of the highest bit found, and the bits left at its level
 unfoldable pub betterOf : (map firstHop p left : ℕ) → Best → Best
 betterOf map firstHop p left best =
-    cond (eqb (found map p left) 0) best (Won (firstHop + onesBefore map (highest INTERNAL (found map p left))))
+    let i = highest INTERNAL (found map p left) in
+    cond (eqb (found map p left) 0) best (Won (firstHop + onesBefore map i) (left - placeLevel i))
 
 abbrev pub bestAfter : SupernodeRow → (p left : ℕ) → Best → Best
 bestAfter row = betterOf (row .internal) (row .firstHop)
@@ -51,17 +53,22 @@ visit count address row (suc k) i left best =
     (afterVisit i (cond (bitAt (row i .external) p) (visit count address row k (childAt (row i) p) (left - STEP) now) (arrived now)))
     (lost best)
 
+-- no more bits are left behind the winner than the width has
+abbrev pub LeftWithin : Best → (W : ℕ) → Type 0
+LeftWithin Missing W = Unit {0}
+LeftWithin (Won place left) W = left ≤ W
+
 -- what the winner says: its number is below the count, or that is damage
-unfoldable pub tellBest : (hops : ℕ) (hop : ℕ → ℕ) → Best → (reads : ℕ) → Answer
-tellBest hops hop Missing reads = answer 0 reads
-tellBest hops hop (Won place) reads = cond (leb hops place) (Refused 9) (answer (hop place) reads)
+unfoldable pub tellBest : (W hops : ℕ) (hop : ℕ → ℕ) → Best → (reads : ℕ) → Answer
+tellBest W hops hop Missing reads = answer 0 0 reads
+tellBest W hops hop (Won place left) reads = cond (leb hops place) (Refused 9) (answer (hop place) (W - left) reads)
 
 -- what the supernodes visited say, after `reads` before them
-unfoldable pub tellVisited : (hops : ℕ) (hop : ℕ → ℕ) (reads : ℕ) → Visited → Answer
-tellVisited hops hop reads v = cond (v .whole) (tellBest hops hop (v .best) (reads + length (v .numbers))) (Refused 9)
+unfoldable pub tellVisited : (W hops : ℕ) (hop : ℕ → ℕ) (reads : ℕ) → Visited → Answer
+tellVisited W hops hop reads v = cond (v .whole) (tellBest W hops hop (v .best) (reads + length (v .numbers))) (Refused 9)
 
-unfoldable pub visitFrom : (count hops address : ℕ) (row : ℕ → SupernodeRow) (hop : ℕ → ℕ) (k i left : ℕ) → Best → (reads : ℕ) → Answer
-visitFrom count hops address row hop k i left best reads = tellVisited hops hop reads (visit count address row k i left best)
+unfoldable pub visitFrom : (W count hops address : ℕ) (row : ℕ → SupernodeRow) (hop : ℕ → ℕ) (k i left : ℕ) → Best → (reads : ℕ) → Answer
+visitFrom W count hops address row hop k i left best reads = tellVisited W hops hop reads (visit count address row k i left best)
 
 -- from number 0 on, with all bits left
 abbrev pub fromFirst : Bitmap → RowLists → (address : ℕ) → Visited
@@ -92,4 +99,4 @@ bitmapRefusal most rec rows places address =
 unfoldable pub lookupBitmapOf : (most : ℕ) → Bitmap → RowLists → (hops : List ℕ) (address : ℕ) → Answer
 lookupBitmapOf most rec rows hops address =
     let n = bitmapRefusal most rec (rowRoom rows) (length hops) address in
-    cond (eqb n 0) (tellVisited (rec .hops) (at hops) 0 (visitedBy rec rows address)) (Refused n)
+    cond (eqb n 0) (tellVisited (rec .width) (rec .hops) (at hops) 0 (visitedBy rec rows address)) (Refused n)

@@ -1,17 +1,19 @@
 -- What a lookup's answer means, in 02 [1]'s sentences: which answers the promise allows. There is no search in it: the way is any that
--- the rule allows, and hop and reads are read off it.
+-- the rule allows, and hop, length and reads are read off it.
 -- "9 is given exactly when a count exceeds its list or, on the path, a visited supernode or the winning hop is at or past its count, or
--- a supernode would begin at a level above W. Count 0 is the empty trie; a winning hop 0 is no route."
+-- a supernode would begin at a level above W. Count 0 is the empty trie; a winning hop 0 is no route." 02, [5]: "Tree bitmap lookup
+-- answers it too", the matched length.
 use Prim.Native.Nat.{ℕ, _+_, _-_, _^_, _≤_, _<_}
 use mathlib.Core.Path.{_≡_}
-use mathlib.Core.Bool.{Bool, true, false}
+use mathlib.Core.Bool.{Bool, true, false, cond}
 use mathlib.Core.List.{List, [], _∷_}
+use lib.Dec.{eqb}
 use lib.ListN.{length}
 use Rattle.table.specs.Table.{at}
 use Rattle.walk.specs.declared.walk.Answer.{Answer}
 use Rattle.walk.specs.Limits.{Outside, Within}
 use Rattle.walk.specs.Refusals.{RefuseBy, NoMore}
-use Rattle.walk.specs.Answers.{numberOf, hopOf, readsOf, Case}
+use Rattle.walk.specs.Answers.{numberOf, hopOf, lengthOf, readsOf, Case}
 use Rattle.pieces.specs.Maps.{STEP, placeOn}
 use Rattle.pieces.specs.Rows.{SupernodeRow}
 use Rattle.pieces.specs.Cuts.{pathAt, onesBefore, childAt, Bit, NoBit, Matchable, IsLongest}
@@ -20,11 +22,12 @@ use Rattle.visits.specs.declared.looking.Best.the-variants.{Missing, Won
 use Rattle.visits.specs.declared.record.Bitmap.{Bitmap}
 use Rattle.visits.specs.Rows.{RowLists, rowRoom, supernodeAt}
 
--- the best after a supernode: the one before, or the longest match inside, whose hop is found "by the count of ones before"
+-- the best after a supernode: the one before, or the longest match inside, whose hop is found "by the count of ones before"; behind a match
+-- at level j inside, j bits fewer are left than at the supernode
 pub data After (row : SupernodeRow) (p left : ℕ) (best : Best) : Best → Type 0 where
   kept : ((j : ℕ) → Matchable left j → NoBit (row .internal) (placeOn p j)) → After row p left best best
   newest : (j : ℕ) → IsLongest (row .internal) p left j
-      → After row p left best (Won (row .firstHop + onesBefore (row .internal) (placeOn p j)))
+      → After row p left best (Won (row .firstHop + onesBefore (row .internal) (placeOn p j)) (left - j))
 
 -- the supernodes that the rule visits from number i on, the best after them, and whether it comes to a branch without a child (true) or
 -- to damage (false): a supernode at or past the count, or one that would begin at a level above W
@@ -61,18 +64,23 @@ pub data BitmapDamage (rec : Bitmap) (rows : RowLists) (hops : List ℕ) (addres
   rows-short : rowRoom rows < rec .supernodes → BitmapDamage rec rows hops address
   hops-short : length hops < rec .hops → BitmapDamage rec rows hops address
   strays : {is : List ℕ} {b : Best} → 0 < rec .supernodes → FromFirst rec rows address is b false → BitmapDamage rec rows hops address
-  no-hop : {is : List ℕ} {place : ℕ} → 0 < rec .supernodes → FromFirst rec rows address is (Won place) true → rec .hops ≤ place
+  no-hop : {is : List ℕ} {place left : ℕ} → 0 < rec .supernodes → FromFirst rec rows address is (Won place left) true → rec .hops ≤ place
       → BitmapDamage rec rows hops address
 
 -- the winner's hop, 0 where there is no winner
 abbrev pub winningHop : (hops : List ℕ) → Best → ℕ
 winningHop hops Missing = 0
-winningHop hops (Won place) = at hops place
+winningHop hops (Won place left) = at hops place
+
+-- its length: the bits of the address that are not left behind it, 0 where there is no winner; "a winning hop 0 is no route" and has none
+abbrev pub winningLength : (W : ℕ) (hops : List ℕ) → Best → ℕ
+winningLength W hops Missing = 0
+winningLength W hops (Won place left) = cond (eqb (at hops place) 0) 0 (W - left)
 
 -- a winner whose hop is below the count
 abbrev pub InCount : Best → (hops : ℕ) → Type 0
 InCount Missing hops = Unit {0}
-InCount (Won place) hops = place < hops
+InCount (Won place left) hops = place < hops
 
 module _ (most : ℕ) (rec : Bitmap) (rows : RowLists) (hops : List ℕ) (address : ℕ) where
   -- the number of the first test that fails, 0 where none does
@@ -81,10 +89,11 @@ module _ (most : ℕ) (rec : Bitmap) (rows : RowLists) (hops : List ℕ) (addres
       RefuseBy 1 (Outside (rec .width) most)
       (RefuseBy 8 (2 ^ rec .width ≤ address) (RefuseBy 9 (BitmapDamage rec rows hops address) NoMore))
 
-  -- the answers allowed. The number is that of the first test that fails, 0 where none does; where none does, the hop is the winner's
-  -- and the reads are the supernodes on the path; and the case is that of number and hop
+  -- the answers allowed. The number is that of the first test that fails, 0 where none does; where none does, hop and length are the
+  -- winner's and the reads are the supernodes on the path; and the case is that of number and hop
   pub record LookedBitmap (a : Answer) : Type 0 where
     pub tested : BitmapTested (numberOf a)
     pub told : numberOf a ≡ 0
-        → (is : List ℕ) × (b : Best) × OnWay rec rows address is b × (hopOf a ≡ winningHop hops b) × (readsOf a ≡ length is)
+        → (is : List ℕ) × (b : Best) × OnWay rec rows address is b × (hopOf a ≡ winningHop hops b)
+        × (lengthOf a ≡ winningLength (rec .width) hops b) × (readsOf a ≡ length is)
     pub case : Case a

@@ -1,5 +1,5 @@
 // The lookup over supernodes (02 [1]): of each one row is read; the longest match inside it is the new best, and the branch is followed
-// where its external bit is set. Only the last winner's hop is read.
+// where its external bit is set. Only the last winner's hop is read; its length is the bits of the address before it (02, [5]).
 ghost use mathlib.Core.Path.{_≡_};
 ghost use mathlib.Core.Bool.{_||_};
 ghost use Prim.Native.Nat.{ℕ, suc, _/_, _≤_};
@@ -11,13 +11,14 @@ ghost use Rattle.table.specs.Answers.{Told};
 ghost use Rattle.walk.specs.Answers.{answerNumbers};
 ghost use Rattle.pieces.specs.Maps.{STEP, maskOf};
 ghost use Rattle.visits.specs.Rows.{rowLists, rowRoom, supernodeAt};
-ghost use Rattle.visits.specs.Lookup.{betterOf, tellBest, visitFrom, listsShort, bitmapRefusal, lookupBitmapOf};
+ghost use Rattle.visits.specs.Lookup.{betterOf, LeftWithin, tellBest, visitFrom, listsShort, bitmapRefusal, lookupBitmapOf};
 ghost use Rattle.visits.specs.Meaning.{LookedBitmap};
 ghost use Rattle.visits.specs.declared.looking.Best.the-variants.{Missing};
 use crate::limits::STEP;
 use crate::masks::found_on;
 use crate::masks::highest_of;
 use crate::masks::is_set;
+use crate::masks::level_of;
 use crate::masks::masks;
 use crate::masks::ones_before;
 use crate::masks::path_at;
@@ -32,10 +33,10 @@ use walk::hop_numbers;
 use walk::is_beyond;
 use walk::refusal_numbers;
 
-// The longest match so far: the number of its hop.
+// The longest match so far: the number of its hop, and the address bits left behind it.
 pub enum Best {
     Missing,
-    Won { place: usize },
+    Won { place: usize, left: u32 },
 }
 
 // The best after one supernode, `left` address bits being left there: `mask` has the places on the path.
@@ -49,21 +50,22 @@ fn better(map: u16, first: u32, mask: u16, left: u32, best: Best) -> Best
     let i = highest_of(on as u32);
     Best::Won {
         place: first as usize + ones_before(map, i) as usize,
+        left: left - level_of(i),
     }
 }
 
-// What the best says: its hop's number is below the count, or that is damage.
-fn best_numbers(best: Best, reads: u32, hops: &[u16], count: usize) -> AnswerNumbers
-    requires { ⌜ count ≤ length (now hops) ⌝ }
-    ensures { λ r. ⌜ r ≡ answerNumbers (tellBest count (at (now (hops .entry))) best reads) ⌝ }
+// What the best says: its hop's number is below the count, or that is damage; its length is the bits of the address that are not left.
+fn best_numbers(best: Best, width: u32, reads: u32, hops: &[u16], count: usize) -> AnswerNumbers
+    requires { ⌜ (width ≤ WIDTH) × LeftWithin best width × (count ≤ length (now hops)) ⌝ }
+    ensures { λ r. ⌜ r ≡ answerNumbers (tellBest width count (at (now (hops .entry))) best reads) ⌝ }
 {
     match best {
-        Best::Missing => hop_numbers(0, reads),
-        Best::Won { place } => {
+        Best::Missing => hop_numbers(0, 0, reads),
+        Best::Won { place, left } => {
             if count <= place {
                 return refusal_numbers(9);
             }
-            hop_numbers(hops[place], reads)
+            hop_numbers(hops[place], (width - left) as u8, reads)
         }
     }
 }
@@ -85,7 +87,7 @@ fn follow(
         (width ≤ WIDTH) × (supernodes ≤ rowRoom (rowLists (now internal) (now external) (now child) (now first)))
         × (winners ≤ length (now hops)) ⌝ }
     ensures { λ r. ⌜
-        r ≡ answerNumbers (visitFrom supernodes winners address
+        r ≡ answerNumbers (visitFrom width supernodes winners address
         (supernodeAt (rowLists (now (internal .entry)) (now (external .entry)) (now (child .entry)) (now (first .entry))))
         (at (now (hops .entry))) (suc (width / STEP)) 0 width Missing 0) ⌝ }
 {
@@ -100,7 +102,7 @@ fn follow(
         reads += 1;
         let map = external[i];
         if !is_set(map, p) {
-            return best_numbers(best, reads, hops, winners);
+            return best_numbers(best, width, reads, hops, winners);
         }
         if left < STEP {
             return refusal_numbers(9);
@@ -134,8 +136,8 @@ fn first_refusal(rec: Bitmap, rows: usize, places: usize, address: u32) -> u32
     0
 }
 
-// One lookup over supernodes, any record and any lists, in numbers: 0, hop and reads; or the number of a refusal, 1 (width), 8 (address) or
-// 9 (damaged record or rows), and hop and reads 0. No list changes.
+// One lookup over supernodes, any record and any lists, in numbers: 0, hop, length and reads; or the number of a refusal, 1 (width), 8
+// (address) or 9 (damaged record or rows), and hop, length and reads 0. No list changes.
 pub fn lookup_bitmap_numbers(
     rec: Bitmap,
     internal: &[u16],
@@ -162,7 +164,7 @@ pub fn lookup_bitmap_numbers(
         return refusal_numbers(refusal);
     }
     if rec.supernodes == 0 {
-        return hop_numbers(0, 0);
+        return hop_numbers(0, 0, 0);
     }
     follow(
         rec.supernodes as usize,
@@ -177,8 +179,8 @@ pub fn lookup_bitmap_numbers(
     )
 }
 
-// The same as an answer: a match with its hop and reads, a discard or no route with its reads, or a refusal by
-// `lookup_bitmap_numbers`' number. No list changes.
+// The same as an answer: a match with its hop, length and reads, a discard with its length and reads, no route with its reads, or a
+// refusal by `lookup_bitmap_numbers`' number. No list changes.
 pub fn lookup_bitmap(
     rec: Bitmap,
     internal: &[u16],

@@ -2,7 +2,7 @@
 // Maps hold place i as bit i, so the longest match is the highest bit, and what stands before a place are the bits below it.
 ghost use mathlib.Core.Path.{_≡_};
 ghost use Prim.Native.Nat.{ℕ, _-_, _^_, _<_, _≤_};
-ghost use Rattle.pieces.specs.Maps.{EXTERNAL, INTERNAL, MasksAre, maskOf, bitAt};
+ghost use Rattle.pieces.specs.Maps.{EXTERNAL, INTERNAL, MasksAre, maskOf, bitAt, placeLevel};
 ghost use Rattle.pieces.specs.Cuts.{pathAt, limit, found, onesBefore, highest};
 ghost use Rattle.walk.specs.Limits.{WIDTH};
 use crate::limits::EXTERNAL;
@@ -61,7 +61,7 @@ fn within(left: u32) -> u16
 // The internal bits on the path, none of a length above the width.
 pub(crate) fn found_on(map: u16, mask: u16, left: u32) -> u16
     ensures { λ r. ⌜ ((p : ℕ) → mask ≡ maskOf p → r ≡ found map p left) ⌝ }
-    ensures { λ r. ⌜ r < 2 ^ INTERNAL ⌝ }
+    ensures { λ r. ⌜ r < 2 ^ limit left ⌝ }
 {
     map & mask & within(left)
 }
@@ -73,6 +73,14 @@ pub(crate) fn highest_of(on: u32) -> usize
     ensures { λ r. ⌜ r < INTERNAL ⌝ }
 {
     (31 - u32::leading_zeros(on)) as usize
+}
+
+// The level of a place: 2 ^ j - 1 places come before level j, so it is the highest bit of the place's number counted from 1.
+pub(crate) fn level_of(i: usize) -> u32
+    requires { ⌜ i < INTERNAL ⌝ }
+    ensures { λ r. ⌜ r ≡ placeLevel i ⌝ }
+{
+    highest_of(i as u32 + 1) as u32
 }
 
 pub(crate) fn ones_before(map: u16, i: usize) -> u32

@@ -18,11 +18,11 @@ use Rattle.walk.specs.Refusals.{fails, passes}
 use Rattle.walk.specs.Rows.{Lists, shortest, rowAt, root}
 use Rattle.walk.specs.declared.numbers.AnswerNumbers.{AnswerNumbers}
 use Rattle.table.specs.Answers.{Told}
-use Rattle.walk.specs.Answers.{numberOf, latest, answer, Case, answerNumbers}
+use Rattle.walk.specs.Answers.{numberOf, Best, floorBest, latest, answer, Case, answerNumbers}
 use Rattle.walk.specs.Lookup.{ended, tell, fromRoot, pathOf, lookupOf}
 use Rattle.walk.specs.Meaning.{Passed, FromRoot, Damage, short, rootless, breaks, OnPath, empty, walked, Tested, Looked}
 use Rattle.walk.proofs.Tests.{within-not, refusal-cases}
-use Rattle.walk.proofs.Answers.{answer-has, answer-number, answer-case}
+use Rattle.walk.proofs.Answers.{latest-named, answer-number, answer-hop, answer-length, answer-reads, answer-case}
 use Rattle.walk.proofs.Unique.{path-unique, looked-unique}
 use Rattle.walk.proofs.Paths.{trail-path}
 
@@ -43,30 +43,35 @@ module _ (most : ℕ) (rec : Record) (ls : Lists) (address : ℕ) where
   refused-looked : {n : ℕ} → Tested most rec ls address n → 0 < n → Looked most rec ls address (Refused n)
   refused-looked t h = record { tested = t; told = λ z. absurd (omega arith); case = h }
 
-  accepted-looked : {rs : List ℕ} {a : Answer} → Tested most rec ls address 0 → OnPath rec ls address rs
-      → a ≡ answer (latest (rowAt ls) (rec .floor) rs) (length rs) → Looked most rec ls address a
+  -- the best after these rows, and the answer that it makes
+  abbrev bestOn : List ℕ → Best
+  bestOn = latest (rowAt ls) (floorBest (rec .floor))
+
+  abbrev answerOn : List ℕ → Answer
+  answerOn rs = answer (bestOn rs .hop) (bestOn rs .len) (length rs)
+
+  accepted-looked : {rs : List ℕ} {a : Answer} → Tested most rec ls address 0 → OnPath rec ls address rs → a ≡ answerOn rs → Looked most rec ls address a
   accepted-looked {rs} t o e =
-      let best = latest (rowAt ls) (rec .floor) rs in
-      let has = answer-has best (length rs) in
+      let b = bestOn rs in
       rw e (record {
-        tested = rw (answer-number best (length rs)) t;
-        told = λ z. (rs, o, has .0, has .1);
-        case = answer-case best (length rs);
+        tested = rw (answer-number (b .hop) (b .len) (length rs)) t;
+        told = λ z. (rs, o, (answer-hop (b .hop) (b .len) _, answer-length b _ (latest-named _ _ rs (λ h. refl)), answer-reads (b .hop) (b .len) _));
+        case = answer-case (b .hop) (b .len) _;
       })
 
   -- past the tests, what the path says is allowed
-  past-tests : Passed most rec (shortest ls) address → Looked most rec ls address (tell (rowAt ls) (rec .floor) 0 (pathOf rec ls address))
+  past-tests : Passed most rec (shortest ls) address → Looked most rec ls address (tell (rowAt ls) (floorBest (rec .floor)) 0 (pathOf rec ls address))
   unfolding pathOf tell latest
   past-tests p = go (eqb (root rec) 0) refl
     where
       along : (rs : List ℕ) (w : Bool) → 0 < root rec → FromRoot rec ls address rs w
-          → Looked most rec ls address (cond w (answer (latest (rowAt ls) (rec .floor) rs) (0 + length rs)) (Refused 9))
+          → Looked most rec ls address (cond w (answer (bestOn rs .hop) (bestOn rs .len) (0 + length rs)) (Refused 9))
       along rs true g q =
-          accepted-looked (none p (walked g q)) (walked g q) (ap (answer _) (zero-add _))
+          accepted-looked (none p (walked g q)) (walked g q) (ap (answer _ _) (zero-add _))
       along rs false g q = refused-looked (nine (p .width) (p .levels) (p .inside) (breaks g q)) (omega arith)
 
       go : (z : Bool) → eqb (root rec) 0 ≡ z
-          → Looked most rec ls address (tell (rowAt ls) (rec .floor) 0 (cond z ended (fromRoot rec ls address)))
+          → Looked most rec ls address (tell (rowAt ls) (floorBest (rec .floor)) 0 (cond z ended (fromRoot rec ls address)))
       go true e = let z = eqb-true _ _ e in accepted-looked (none p (empty z)) (empty z) refl
       go false e =
           along _ _ (omega (arith, eqb-false (root rec) 0 e)) (trail-path _ _ _ _ _ _ _)
@@ -76,7 +81,7 @@ module _ (most : ℕ) (rec : Record) (ls : Lists) (address : ℕ) where
   unfolding lookupOf
   looked =
       refusal-cases most rec (shortest ls) address
-      (λ (n : ℕ). Looked most rec ls address (cond (eqb n 0) (tell (rowAt ls) (rec .floor) 0 (pathOf rec ls address)) (Refused n)))
+      (λ (n : ℕ). Looked most rec ls address (cond (eqb n 0) (tell (rowAt ls) (floorBest (rec .floor)) 0 (pathOf rec ls address)) (Refused n)))
       (λ o. refused-looked (fails o) (omega arith))
       (λ w o. refused-looked (passes (within-not w) (fails o)) (omega arith))
       (λ w k o. refused-looked (passes (within-not w) (passes (within-not k) (fails o))) (omega arith))
@@ -93,7 +98,7 @@ module _ (most : ℕ) (rec : Record) (ls : Lists) (address : ℕ) where
 
   -- where the tests pass and the path comes to its end, the answer is what its rows say
   pub path-answer : {rs : List ℕ} → Passed most rec (shortest ls) address → OnPath rec ls address rs
-      → lookupOf most rec ls address ≡ answer (latest (rowAt ls) (rec .floor) rs) (length rs)
+      → lookupOf most rec ls address ≡ answerOn rs
   path-answer p o = looked-unique looked (accepted-looked (none p o) o refl)
 
   -- a refusal is given exactly where its test is the first to fail

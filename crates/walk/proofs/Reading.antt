@@ -11,7 +11,7 @@ use lib.ListN.{length}
 use Rattle.walk.specs.declared.record.Record.{Record}
 use Rattle.walk.specs.declared.walk.Answer.{Answer}
 use Rattle.walk.specs.Rows.{Lists, shortest, rowAt, root}
-use Rattle.walk.specs.Answers.{numberOf, hopOf, readsOf, NotRefused, latest}
+use Rattle.walk.specs.Answers.{numberOf, hopOf, lengthOf, readsOf, NotRefused, Carries, floorBest, latest}
 use Rattle.walk.specs.Lookup.{Trail, ended, tell, fromRoot, pathOf, pathRows, lookupOf}
 use Rattle.walk.specs.Meaning.{OnPath, empty, walked, Looked}
 use Rattle.walk.proofs.Tests.{tests-same}
@@ -40,8 +40,8 @@ module _ (rec : Record) (ls : Lists) (address : ℕ) where
 module _ (most : ℕ) (rec : Record) (ls : Lists) (address : ℕ) where
   -- what an accepted answer says, of the rule's own rows
   on-rows : {a : Answer} → Looked most rec ls address a → NotRefused a → OnPath rec ls address (pathRows rec ls address)
-      × (hopOf a ≡ latest (rowAt ls) (rec .floor) (pathRows rec ls address)) × (readsOf a ≡ length (pathRows rec ls address))
-  on-rows l z = let t = l .told z in rw (path-rows rec ls address (t .1)) (t .1, t .2, t .3)
+      × Carries a (latest (rowAt ls) (floorBest (rec .floor)) (pathRows rec ls address)) (length (pathRows rec ls address))
+  on-rows l z = let t = l .told z in rw (path-rows rec ls address (t .1)) (t .1, t .2)
 
   module _ (z : NotRefused (lookupOf most rec ls address)) where
     -- an accepted lookup went along the path to its end
@@ -50,16 +50,17 @@ module _ (most : ℕ) (rec : Record) (ls : Lists) (address : ℕ) where
 
     -- it has as many reads as there are rows on it
     pub reads-path : readsOf (lookupOf most rec ls address) ≡ length (pathRows rec ls address)
-    reads-path = on-rows (looked most rec ls address) z .2
+    reads-path = on-rows (looked most rec ls address) z .1 .2
 
-    -- and the hop that they leave as best
-    pub hop-path : hopOf (lookupOf most rec ls address) ≡ latest (rowAt ls) (rec .floor) (pathRows rec ls address)
-    hop-path = on-rows (looked most rec ls address) z .1
+    -- and the hop and the length that they leave as best
+    pub best-path : let b = latest (rowAt ls) (floorBest (rec .floor)) (pathRows rec ls address) in
+        (hopOf (lookupOf most rec ls address) ≡ b .hop) × (lengthOf (lookupOf most rec ls address) ≡ b .len)
+    best-path = let o = on-rows (looked most rec ls address) z .1 in (o .0, o .1)
 
   -- no lookup has more reads than k
   pub reads-most : readsOf (lookupOf most rec ls address) ≤ rec .levels
   reads-most = elim (decLe (numberOf a) 0) [
-    | yes z ↦ let t = looked most rec ls address .told (omega arith) in omega (arith, t .3, few (t .1))
+    | yes z ↦ let t = looked most rec ls address .told (omega arith) in omega (arith, t .2 .2, few (t .1))
     | no z ↦ omega (arith, refused-none a (omega arith))
   ]
     where
@@ -83,9 +84,9 @@ module _ (rec : Record) (address : ℕ) (ls ls′ : Lists) (same : (r : ℕ) →
       go true s = (refl, refl)
       go false s = path-unique (path-local (trail-path _ _ _ _ _ _ _) s) (trail-path _ _ _ _ _ _ _)
 
-  tell-same : tell (rowAt ls) (rec .floor) 0 (pathOf rec ls address) ≡ tell (rowAt ls′) (rec .floor) 0 (pathOf rec ls′ address)
+  tell-same : tell (rowAt ls) (floorBest (rec .floor)) 0 (pathOf rec ls address) ≡ tell (rowAt ls′) (floorBest (rec .floor)) 0 (pathOf rec ls′ address)
   unfolding tell
-  tell-same = rw (latest-local (rowAt ls) (rowAt ls′) (rec .floor) (pathRows rec ls address) same, path-same .0, path-same .1)
+  tell-same = rw (latest-local (rowAt ls) (rowAt ls′) (floorBest (rec .floor)) (pathRows rec ls address) same, path-same .0, path-same .1)
 
   -- and the answer, where neither is shorter than E
   pub lookup-local : (most : ℕ) → rec .elements ≤ shortest ls → rec .elements ≤ shortest ls′ → lookupOf most rec ls address ≡ lookupOf most rec ls′ address

@@ -13,7 +13,7 @@ use Rattle.walk.specs.Refusals.{RefuseBy, fails, passes}
 use Rattle.walk.specs.Rows.{Row, Lists, rowAt, rowOf}
 use Rattle.walk.specs.declared.numbers.AnswerNumbers.{AnswerNumbers}
 use Rattle.table.specs.Answers.{Told}
-use Rattle.walk.specs.Answers.{numberOf, hopOf, readsOf, latest, answerNumbers}
+use Rattle.walk.specs.Answers.{numberOf, hopOf, lengthOf, readsOf, Best, floorBest, latest, answerNumbers}
 use Rattle.walk.specs.Meaning.{Readable, Damaged, no-stride, too-wide, past-end, Path, spent, damaged, last, on, OnPath, empty, walked, Tested, Looked}
 use Rattle.table.proofs.Unique.{told-unique}
 use Rattle.walk.proofs.Answers.{refused-none, answer-unique}
@@ -60,17 +60,21 @@ module _ {most : ℕ} {rec : Record} {ls : Lists} {address : ℕ} where
   pub tested-unique : {n m : ℕ} → Tested most rec ls address n → Tested most rec ls address m → n ≡ m
   tested-unique = test-unique (λ i j. test-unique (λ i j. test-unique (λ i j. test-unique (λ i j p q. p ∙ sym q))))
 
-  same-told : {a b : Answer} → Looked most rec ls address a → Looked most rec ls address b → numberOf a ≡ numberOf b → (hopOf a ≡ hopOf b) × (readsOf a ≡ readsOf b)
+  same-told : {a b : Answer} → Looked most rec ls address a → Looked most rec ls address b → numberOf a ≡ numberOf b
+      → (hopOf a ≡ hopOf b) × (lengthOf a ≡ lengthOf b) × (readsOf a ≡ readsOf b)
   same-told {a} {b} l m e = elim (decLe (numberOf a) 0) [
     | yes z ↦
         let p = l .told (omega arith) in
         let q = m .told (omega arith) in
         let one = on-path-unique (p .1) (q .1) in
-        (p .2 ∙ ap (latest (rowAt ls) (rec .floor)) one ∙ sym (q .2), p .3 ∙ ap length one ∙ sym (q .3))
+        let best = ap (latest (rowAt ls) (floorBest (rec .floor))) one in
+        let s = p .2 in
+        let t = q .2 in
+        (s .0 ∙ ap (λ (b : Best). b .hop) best ∙ sym (t .0), s .1 ∙ ap (λ (b : Best). b .len) best ∙ sym (t .1), s .2 ∙ ap length one ∙ sym (t .2))
     | no z ↦
         let p = refused-none a (omega arith) in
         let q = refused-none b (omega arith) in
-        (p .0 ∙ sym (q .0), p .1 ∙ sym (q .1))
+        (p .0 ∙ sym (q .0), p .1 ∙ sym (q .1), p .2 ∙ sym (q .2))
   ]
 
   -- one answer is allowed
@@ -78,7 +82,7 @@ module _ {most : ℕ} {rec : Record} {ls : Lists} {address : ℕ} where
   looked-unique {a} {b} l m =
       let n : numberOf a ≡ numberOf b = tested-unique (l .tested) (m .tested) in
       let s = same-told l m n in
-      answer-unique a b n (s .0) (s .1) (l .case) (m .case)
+      answer-unique a b n (s .0) (s .1) (s .2) (l .case) (m .case)
 
   -- and so one is told in numbers
   pub lookup-unique : {r r′ : AnswerNumbers}

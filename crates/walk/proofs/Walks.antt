@@ -6,11 +6,10 @@ use mathlib.Core.Bool.{Bool, true, false, cond, _&&_}
 use native.Mathlib.Omega.{arith}
 use lib.Dec.{leb, ltb}
 use borrow.Author.Tests.{eq-eqb, ne-eqb, ltb-true, ltb-false, leb-true, leb-false}
-use Rattle.table.specs.Longest.{newer}
 use Rattle.walk.specs.declared.record.Record.{Record}
 use Rattle.walk.specs.declared.walk.Answer.the-variants.{Refused}
 use Rattle.walk.specs.Rows.{Row, Lists, shortest, rowAt, root, rowOf}
-use Rattle.walk.specs.Answers.{latest, answer}
+use Rattle.walk.specs.Answers.{Best, floorBest, better, latest, answer}
 use Rattle.walk.specs.Lookup.{readable, Trail, ended, behind, trail, tell, walk, fromRoot, pathOf, refusalOf, lookupOf}
 use Rattle.walk.specs.Meaning.{Readable, Damaged, no-stride, too-wide, past-end}
 use Rattle.walk.proofs.Unique.{not-both}
@@ -35,13 +34,14 @@ module _ (e address base s left : ℕ) where
   readable-false d = read-cases (λ (t : Bool). t ≡ false) (λ h. absurd (not-both h d)) (λ g. refl)
 
 -- a row at the front is counted, and is the new best where its hop is not 0
-tell-behind : (at : ℕ → Row) (best reads r : ℕ) (t : Trail)
-    → tell at best reads (behind r t) ≡ tell at (newer (at r .hop) best) (reads + 1) t
+tell-behind : (at : ℕ → Row) (best : Best) (reads r : ℕ) (t : Trail)
+    → tell at best reads (behind r t) ≡ tell at (better (at r) best) (reads + 1) t
 unfolding tell latest
 tell-behind at best reads r t =
-    ap (λ (n : ℕ). cond (t .whole) (answer (latest at (newer (at r .hop) best) (t .rows)) n) (Refused 9)) (omega arith)
+    let b = latest at (better (at r) best) (t .rows) in
+    ap (λ (n : ℕ). cond (t .whole) (answer (b .hop) (b .len) n) (Refused 9)) (omega arith)
 
-module _ (e address : ℕ) (at : ℕ → Row) (k base s left best reads : ℕ) where
+module _ (e address : ℕ) (at : ℕ → Row) (k base s left : ℕ) (best : Best) (reads : ℕ) where
   pub walk-stops : Damaged e address base s left → walk e address at k base s left best reads ≡ Refused 9
   unfolding walk trail tell
   walk-stops d = elim k [ zero ↦ refl | suc j ↦ rw (readable-false e address base s left d) ]
@@ -50,9 +50,9 @@ module _ (e address : ℕ) (at : ℕ → Row) (k base s left best reads : ℕ) w
   unfolding walk trail tell
   walk-spends z = rw z
 
-  module _ {j r b : ℕ} (f : k ≡ suc j) (h : Readable e address base s left) (q : r ≡ rowOf address base s left)
-      (m : b ≡ newer (at r .hop) best) where
-    pub walk-ends : at r .link ≡ 0 → walk e address at k base s left best reads ≡ answer b (reads + 1)
+  module _ {j r : ℕ} {b : Best} (f : k ≡ suc j) (h : Readable e address base s left) (q : r ≡ rowOf address base s left)
+      (m : b ≡ better (at r) best) where
+    pub walk-ends : at r .link ≡ 0 → walk e address at k base s left best reads ≡ answer (b .hop) (b .len) (reads + 1)
     unfolding walk trail tell latest
     walk-ends z = rw (f, readable-true e address base s left h, ← q, eq-eqb _ _ z, m)
 
@@ -76,11 +76,11 @@ module _ (most : ℕ) (rec : Record) (ls : Lists) (address : ℕ) where
   lookup-early e h = rw (← e, ne-eqb _ _ h)
 
   module _ (e : refusalOf most rec (shortest ls) address ≡ 0) where
-    pub lookup-empty : root rec ≡ 0 → lookupOf most rec ls address ≡ answer (rec .floor) 0
+    pub lookup-empty : root rec ≡ 0 → lookupOf most rec ls address ≡ answer (rec .floor) 0 0
     unfolding lookupOf tell latest
     lookup-empty z = rw (eq-eqb _ _ e, path-empty rec ls address z)
 
     pub lookup-walks : (root rec ≡ 0 → ⊥) → lookupOf most rec ls address
-        ≡ walk (rec .elements) address (rowAt ls) (rec .levels) 0 (root rec) (rec .width) (rec .floor) 0
+        ≡ walk (rec .elements) address (rowAt ls) (rec .levels) 0 (root rec) (rec .width) (floorBest (rec .floor)) 0
     unfolding lookupOf walk
     lookup-walks z = rw (eq-eqb _ _ e, path-root rec ls address z)

@@ -1,5 +1,5 @@
 -- A lookup, as a function of record, lists and address: document 01, "The element rows", and the tests 1, 2, 8, then 9.
--- First the rows that the rule reads (links and strides lead there), then what they say (hops, and how many they are).
+-- First the rows that the rule reads (links and strides lead there), then what they say (hop and length, and how many they are).
 -- The widest address allowed is `most`.
 use Prim.Native.Nat.{ℕ, zero, suc, _+_, _-_, _^_}
 use mathlib.Core.Bool.{Bool, true, false, cond, not, _&&_, _||_}
@@ -12,7 +12,7 @@ use Rattle.walk.specs.declared.record.Record.{Record}
 use Rattle.walk.specs.Limits.{LEVELS}
 use Rattle.table.specs.Limits.{outside}
 use Rattle.walk.specs.Rows.{Row, Lists, shortest, rowAt, root, rowOf}
-use Rattle.walk.specs.Answers.{latest, answer}
+use Rattle.walk.specs.Answers.{Best, floorBest, latest, answer}
 
 -- a block can be read: its stride is not 0 and does not exceed the bits left, and its row is below E
 unfoldable pub readable : (e address base s left : ℕ) → Bool
@@ -42,11 +42,12 @@ trail e address at (suc k) base s left =
     broken
 
 -- what a trail says, after `reads` rows with that best
-unfoldable pub tell : (at : ℕ → Row) (best reads : ℕ) → Trail → Answer
-tell at best reads t = cond (t .whole) (answer (latest at best (t .rows)) (reads + length (t .rows))) (Refused 9)
+unfoldable pub tell : (at : ℕ → Row) → Best → (reads : ℕ) → Trail → Answer
+tell at best reads t =
+    let b = latest at best (t .rows) in cond (t .whole) (answer (b .hop) (b .len) (reads + length (t .rows))) (Refused 9)
 
 -- the walk from a block on, with k blocks left to read, the best so far and the reads so far
-unfoldable pub walk : (e address : ℕ) (at : ℕ → Row) (k base s left best reads : ℕ) → Answer
+unfoldable pub walk : (e address : ℕ) (at : ℕ → Row) (k base s left : ℕ) → Best → (reads : ℕ) → Answer
 walk e address at k base s left best reads = tell at best reads (trail e address at k base s left)
 
 -- the trail from the root's block, at row 0 and with all bits left
@@ -76,4 +77,4 @@ refusalOf most rec n address =
 unfoldable pub lookupOf : (most : ℕ) → Record → Lists → (address : ℕ) → Answer
 lookupOf most rec ls address =
     let n = refusalOf most rec (shortest ls) address in
-    cond (eqb n 0) (tell (rowAt ls) (rec .floor) 0 (pathOf rec ls address)) (Refused n)
+    cond (eqb n 0) (tell (rowAt ls) (floorBest (rec .floor)) 0 (pathOf rec ls address)) (Refused n)

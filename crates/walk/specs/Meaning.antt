@@ -1,5 +1,5 @@
 -- What a lookup's answer means, in document 01's sentences: which answers the promise allows. There is no search in it: the path is
--- any that the rule allows, and hop and reads are read off its rows.
+-- any that the rule allows, and hop, length and reads are read off its rows.
 -- "A lookup tests 1, 2, 8, then 9. Refusal 9 is given exactly when E exceeds the shortest list; or root stride is 0 while
 -- E is not; or on the path a stride is 0 or exceeds the bits left, a row read is at or past E, or a block after the k-th
 -- is called for. (Root stride 0 with E = 0 is the empty trie.)"
@@ -13,7 +13,7 @@ use Rattle.walk.specs.declared.record.Record.{Record}
 use Rattle.walk.specs.Limits.{LEVELS, Outside, Within}
 use Rattle.walk.specs.Refusals.{RefuseBy, NoMore}
 use Rattle.walk.specs.Rows.{Row, Lists, shortest, rowAt, root, rowOf}
-use Rattle.walk.specs.Answers.{numberOf, hopOf, readsOf, Case, latest}
+use Rattle.walk.specs.Answers.{numberOf, Case, Carries, floorBest, latest}
 
 -- no test fails before the first row: n rows are lent
 pub record Passed (most : ℕ) (rec : Record) (n address : ℕ) : Type 0 where
@@ -70,10 +70,11 @@ module _ (most : ℕ) (rec : Record) (ls : Lists) (address : ℕ) where
       (RefuseBy 2 (Outside (rec .levels) LEVELS) (RefuseBy 8 (2 ^ rec .width ≤ address)
       (RefuseBy 9 (Damage rec ls address) NoMore)))
 
-  -- the answers allowed. The number is that of the first test that fails, 0 where none does; where none does, hop and reads are what
-  -- the rows on the path say: the floor or the latest nonzero hop, and how many rows they are; and the case is that of number and hop
+  -- the answers allowed. The number is that of the first test that fails, 0 where none does; where none does, hop, length and reads are
+  -- what the rows on the path say: the floor and 0, or the latest nonzero hop and the length beside it, and how many rows they are; and
+  -- the case is that of number and hop
   pub record Looked (a : Answer) : Type 0 where
     pub tested : Tested (numberOf a)
     pub told : numberOf a ≡ 0
-        → (rs : List ℕ) × OnPath rec ls address rs × (hopOf a ≡ latest (rowAt ls) (rec .floor) rs) × (readsOf a ≡ length rs)
+        → (rs : List ℕ) × OnPath rec ls address rs × Carries a (latest (rowAt ls) (floorBest (rec .floor)) rs) (length rs)
     pub case : Case a

@@ -1,13 +1,15 @@
-// The lookup of document 01, "The element rows": the floor is the first best; at each block one row is
-// read and counted, a nonzero hop is the new best, a nonzero link is followed. The tests that read no
-// row stand in a function of their own, so that nothing but they comes before the loop over the rows.
+// The lookup of document 01, "The element rows": the floor is the first best; at each block one row is read and counted, a nonzero hop
+// is the new best, with the length beside it (02, [5]), a nonzero link is followed. The tests that read no row stand in a function of
+// their own, so that nothing but they comes before the loop over the rows.
 ghost use mathlib.Core.Path.{_≡_};
+ghost use mathlib.Core.Bool.{cond};
 ghost use Prim.Native.Nat.{_≤_};
+ghost use lib.Dec.{eqb};
 ghost use Rattle.table.specs.Longest.{newer};
 ghost use Rattle.walk.specs.Limits.{WIDTH};
 ghost use Rattle.walk.specs.Rows.{lists, shortest, rowAt};
 ghost use Rattle.table.specs.Answers.{Told};
-ghost use Rattle.walk.specs.Answers.{answerNumbers, answerOf};
+ghost use Rattle.walk.specs.Answers.{floorBest, answerNumbers, answerOf};
 ghost use Rattle.walk.specs.Lookup.{walk, unfit, refusalOf, lookupOf};
 ghost use Rattle.walk.specs.Meaning.{Looked};
 use crate::address::cut;
@@ -23,8 +25,8 @@ use table::is_outside;
 use table::smaller;
 
 pub enum Answer {
-    Match { hop: u16, reads: u32 },
-    Discard { reads: u32 },
+    Match { hop: u16, length: u8, reads: u32 },
+    Discard { length: u8, reads: u32 },
     NoRoute { reads: u32 },
     Refused { number: u32 },
 }
@@ -34,6 +36,13 @@ fn newer(hop: u16, best: u16) -> u16
     ensures { λ r. ⌜ r ≡ newer hop best ⌝ }
 {
     if hop == 0 { best } else { hop }
+}
+
+// And the length beside it is the new length.
+fn newer_length(hop: u16, found: u8, len: u8) -> u8
+    ensures { λ r. ⌜ r ≡ cond (eqb hop 0) len found ⌝ }
+{
+    if hop == 0 { len } else { found }
 }
 
 // The answer that numbers say: hop 0 is no route, DISCARD a discard.
@@ -52,11 +61,13 @@ pub fn answer_of(numbers: AnswerNumbers) -> Answer
     }
     if numbers.hop == DISCARD {
         return Answer::Discard {
+            length: numbers.length,
             reads: numbers.reads,
         };
     }
     Answer::Match {
         hop: numbers.hop,
+        length: numbers.length,
         reads: numbers.reads,
     }
 }
@@ -67,6 +78,7 @@ fn follow(
     elements: usize,
     address: u32,
     hop: &[u16],
+    lens: &[u8],
     link: &[u32],
     stride: &[u8],
     levels: u32,
@@ -74,15 +86,17 @@ fn follow(
     width: u32,
     floor: u16,
 ) -> AnswerNumbers
-    requires { ⌜ (elements ≤ shortest (lists (now hop) (now link) (now stride))) × (width ≤ WIDTH) ⌝ }
+    requires { ⌜ (elements ≤ shortest (lists (now hop) (now lens) (now link) (now stride))) × (width ≤ WIDTH) ⌝ }
     ensures { λ r. ⌜
         r ≡ answerNumbers
-        (walk elements address (rowAt (lists (now (hop .entry)) (now (link .entry)) (now (stride .entry)))) levels 0 root width floor 0) ⌝ }
+        (walk elements address (rowAt (lists (now (hop .entry)) (now (lens .entry)) (now (link .entry)) (now (stride .entry)))) levels 0 root width
+        (floorBest floor) 0) ⌝ }
 {
     let mut base: usize = 0;
     let mut s: u32 = root;
     let mut left: u32 = width;
     let mut best: u16 = floor;
+    let mut len: u8 = 0;
     let mut reads: u32 = 0;
     while reads < levels {
         if s == 0 {
@@ -96,11 +110,13 @@ fn follow(
         if elements <= row {
             return refusal_numbers(9);
         }
-        best = newer(hop[row], best);
+        let h = hop[row];
+        best = newer(h, best);
+        len = newer_length(h, lens[row], len);
         reads += 1;
         let next = link[row];
         if next == 0 {
-            return hop_numbers(best, reads);
+            return hop_numbers(best, len, reads);
         }
         base = next as usize;
         s = stride[row] as u32;
@@ -134,33 +150,38 @@ fn first_refusal(rec: Record, rows: usize, address: u32) -> u32
     0
 }
 
-// One lookup, over any record and any lists, in numbers: 0, hop and reads; or the number of a refusal, 1 (width), 2 (levels), 8 (address)
-// or 9 (damaged record or rows), and hop and reads 0. No list changes.
+// One lookup, over any record and any lists, in numbers: 0, hop, length and reads; or the number of a refusal, 1 (width), 2 (levels), 8
+// (address) or 9 (damaged record or rows), and hop, length and reads 0. No list changes.
 pub fn lookup_numbers(
     rec: Record,
     hop: &[u16],
+    lens: &[u8],
     link: &[u32],
     stride: &[u8],
     address: u32,
 ) -> AnswerNumbers
     ensures exact { λ r. ⌜
-        r ≡ answerNumbers (lookupOf WIDTH rec (lists (now (hop .entry)) (now (link .entry)) (now (stride .entry))) address) ⌝ }
+        r ≡ answerNumbers (lookupOf WIDTH rec (lists (now (hop .entry)) (now (lens .entry)) (now (link .entry)) (now (stride .entry))) address) ⌝ }
     ensures meaning { λ r. ⌜
-        Told (Looked WIDTH rec (lists (now (hop .entry)) (now (link .entry)) (now (stride .entry))) address) answerNumbers r ⌝ }
+        Told (Looked WIDTH rec (lists (now (hop .entry)) (now (lens .entry)) (now (link .entry)) (now (stride .entry))) address) answerNumbers r ⌝ }
 {
-    let rows = smaller(hop.len(), smaller(link.len(), stride.len()));
+    let rows = smaller(
+        hop.len(),
+        smaller(lens.len(), smaller(link.len(), stride.len())),
+    );
     let refusal = first_refusal(rec, rows, address);
     if refusal != 0 {
         return refusal_numbers(refusal);
     }
     let root = rec.strides[0] as u32;
     if root == 0 {
-        return hop_numbers(rec.floor, 0);
+        return hop_numbers(rec.floor, 0, 0);
     }
     follow(
         rec.elements as usize,
         address,
         hop,
+        lens,
         link,
         stride,
         rec.levels,
@@ -170,11 +191,18 @@ pub fn lookup_numbers(
     )
 }
 
-// The same as an answer: a match with its hop and reads, a discard or no route with its reads, or a refusal by `lookup_numbers`'
-// number. No list changes.
-pub fn lookup(rec: Record, hop: &[u16], link: &[u32], stride: &[u8], address: u32) -> Answer
-    ensures exact { λ r. ⌜ r ≡ lookupOf WIDTH rec (lists (now (hop .entry)) (now (link .entry)) (now (stride .entry))) address ⌝ }
-    ensures meaning { λ r. ⌜ Looked WIDTH rec (lists (now (hop .entry)) (now (link .entry)) (now (stride .entry))) address r ⌝ }
+// The same as an answer: a match with its hop, length and reads, a discard with its length and reads, no route with its reads, or a
+// refusal by `lookup_numbers`' number. No list changes.
+pub fn lookup(
+    rec: Record,
+    hop: &[u16],
+    lens: &[u8],
+    link: &[u32],
+    stride: &[u8],
+    address: u32,
+) -> Answer
+    ensures exact { λ r. ⌜ r ≡ lookupOf WIDTH rec (lists (now (hop .entry)) (now (lens .entry)) (now (link .entry)) (now (stride .entry))) address ⌝ }
+    ensures meaning { λ r. ⌜ Looked WIDTH rec (lists (now (hop .entry)) (now (lens .entry)) (now (link .entry)) (now (stride .entry))) address r ⌝ }
 {
-    answer_of(lookup_numbers(rec, hop, link, stride, address))
+    answer_of(lookup_numbers(rec, hop, lens, link, stride, address))
 }

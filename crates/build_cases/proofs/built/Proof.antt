@@ -15,23 +15,28 @@ say-built-requires c κs = search needs
 
 same-length : tie.Need-same-length
 same-length c =
-    let after = c .before .before .before .before .before .before .before .before .before .before .before .before .before in
-    omega (arith, after .build .kept, after .before .before .before .before .before .before .before .before .before .before .before .before .before .mark-lists .kept)
+    let after = c .before .before .before .before .before .before .before .before .before .before .before .before .before .before .before .before in
+    omega (arith, after .build .kept, after .before .before .before .before .before .before .before .before .before .before .before .before .before .before .before .before .mark-lists .kept)
 
 same-length-2 : tie.Need-same-length-2
 same-length-2 c =
-    let after = c .before .before .before .before .before .before .before .before .before .before .before .before .before in
-    omega (arith, after .build .kept, after .before .before .before .before .before .before .before .before .before .before .before .before .before .mark-lists .kept)
+    let after = c .before .before .before .before .before .before .before .before .before .before .before .before .before .before .before .before in
+    omega (arith, after .build .kept, after .before .before .before .before .before .before .before .before .before .before .before .before .before .before .before .before .mark-lists .kept)
 
 same-length-3 : tie.Need-same-length-3
 same-length-3 c =
-    let after = c .before .before .before .before .before .before .before .before .before .before .before .before .before in
-    omega (arith, after .build .kept, after .before .before .before .before .before .before .before .before .before .before .before .before .before .mark-lists .kept)
+    let after = c .before .before .before .before .before .before .before .before .before .before .before .before .before .before .before .before in
+    omega (arith, after .build .kept, after .before .before .before .before .before .before .before .before .before .before .before .before .before .before .before .before .mark-lists .kept)
 
 same-length-4 : tie.Need-same-length-4
 same-length-4 c =
-    let after = c .before .before .before .before .before .before .before .before .before .before .before .before .before in
-    omega (arith, after .build .kept, after .before .before .before .before .before .before .before .before .before .before .before .before .before .mark-lists .kept)
+    let after = c .before .before .before .before .before .before .before .before .before .before .before .before .before .before .before .before in
+    omega (arith, after .build .kept, after .before .before .before .before .before .before .before .before .before .before .before .before .before .before .before .before .mark-lists .kept)
+
+same-length-5 : tie.Need-same-length-5
+same-length-5 c =
+    let after = c .before .before .before .before .before .before .before .before .before .before .before .before .before .before .before .before in
+    omega (arith, after .build .kept, after .before .before .before .before .before .before .before .before .before .before .before .before .before .before .before .before .mark-lists .kept)
 
 returns : tie.Need-returns
 returns c = search needs
@@ -47,4 +52,5 @@ built-spec =
     same-length-2
     same-length-3
     same-length-4
+    same-length-5
     returns)

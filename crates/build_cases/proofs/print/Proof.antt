@@ -5,11 +5,11 @@ use Rattle.build_cases.proofs.print.Statement.{statement}
 use Rattle.build_cases.proofs.print.Tie as tie
 
 abbrev Inv-loop : tie.InvT-loop
-Inv-loop elements row-hops row-links row-strides shortest n i₀ i =
+Inv-loop elements row-hops row-lengths row-links row-strides shortest n i₀ i =
     i ≤ n
 
 abbrev μ-loop : tie.MeasureT-loop
-μ-loop elements row-hops row-links row-strides shortest n i₀ i = n - i
+μ-loop elements row-hops row-lengths row-links row-strides shortest n i₀ i = n - i
 
 slice-aggregate-say : tie.Need-slice-aggregate-say Inv-loop μ-loop
 slice-aggregate-say c = search needs
@@ -17,14 +17,11 @@ slice-aggregate-say c = search needs
 say-requires : tie.Need-say-requires Inv-loop μ-loop
 say-requires c κs = search needs
 
+least-of-four-requires : tie.Need-least-of-four-requires Inv-loop μ-loop
+least-of-four-requires c κs = search needs
+
 least-requires : tie.Need-least-requires Inv-loop μ-loop
 least-requires c κs = search needs
-
-least-requires-2 : tie.Need-least-requires-2 Inv-loop μ-loop
-least-requires-2 c κs = search needs
-
-least-requires-3 : tie.Need-least-requires-3 Inv-loop μ-loop
-least-requires-3 c κs = search needs
 
 loop-holds : tie.Need-loop-holds Inv-loop μ-loop
 loop-holds c = search needs
@@ -35,14 +32,17 @@ mul-say-row c = search needs
 shared-slice-read-say-row : tie.Need-shared-slice-read-say-row Inv-loop μ-loop
 shared-slice-read-say-row c = search needs
 
-mul-say-row-2 : tie.Need-mul-say-row-2 Inv-loop μ-loop
-mul-say-row-2 c = search needs
-
 shared-slice-read-say-row-2 : tie.Need-shared-slice-read-say-row-2 Inv-loop μ-loop
 shared-slice-read-say-row-2 c = search needs
 
+mul-say-row-2 : tie.Need-mul-say-row-2 Inv-loop μ-loop
+mul-say-row-2 c = search needs
+
 shared-slice-read-say-row-3 : tie.Need-shared-slice-read-say-row-3 Inv-loop μ-loop
 shared-slice-read-say-row-3 c = search needs
+
+shared-slice-read-say-row-4 : tie.Need-shared-slice-read-say-row-4 Inv-loop μ-loop
+shared-slice-read-say-row-4 c = search needs
 
 say-row-requires : tie.Need-say-row-requires Inv-loop μ-loop
 say-row-requires c κs = search needs
@@ -67,15 +67,15 @@ print-spec =
     μ-loop
     slice-aggregate-say
     say-requires
+    least-of-four-requires
     least-requires
-    least-requires-2
-    least-requires-3
     loop-holds
     mul-say-row
     shared-slice-read-say-row
-    mul-say-row-2
     shared-slice-read-say-row-2
+    mul-say-row-2
     shared-slice-read-say-row-3
+    shared-slice-read-say-row-4
     say-row-requires
     add-i
     loop-less

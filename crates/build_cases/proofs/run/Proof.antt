@@ -7,14 +7,15 @@ use Rattle.build_cases.proofs.run.Statement.{statement}
 use Rattle.build_cases.proofs.run.Tie as tie
 
 abbrev Inv-loop : tie.InvT-loop
-Inv-loop text values₀ lengths₀ hops₀ scratch₀ row-hops₀ row-links₀ row-strides₀ state₀ left₀ t12 values lengths hops scratch row-hops row-links row-strides state left =
+Inv-loop text values₀ lengths₀ hops₀ scratch₀ row-hops₀ row-lengths₀ row-links₀ row-strides₀ state₀ left₀ t13 values lengths hops scratch row-hops row-lengths row-links row-strides state left =
     (length values ≡ length values₀) × (length lengths ≡ length lengths₀) × (length hops ≡ length hops₀) × (length scratch ≡ length scratch₀)
     × (length row-hops ≡ length row-hops₀)
+    × (length row-lengths ≡ length row-lengths₀)
     × (length row-links ≡ length row-links₀)
     × (length row-strides ≡ length row-strides₀)
 
 abbrev μ-loop : tie.MeasureT-loop
-μ-loop text values₀ lengths₀ hops₀ scratch₀ row-hops₀ row-links₀ row-strides₀ state₀ left₀ t12 values lengths hops scratch row-hops row-links row-strides state left = left
+μ-loop text values₀ lengths₀ hops₀ scratch₀ row-hops₀ row-lengths₀ row-links₀ row-strides₀ state₀ left₀ t13 values lengths hops scratch row-hops row-lengths row-links row-strides state left = left
 
 number-requires : tie.Need-number-requires Inv-loop μ-loop
 number-requires c κs = search needs
@@ -42,8 +43,8 @@ loop-less c = search needs
 
 loop-again : tie.Need-loop-again Inv-loop μ-loop
 loop-again c =
-    let turn = c .before .before .before .before .before .before .before .before .before .before .before .before .before .before .before .before in
-    omega (arith, turn .line .kept, turn .before .before .before .before .before .before .before .before .before .loop .inv)
+    let turn = c .before .before .before .before .before .before .before .before .before .before .before .before .before .before .before .before .before .before in
+    omega (arith, turn .line .kept, turn .before .before .before .before .before .before .before .before .before .before .loop .inv)
 
 same-length : tie.Need-same-length Inv-loop μ-loop
 same-length c = search needs
@@ -65,6 +66,9 @@ same-length-6 c = search needs
 
 same-length-7 : tie.Need-same-length-7 Inv-loop μ-loop
 same-length-7 c = search needs
+
+same-length-8 : tie.Need-same-length-8 Inv-loop μ-loop
+same-length-8 c = search needs
 
 returns : tie.Need-returns Inv-loop μ-loop
 returns c = search needs
@@ -91,4 +95,5 @@ run-spec =
     same-length-5
     same-length-6
     same-length-7
+    same-length-8
     returns)

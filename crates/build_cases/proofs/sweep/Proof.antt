@@ -6,11 +6,11 @@ use Rattle.build_cases.proofs.sweep.Statement.{statement}
 use Rattle.build_cases.proofs.sweep.Tie as tie
 
 abbrev Inv-loop : tie.InvT-loop
-Inv-loop below «record» row-hops row-links row-strides address₀ address =
+Inv-loop below «record» row-hops row-lengths row-links row-strides address₀ address =
     address ≤ below
 
 abbrev μ-loop : tie.MeasureT-loop
-μ-loop below «record» row-hops row-links row-strides address₀ address = below - address
+μ-loop below «record» row-hops row-lengths row-links row-strides address₀ address = below - address
 
 slice-aggregate-say : tie.Need-slice-aggregate-say Inv-loop μ-loop
 slice-aggregate-say c = search needs

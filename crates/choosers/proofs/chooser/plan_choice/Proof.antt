@@ -29,7 +29,8 @@ planned-requires : tie.Need-planned-requires
 planned-requires c κs =
     let S = c .before .before .before .before .before .before .before .before in
     accepted-plan (S .args .width) (S .args .levels) (S .args .value .now) (S .args .length .now) (S .args .hop .now) (S .args .scratch .now)
-    (λ i. omega (arith, c .before .before .before .before .before .shared-slice-known3 .given i)) (sym (c .before .before .before .choose-outcome .ensures) ∙ c .before .enum-told .given .1)
+    (λ i. omega (arith, c .before .before .before .before .before .shared-slice-known3 .given i, c .before .before .before .before .before .before .shared-slice-known2 .given i))
+    (sym (c .before .before .before .choose-outcome .ensures) ∙ c .before .enum-told .given .1)
 
 same-length : tie.Need-same-length
 same-length c = search needs

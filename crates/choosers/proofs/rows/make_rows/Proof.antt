@@ -24,6 +24,18 @@ loop-holds c =
           (S .pre .counts-long) (S .pre .no-counts),
     )
 
+shared-slice-read-l : tie.Need-shared-slice-read-l Inv-loop μ-loop
+shared-slice-read-l c = let S = c .before .before .before .before .before .before .before .before in omega (arith, S .pre .prefixes .lengths)
+
+mul-mark-of : tie.Need-mul-mark-of Inv-loop μ-loop
+mul-mark-of c = search needs
+
+shared-slice-read-mark-of : tie.Need-shared-slice-read-mark-of Inv-loop μ-loop
+shared-slice-read-mark-of c = let S = c .before .before .before .before .before .before .before .before .before in omega (arith, S .pre .hops)
+
+mark-of-requires : tie.Need-mark-of-requires Inv-loop μ-loop
+mark-of-requires c κs = search needs
+
 mul-add-counted : tie.Need-mul-add-counted Inv-loop μ-loop
 mul-add-counted c = search needs
 
@@ -31,29 +43,18 @@ shared-slice-read-add-counted : tie.Need-shared-slice-read-add-counted Inv-loop 
 shared-slice-read-add-counted c = search needs
 
 cast-add-counted : tie.Need-cast-add-counted Inv-loop μ-loop
-cast-add-counted c = omega (arith, c .shared-slice-known4 .given (c .before .before .before .before .loop .i))
-
-shared-slice-read-add-counted-2 : tie.Need-shared-slice-read-add-counted-2 Inv-loop μ-loop
-shared-slice-read-add-counted-2 c = let S = c .before .before .before .before .before .before .before .before .before .before .before in omega (arith, S .pre .prefixes .lengths)
+cast-add-counted c = omega (arith, c .shared-slice-known6 .given (c .before .before .before .before .before .before .before .loop .i))
 
 cast-add-counted-2 : tie.Need-cast-add-counted-2 Inv-loop μ-loop
-cast-add-counted-2 c = omega (arith, c .shared-slice-known5 .given (c .before .before .before .before .before .loop .i))
-
-mul-add-counted-2 : tie.Need-mul-add-counted-2 Inv-loop μ-loop
-mul-add-counted-2 c = search needs
-
-shared-slice-read-add-counted-3 : tie.Need-shared-slice-read-add-counted-3 Inv-loop μ-loop
-shared-slice-read-add-counted-3 c = let S = c .before .before .before .before .before .before .before .before .before .before .before .before in omega (arith, S .pre .hops)
-
-cast-add-counted-3 : tie.Need-cast-add-counted-3 Inv-loop μ-loop
-cast-add-counted-3 c = omega (arith, c .shared-slice-known6 .given (c .before .before .before .before .before .before .loop .i))
+cast-add-counted-2 c = omega (arith, c .before .before .before .before .before .shared-slice-known4 .given (c .before .before .before .before .before .before .before .loop .i))
 
 add-counted-requires : tie.Need-add-counted-requires Inv-loop μ-loop
 add-counted-requires c κs =
-    let S = c .before .before .before .before .before .before .before .before .before .before .before .before in
-    let l = c .before .before .before .before .before .before .loop in
-    make-add (S .args .width) (S .args .vals .now) (S .args .lens .now) (S .args .hops .now) (S .pre .prefixes) (l .rows) (l .counts) (l .i) (l .used)
-    (omega (arith, S .pre .room, l .inv .1)) (c .before .before .before .before .before .loop-test .taken) (l .inv .2)
+    let S = c .before .before .before .before .before .before .before .before .before .before .before .before .before in
+    let l = c .before .before .before .before .before .before .before .loop in
+    rw (c .before .before .before .mark-of .ensures)
+    (make-add (S .args .width) (S .args .vals .now) (S .args .lens .now) (S .args .hops .now) (S .pre .prefixes) (l .rows) (l .counts) (l .i) (l .used)
+    (omega (arith, S .pre .room, l .inv .1)) (c .before .before .before .before .before .before .loop-test .taken) (l .inv .2))
 
 add-i : tie.Need-add-i Inv-loop μ-loop
 add-i c = search needs
@@ -63,10 +64,11 @@ loop-less c = search needs
 
 loop-again : tie.Need-loop-again Inv-loop μ-loop
 loop-again c =
-    let S = c .before .before .before .before .before .before .before .before .before .before .before .before .before .before .before .before .before in
-    let l = c .before .before .before .before .before .before .before .before .before .before .before .loop in
+    let S = c .before .before .before .before .before .before .before .before .before .before .before .before .before .before .before .before .before .before in
+    let l = c .before .before .before .before .before .before .before .before .before .before .before .before .loop in
     let A = c .before .before .before .before .add-counted in
-    (omega arith, omega (arith, A .kept), make-next (S .args .width) (S .args .vals .now) (S .args .lens .now) (S .args .hops .now) (S .pre .prefixes) _ _ _ _ (l .i) _ _ (l .inv .2) (A .ensures))
+    let added = rw (c .before .before .before .before .before .before .before .before .mark-of .ensures) at (A .ensures) in
+    (omega arith, omega (arith, A .kept), make-next (S .args .width) (S .args .vals .now) (S .args .lens .now) (S .args .hops .now) (S .pre .prefixes) _ _ _ _ (l .i) _ _ (l .inv .2) added)
 
 root-link-requires : tie.Need-root-link-requires Inv-loop μ-loop
 root-link-requires c κs = search needs
@@ -91,14 +93,14 @@ make-rows-spec =
     Inv-loop
     μ-loop
     loop-holds
+    shared-slice-read-l
+    mul-mark-of
+    shared-slice-read-mark-of
+    mark-of-requires
     mul-add-counted
     shared-slice-read-add-counted
     cast-add-counted
-    shared-slice-read-add-counted-2
     cast-add-counted-2
-    mul-add-counted-2
-    shared-slice-read-add-counted-3
-    cast-add-counted-3
     add-counted-requires
     add-i
     loop-less

@@ -8,7 +8,7 @@ use Rattle.table.specs.Table.{at}
 use Rattle.walk.specs.Rows.{lists}
 use Rattle.reading.specs.Numerals.{joined}
 use Rattle.sheet.specs.Printing.{Wrote}
-use Rattle.sheet.specs.Answers.{queryLines, hopFor, readsFor}
+use Rattle.sheet.specs.Answers.{queryLines, hopFor, lengthFor, readsFor}
 use Rattle.sheet.proofs.Writing.{wrote-length, wrote-up-to, length-answer, joined-none}
 use Rattle.sheet.proofs.Queries.{query-more}
 use Rattle.sheet.specs.Limits.{ANSWER-BYTES}
@@ -17,12 +17,13 @@ use Rattle.sheet.proofs.answering.put_answers.Statement.{statement}
 use Rattle.sheet.proofs.answering.put_answers.Tie as tie
 
 abbrev Inv-loop : tie.InvT-loop
-Inv-loop out₀ p rec hop link stride adds digs q₀ i₀ out q i =
+Inv-loop out₀ p rec hop lens link stride adds digs q₀ i₀ out q i =
+    let rows = lists hop lens link stride in
     (i ≤ length digs) × (q ≤ p + i * ANSWER-BYTES)
-    × Wrote out₀ p (joined (queryLines (hopFor rec (lists hop link stride)) (readsFor rec (lists hop link stride)) adds digs) i) out q
+    × Wrote out₀ p (joined (queryLines (hopFor rec rows) (lengthFor rec rows) (readsFor rec rows) adds digs) i) out q
 
 abbrev μ-loop : tie.MeasureT-loop
-μ-loop out₀ p rec hop link stride adds digs q₀ i₀ out q i = length digs - i
+μ-loop out₀ p rec hop lens link stride adds digs q₀ i₀ out q i = length digs - i
 
 loop-holds : tie.Need-loop-holds Inv-loop μ-loop
 loop-holds c = (omega arith, omega arith, joined-none _ _ (omega arith))
@@ -40,12 +41,12 @@ shared-slice-read-put-found : tie.Need-shared-slice-read-put-found Inv-loop μ-l
 shared-slice-read-put-found c = search needs
 
 cast-put-found : tie.Need-cast-put-found Inv-loop μ-loop
-cast-put-found c = omega (arith, c .shared-slice-known7 .given (c .before .before .before .before .before .loop .i))
+cast-put-found c = omega (arith, c .shared-slice-known8 .given (c .before .before .before .before .before .loop .i))
 
 put-found-requires : tie.Need-put-found-requires Inv-loop μ-loop
 put-found-requires c κs =
     let l = c .before .before .before .before .before in
-    let s = l .before .before .before .before .before .before .before in
+    let s = l .before .before .before .before .before .before .before .before in
     (omega (arith, s .pre .0, wrote-length (l .loop .inv .2)), s .pre .1 .short (l .loop .i) (omega arith))
 
 add-i : tie.Need-add-i Inv-loop μ-loop
@@ -58,9 +59,9 @@ loop-again : tie.Need-loop-again Inv-loop μ-loop
 loop-again c =
     let f = c .before .before in
     let l = f .before .before .before .before .before .before in
-    let s = l .before .before .before .before .before .before .before in (
+    let s = l .before .before .before .before .before .before .before .before in (
       omega arith,
-      omega (arith, wrote-up-to ANSWER-BYTES (length-answer _ _ _ _ (s .pre .1 .short (l .loop .i) (omega arith))) (f .put-found .ensures)),
+      omega (arith, wrote-up-to ANSWER-BYTES (length-answer _ _ _ _ _ (s .pre .1 .short (l .loop .i) (omega arith))) (f .put-found .ensures)),
       query-more _ _ _ _ (l .loop .i) (f .before .before .before .lookup .ensures .0) (l .loop .inv .2) (f .put-found .ensures),
     )
 
@@ -70,7 +71,7 @@ same-length c = wrote-length (c .before .loop .inv .2)
 returns : tie.Need-returns Inv-loop μ-loop
 returns c =
     let l = c .before in
-    let e : l .loop .i ≡ length (now (l .before .before .before .before .before .before .before .args .digs)) = omega arith in
+    let e : l .loop .i ≡ length (now (l .before .before .before .before .before .before .before .before .args .digs)) = omega arith in
     rw e at (l .loop .inv .2)
 
 pub put-answers-spec : {M : Type 1} → statement M

@@ -29,7 +29,7 @@ put-head-requires c κs = search needs
 put-answers-requires : tie.Need-put-answers-requires
 put-answers-requires c κs =
     let h = c .before .before .before in
-    let s = c .before .before .before .before .before .before .before .before .before .before .before .before .before .before in
+    let s = c .before .before .before .before .before .before .before .before .before .before .before .before .before .before .before in
     (omega (arith, s .pre .0, s .pre .1 .few, wrote-up-to HEAD-BYTES (length-head _ _) (h .put-head .ensures)), s .pre .1)
 
 same-length-2 : tie.Need-same-length-2

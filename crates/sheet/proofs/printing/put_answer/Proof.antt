@@ -1,10 +1,7 @@
--- Three lines, one after the other.
-use Prim.Native.Nat.{_+_, _-_}
+-- Four lines, one after the other.
+use Prim.Native.Nat.{_-_}
 use native.Mathlib.Omega.{arith}
-use lib.ListN.{length}
 use Rattle.reading.specs.Limits.{QUERY-BYTES}
-use Rattle.reading.specs.Keys.{hopKey}
-use Rattle.sheet.specs.Limits.{DECIMAL-BYTES}
 use Rattle.sheet.specs.Printing.{answerLines}
 use Rattle.sheet.proofs.Writing.{wrote-then, length-line, length-address}
 use Rattle.sheet.proofs.Writing.{wrote-up-to}
@@ -34,7 +31,22 @@ put-line-requires-2 c κs =
     omega (
       arith,
       wrote-up-to QUERY-BYTES (omega (arith, length-address (a .address) (a .n))) (e .before .before .before .before .before .put-address .ensures),
-      wrote-up-to (length hopKey + DECIMAL-BYTES) (length-line hopKey _) (e .put-line .ensures),
+      wrote-up-to _ (length-line _ _) (e .put-line .ensures),
+    )
+
+slice-aggregate-put-line-3 : tie.Need-slice-aggregate-put-line-3
+slice-aggregate-put-line-3 c = search needs
+
+put-line-requires-3 : tie.Need-put-line-requires-3
+put-line-requires-3 c κs =
+    let f = c .before .before .before .before in
+    let e = f .before .before .before .before .before in
+    let a = e .before .before .before .before .before .before .before .before .args in
+    omega (
+      arith,
+      wrote-up-to QUERY-BYTES (omega (arith, length-address (a .address) (a .n))) (e .before .before .before .before .before .put-address .ensures),
+      wrote-up-to _ (length-line _ _) (e .put-line .ensures),
+      wrote-up-to _ (length-line _ _) (f .put-line2 .ensures),
     )
 
 same-length : tie.Need-same-length
@@ -46,7 +58,8 @@ returns c =
     let a = c .before .before in
     let b = a .before .before .before .before .before in
     let d = b .before .before .before .before .before in
-    wrote-then (wrote-then (d .put-address .ensures) (b .put-line .ensures)) (a .put-line2 .ensures)
+    let e = d .before .before .before .before .before in
+    wrote-then (wrote-then (wrote-then (e .put-address .ensures) (d .put-line .ensures)) (b .put-line2 .ensures)) (a .put-line3 .ensures)
 
 pub put-answer-spec : {M : Type 1} → statement M
 put-answer-spec =
@@ -57,5 +70,7 @@ put-answer-spec =
     put-line-requires
     slice-aggregate-put-line-2
     put-line-requires-2
+    slice-aggregate-put-line-3
+    put-line-requires-3
     same-length
     returns)

@@ -53,10 +53,13 @@ same-length-2 c = search needs
 same-length-3 : tie.Need-same-length-3
 same-length-3 c = search needs
 
+same-length-4 : tie.Need-same-length-4
+same-length-4 c = search needs
+
 returns : tie.Need-returns
 returns c =
-    let b = c .before .before .before .before .before .before .before in
-    let s = b .before .before .before .before .before .before .before .before .before .before .before in
+    let b = c .before .before .before .before .before .before .before .before .before in
+    let s = b .before .before .before .before .before .before .before .before .before .before .before .before in
     let v = s .before .before .before in
     sheet-built _ _ (sym (s .scratch-room .ensures)) (v .sheet-values .ensures .1) (b .build .ensures .0)
 
@@ -80,4 +83,5 @@ build-sheet-spec =
     same-length
     same-length-2
     same-length-3
+    same-length-4
     returns)

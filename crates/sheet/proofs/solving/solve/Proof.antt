@@ -13,14 +13,17 @@ use Rattle.sheet.proofs.solving.solve.Tie as tie
 
 -- what is lent
 room : (b : tie.After-build-sheet) →
-    let s = b .before .before .before .before in
-    shortest (lists (s .before .before .hop-room .result) (s .before .link-room .result) (s .stride-room .result)) ≡ LENT-ELEMENTS
+    let s = b .before .before .before .before .before in
+    shortest (lists (s .before .before .before .hop-room .result) (s .before .before .length-room .result) (s .before .link-room .result) (s .stride-room .result)) ≡ LENT-ELEMENTS
 room b =
-    let s = b .before .before .before .before in
-    omega (arith, s .before .before .hop-room .ensures, s .before .link-room .ensures, s .stride-room .ensures)
+    let s = b .before .before .before .before .before in
+    omega (arith, s .before .before .before .hop-room .ensures, s .before .before .length-room .ensures, s .before .link-room .ensures, s .stride-room .ensures)
 
 hop-room-requires : tie.Need-hop-room-requires
 hop-room-requires c κs = search needs
+
+length-room-requires : tie.Need-length-room-requires
+length-room-requires c κs = search needs
 
 link-room-requires : tie.Need-link-room-requires
 link-room-requires c κs = search needs
@@ -36,6 +39,9 @@ slice-aggregate-build-sheet-2 c = search needs
 
 slice-aggregate-build-sheet-3 : tie.Need-slice-aggregate-build-sheet-3
 slice-aggregate-build-sheet-3 c = search needs
+
+slice-aggregate-build-sheet-4 : tie.Need-slice-aggregate-build-sheet-4
+slice-aggregate-build-sheet-4 c = search needs
 
 build-sheet-requires : tie.Need-build-sheet-requires
 build-sheet-requires c κs = search needs
@@ -61,6 +67,9 @@ slice-aggregate-put-report-2 c = search needs
 slice-aggregate-put-report-3 : tie.Need-slice-aggregate-put-report-3
 slice-aggregate-put-report-3 c = search needs
 
+slice-aggregate-put-report-4 : tie.Need-slice-aggregate-put-report-4
+slice-aggregate-put-report-4 c = search needs
+
 sub-put-report : tie.Need-sub-put-report
 sub-put-report c = search needs
 
@@ -82,8 +91,8 @@ part-put-report-end-2 c = search needs
 put-report-requires : tie.Need-put-report-requires
 unfolding sheetIn
 put-report-requires c κs =
-    let b = c .before .before .before .before .before .before .before .before .before .before .before .before .before .before .before .before in
-    let a = b .before .before .before .before .before .before .before .before in
+    let b = c .before .before .before .before .before .before .before .before .before .before .before .before .before .before .before .before .before .before in
+    let a = b .before .before .before .before .before .before .before .before .before .before in
     (omega (arith, a .pre .0), rw sub-zero (queries-lent _ (a .pre .1)))
 
 same-length : tie.Need-same-length
@@ -91,7 +100,7 @@ same-length c = search needs
 
 returns : tie.Need-returns
 returns c =
-    let b = c .before .before .before .before .before .before .before .before .before .before .before .before .before in
+    let b = c .before .before .before .before .before .before .before .before .before .before .before .before .before .before in
     wrote-is (sheet-refused _ (room b) (b .build-sheet .ensures) (c .before .before .before .before .before .outcome .given .1)) (c .before .before .put-refusal .ensures)
 
 same-length-2 : tie.Need-same-length-2
@@ -100,9 +109,9 @@ same-length-2 c = search needs
 returns-2 : tie.Need-returns-2
 unfolding sheetIn
 returns-2 c =
-    let told = c .before .before .before .before .before .before .before .before .before .before .before in
-    let b = told .before .before .before .before .before .before .before .before in
-    let a = b .before .before .before .before .before .before .before .before in
+    let told = c .before .before .before .before .before .before .before .before .before .before .before .before in
+    let b = told .before .before .before .before .before .before .before .before .before in
+    let a = b .before .before .before .before .before .before .before .before .before .before in
     let w = c .before .before .put-report .ensures in
     wrote-is (sheet-accepted _ (room b) (b .build-sheet .ensures) (told .enum-told .given .1) (queries-lent _ (a .pre .1))) (rw sub-zero at w)
 
@@ -111,11 +120,13 @@ solve-spec =
     tie.close
     (tie.spec
     hop-room-requires
+    length-room-requires
     link-room-requires
     stride-room-requires
     slice-aggregate-build-sheet
     slice-aggregate-build-sheet-2
     slice-aggregate-build-sheet-3
+    slice-aggregate-build-sheet-4
     build-sheet-requires
     enum-known-outcome
     cast-put-refusal
@@ -124,6 +135,7 @@ solve-spec =
     slice-aggregate-put-report
     slice-aggregate-put-report-2
     slice-aggregate-put-report-3
+    slice-aggregate-put-report-4
     sub-put-report
     part-put-report-start
     part-put-report-end

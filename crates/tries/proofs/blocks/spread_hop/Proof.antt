@@ -10,10 +10,10 @@ use Rattle.tries.proofs.blocks.spread_hop.Statement.{statement}
 use Rattle.tries.proofs.blocks.spread_hop.Tie as tie
 
 abbrev Inv-loop : tie.InvT-loop
-Inv-loop hop₀ base end best i₀ hop i = (length hop ≡ length hop₀) × (base ≤ i) × (i ≤ end) × Spread base i best hop₀ hop
+Inv-loop hop₀ base end h i₀ hop i = (length hop ≡ length hop₀) × (base ≤ i) × (i ≤ end) × Spread base i h hop₀ hop
 
 abbrev μ-loop : tie.MeasureT-loop
-μ-loop hop₀ base end best i₀ hop i = end - i
+μ-loop hop₀ base end h i₀ hop i = end - i
 
 loop-holds : tie.Need-loop-holds Inv-loop μ-loop
 loop-holds c = (refl, omega arith, omega arith, spread-none)

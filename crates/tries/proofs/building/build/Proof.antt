@@ -23,8 +23,8 @@ same-length c = search needs
 returns : tie.Need-returns
 returns c =
     let c6 = c .before .before .before .before .before .before in
-    let S = c6 .before .before .before .before .before .before .before .before .before in
-    let b = early-is (c6 .plan-choice .ensures .0) (lists (S .args .hops .now) (S .args .links .now) (S .args .strides .now)) (c .before .before .outcome .given .1)
+    let S = c6 .before .before .before .before .before .before .before .before .before .before in
+    let b = early-is (c6 .plan-choice .ensures .0) (lists (S .args .hops .now) (S .args .lens .now) (S .args .links .now) (S .args .strides .now)) (c .before .before .outcome .given .1)
     (c .refused .ensures .0) (c .refused .ensures .1) in
     (b, build-means b)
 
@@ -32,7 +32,7 @@ enum-told : tie.Need-enum-told
 enum-told c = search needs
 
 build-rows-requires : tie.Need-build-rows-requires
-build-rows-requires c κs = (_, _, plan-for (c .before .before .before .before .before .before .before .before .plan-choice .ensures .0) (c .before .before .before .before .enum-told .given .1))
+build-rows-requires c κs = let c5 = c .before .before .before .before .before in (_, _, plan-for (c5 .before .before .before .before .plan-choice .ensures .0) (c5 .enum-told .given .1))
 
 zero-requires : tie.Need-zero-requires
 zero-requires c κs = search needs
@@ -49,17 +49,20 @@ same-length-4 c = search needs
 same-length-5 : tie.Need-same-length-5
 same-length-5 c = search needs
 
+same-length-6 : tie.Need-same-length-6
+same-length-6 c = search needs
+
 returns-2 : tie.Need-returns-2
 returns-2 c =
-    let c10 = c .before .before .before .before .before .before .before .before .before .before in
-    let c15 = c10 .before .before .before .before .before in
-    let c19 = c15 .before .before .before .before in
-    let S = c19 .before .before .before .before .before .before .before .before .before in
-    let P = c19 .plan-choice in
-    let told = c15 .enum-told .given .1 in
+    let c12 = c .before .before .before .before .before .before .before .before .before .before .before .before in
+    let c18 = c12 .before .before .before .before .before .before in
+    let c22 = c18 .before .before .before .before in
+    let S = c22 .before .before .before .before .before .before .before .before .before .before in
+    let P = c22 .plan-choice in
+    let told = c18 .enum-told .given .1 in
     let e : length (P .last .1 .1 .1 .1 .1 .1 .0) ≡ length (S .args .scratch .now) = omega (arith, P .kept) in
-    let b = past-is (P .ensures .0) (lists (S .args .hops .now) (S .args .links .now) (S .args .strides .now)) told
-    (c10 .build-rows .ensures _ _ (plan-for (P .ensures .0) told)) (c .before .before .zero .ensures ∙ ap (λ (n : ℕ). replicate n 0) e) in
+    let b = past-is (P .ensures .0) (lists (S .args .hops .now) (S .args .lens .now) (S .args .links .now) (S .args .strides .now)) told
+    (c12 .build-rows .ensures _ _ (plan-for (P .ensures .0) told)) (c .before .before .zero .ensures ∙ ap (λ (n : ℕ). replicate n 0) e) in
     (b, build-means b)
 
 pub build-spec : {M : Type 1} → statement M
@@ -78,4 +81,5 @@ build-spec =
     same-length-3
     same-length-4
     same-length-5
+    same-length-6
     returns-2)

@@ -12,19 +12,22 @@ smaller-requires c κs = search needs
 smaller-requires-2 : tie.Need-smaller-requires-2
 smaller-requires-2 c κs = search needs
 
+smaller-requires-3 : tie.Need-smaller-requires-3
+smaller-requires-3 c κs = search needs
+
 returns : tie.Need-returns
 returns c =
-    crowded (min (c .before .before .before .args .hops) (min (c .before .before .before .args .links) (c .before .before .before .args .strides))) (c .before .before .before .args .e)
-    ELEMENTS (omega arith)
+    let a = c .before .before .before .before .args in
+    crowded (min (a .hops) (min (a .lens) (min (a .links) (a .strides)))) (a .e) ELEMENTS (omega arith)
 
 cast-result : tie.Need-cast-result
 cast-result c = search needs
 
 returns-2 : tie.Need-returns-2
 returns-2 c =
-    roomy (min (c .before .before .before .args .hops) (min (c .before .before .before .args .links) (c .before .before .before .args .strides))) (c .before .before .before .args .e)
-    ELEMENTS (omega arith)
+    let a = c .before .before .before .before .args in
+    roomy (min (a .hops) (min (a .lens) (min (a .links) (a .strides)))) (a .e) ELEMENTS (omega arith)
 
 pub is-crowded-spec : {M : Type 1} → statement M
 is-crowded-spec =
-    tie.close (tie.spec smaller-requires smaller-requires-2 returns cast-result returns-2)
+    tie.close (tie.spec smaller-requires smaller-requires-2 smaller-requires-3 returns cast-result returns-2)

@@ -1,6 +1,8 @@
-use mathlib.Core.Path.{refl, ap, _∙_}
+use mathlib.Core.Path.{refl, ap, subst, _∙_}
 use borrow.Author.Needs.{needs}
 use Rattle.walk.specs.Answers.{answerNumbers}
+use Rattle.visits.specs.declared.looking.Best.{Best}
+use Rattle.visits.specs.Lookup.{LeftWithin}
 use Rattle.visits.proofs.Visiting.{tell-missing, tell-past, tell-hop}
 use Rattle.visits.proofs.looking.best_numbers.Statement.{statement}
 use Rattle.visits.proofs.looking.best_numbers.Tie as tie
@@ -18,7 +20,7 @@ refusal-numbers-requires : tie.Need-refusal-numbers-requires
 refusal-numbers-requires c κs = search needs
 
 returns : tie.Need-returns
-returns c = c .refusal-numbers .ensures ∙ ap answerNumbers (tell-past _ _ _ (c .before .before .before .best .given .1) (c .before .if1 .taken) refl)
+returns c = c .refusal-numbers .ensures ∙ ap answerNumbers (tell-past _ _ _ _ (c .before .before .before .best .given .1) (c .before .if1 .taken) refl)
 
 mul-hop-numbers : tie.Need-mul-hop-numbers
 mul-hop-numbers c = search needs
@@ -26,14 +28,22 @@ mul-hop-numbers c = search needs
 shared-slice-read-hop-numbers : tie.Need-shared-slice-read-hop-numbers
 shared-slice-read-hop-numbers c = search needs
 
+sub-hop-numbers : tie.Need-sub-hop-numbers
+sub-hop-numbers c =
+    let start = c .before .before .before .before .before .before in
+    subst (λ (b : Best). LeftWithin b (start .args .width)) (c .before .before .before .best .given .1) (start .pre .1)
+
+cast-hop-numbers : tie.Need-cast-hop-numbers
+cast-hop-numbers c = search needs
+
 hop-numbers-requires-2 : tie.Need-hop-numbers-requires-2
 hop-numbers-requires-2 c κs = search needs
 
 returns-2 : tie.Need-returns-2
-returns-2 c = c .hop-numbers .ensures ∙ ap answerNumbers (tell-missing _ _ _ (c .before .enum-told .given .1) refl)
+returns-2 c = c .hop-numbers .ensures ∙ ap answerNumbers (tell-missing _ _ _ _ (c .before .enum-told .given .1) refl)
 
 returns-3 : tie.Need-returns-3
-returns-3 c = c .hop-numbers2 .ensures ∙ ap answerNumbers (tell-hop _ _ _ (c .before .before .before .before .best .given .1) (c .before .before .if1 .left) refl)
+returns-3 c = c .hop-numbers2 .ensures ∙ ap answerNumbers (tell-hop _ _ _ _ (c .before .before .before .before .best .given .1) (c .before .before .if1 .left) refl)
 
 pub best-numbers-spec : {M : Type 1} → statement M
 best-numbers-spec =
@@ -46,6 +56,8 @@ best-numbers-spec =
     returns
     mul-hop-numbers
     shared-slice-read-hop-numbers
+    sub-hop-numbers
+    cast-hop-numbers
     hop-numbers-requires-2
     returns-2
     returns-3)

@@ -9,17 +9,17 @@ use Rattle.walk.specs.Answers.{answerNumbers}
 use Rattle.pieces.specs.Maps.{STEP}
 use Rattle.visits.specs.declared.looking.Best.the-variants.{Missing}
 use Rattle.visits.specs.Rows.{rowLists, supernodeAt}
-use Rattle.visits.specs.Lookup.{visitFrom}
-use Rattle.visits.proofs.Visiting.{visit-stops, visit-ends, visit-goes, visit-breaks}
+use Rattle.visits.specs.Lookup.{visitFrom, LeftWithin}
+use Rattle.visits.proofs.Visiting.{better-within, visit-stops, visit-ends, visit-goes, visit-breaks}
 use Rattle.visits.proofs.looking.follow.Statement.{statement}
 use Rattle.visits.proofs.looking.follow.Tie as tie
 
 -- the way from here on is the way from number 0
 abbrev Inv-loop : tie.InvT-loop
 Inv-loop supernodes winners address width internal external child first hops table i₀ left₀ best₀ reads₀ i left best reads =
-    (left ≤ width) × (reads + left / STEP ≤ width / STEP)
-    × (visitFrom supernodes winners address (supernodeAt (rowLists internal external child first)) (at hops) (suc (left / STEP)) i left best reads
-    ≡ visitFrom supernodes winners address (supernodeAt (rowLists internal external child first)) (at hops) (suc (width / STEP)) 0 width Missing 0)
+    (left ≤ width) × (reads + left / STEP ≤ width / STEP) × LeftWithin best width
+    × (visitFrom width supernodes winners address (supernodeAt (rowLists internal external child first)) (at hops) (suc (left / STEP)) i left best reads
+    ≡ visitFrom width supernodes winners address (supernodeAt (rowLists internal external child first)) (at hops) (suc (width / STEP)) 0 width Missing 0)
 
 abbrev μ-loop : tie.MeasureT-loop
 μ-loop supernodes winners address width internal external child first hops table i₀ left₀ best₀ reads₀ i left best reads =
@@ -29,7 +29,7 @@ masks-requires : tie.Need-masks-requires Inv-loop μ-loop
 masks-requires c κs = search needs
 
 loop-holds : tie.Need-loop-holds Inv-loop μ-loop
-loop-holds c = (le-refl (c .before .before .before .before .before .before .args .width), omega arith, refl)
+loop-holds c = (le-refl (c .before .before .before .before .before .before .args .width), omega arith, tt, refl)
 
 path-at-requires : tie.Need-path-at-requires Inv-loop μ-loop
 path-at-requires c κs = omega (arith, c .before .loop .inv .0, c .before .before .before .before .before .before .before .before .pre .0)
@@ -70,7 +70,12 @@ is-set-requires : tie.Need-is-set-requires Inv-loop μ-loop
 is-set-requires c κs = c .before .before .before .before .path-at .ensures .1
 
 best-numbers-requires : tie.Need-best-numbers-requires Inv-loop μ-loop
-best-numbers-requires c κs = c .before .before .before .before .before .before .before .before .before .before .before .before .before .before .before .pre .2
+best-numbers-requires c κs =
+    let l = c .before .before .before .before .before .before .before .before .loop in
+    let p = c .before .before .before .before .before .before .path-at .ensures in
+    let better = c .before .before .before .better .ensures _ (c .before .before .before .before .before .before .before .before .before .masks .ensures .each _ (p .1)) in
+    let start = c .before .before .before .before .before .before .before .before .before .before .before .before .before .before .before .pre in
+    (start .0, better-within _ _ _ _ _ better (l .inv .0) (l .inv .2), start .2)
 
 returns : tie.Need-returns Inv-loop μ-loop
 returns c =
@@ -78,10 +83,10 @@ returns c =
     let p = c .before .before .before .before .before .before .before .path-at .ensures in
     c .best-numbers .ensures
     ∙ ap answerNumbers
-    (sym (visit-ends _ _ _ _ _ _ (l .i) (l .left) (l .best) (l .reads) refl (c .before .before .before .before .before .before .before .before .loop-test .taken) (p .0)
+    (sym (visit-ends _ _ _ _ _ _ _ (l .i) (l .left) (l .best) (l .reads) refl (c .before .before .before .before .before .before .before .before .loop-test .taken) (p .0)
     (c .before .before .before .before .better .ensures _ (c .before .before .before .before .before .before .before .before .before .before .masks .ensures .each _ (p .1)))
     (c .before .before .is-set .ensures) (not-true _ (c .before .if1 .taken)))
-    ∙ l .inv .2)
+    ∙ l .inv .3)
 
 refusal-numbers-requires : tie.Need-refusal-numbers-requires Inv-loop μ-loop
 refusal-numbers-requires c κs = search needs
@@ -92,10 +97,10 @@ returns-2 c =
     let p = c .before .before .before .before .before .before .before .before .path-at .ensures in
     c .refusal-numbers .ensures
     ∙ ap answerNumbers
-    (sym (visit-breaks _ _ _ _ _ _ (l .i) (l .left) (l .best) (l .reads) refl (c .before .before .before .before .before .before .before .before .before .loop-test .taken) (p .0)
+    (sym (visit-breaks _ _ _ _ _ _ _ (l .i) (l .left) (l .best) (l .reads) refl (c .before .before .before .before .before .before .before .before .before .loop-test .taken) (p .0)
     (c .before .before .before .before .before .better .ensures _ (c .before .before .before .before .before .before .before .before .before .before .before .masks .ensures .each _ (p .1)))
     (c .before .before .before .is-set .ensures) (not-false _ (c .before .before .if1 .left)) (omega (arith, c .before .if2 .taken)))
-    ∙ l .inv .2)
+    ∙ l .inv .3)
 
 mul-i : tie.Need-mul-i Inv-loop μ-loop
 mul-i c = search needs
@@ -127,13 +132,15 @@ loop-again c =
     let l = c .before .before .before .before .before .before .before .before .before .before .before .loop in
     let p = c .before .before .before .before .before .before .before .before .before .path-at .ensures in
     let test = c .before .before .before .before .before .before .before .before .before .before .loop-test in
-    let mask = c .before .before .before .before .before .before .before .before .before .before .before .before .masks .ensures .each _ (p .1) in (
+    let mask = c .before .before .before .before .before .before .before .before .before .before .before .before .masks .ensures .each _ (p .1) in
+    let better = c .before .before .before .before .before .before .better .ensures _ mask in (
       omega (arith, l .inv .0),
       omega (arith, l .inv .1, c .before .before .if2 .left),
-      sym (visit-goes _ _ _ _ _ _ (l .i) (l .left) (l .best) (l .reads) refl (test .taken) (p .0) (c .before .before .before .before .before .before .better .ensures _ mask)
+      better-within _ _ _ _ _ better (l .inv .0) (l .inv .2),
+      sym (visit-goes _ _ _ _ _ _ _ (l .i) (l .left) (l .best) (l .reads) refl (test .taken) (p .0) better
           (c .before .before .before .before .is-set .ensures) (not-false _ (c .before .before .before .if1 .left)) (c .ones-before .ensures .0)
           (omega (arith, c .before .before .if2 .left)))
-          ∙ l .inv .2,
+          ∙ l .inv .3,
     )
 
 refusal-numbers-requires-2 : tie.Need-refusal-numbers-requires-2 Inv-loop μ-loop
@@ -142,7 +149,7 @@ refusal-numbers-requires-2 c κs = search needs
 returns-3 : tie.Need-returns-3 Inv-loop μ-loop
 returns-3 c =
     let l = c .before .before .loop in
-    c .refusal-numbers2 .ensures ∙ ap answerNumbers (sym (visit-stops _ _ _ _ _ _ (l .i) (l .left) (l .best) (l .reads) (c .before .loop-test .left)) ∙ l .inv .2)
+    c .refusal-numbers2 .ensures ∙ ap answerNumbers (sym (visit-stops _ _ _ _ _ _ _ (l .i) (l .left) (l .best) (l .reads) (c .before .loop-test .left)) ∙ l .inv .3)
 
 pub follow-spec : {M : Type 1} → statement M
 follow-spec =

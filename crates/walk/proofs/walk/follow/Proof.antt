@@ -5,9 +5,10 @@ use native.Mathlib.Omega.{arith}
 use borrow.Author.Needs.{needs}
 use Rattle.walk.specs.Limits.{WIDTH}
 use Rattle.walk.specs.Rows.{lists, rowAt, rowOf}
-use Rattle.walk.specs.Answers.{answerNumbers}
+use Rattle.walk.specs.Answers.{Best, floorBest, better, answerNumbers}
 use Rattle.walk.specs.Lookup.{walk}
 use Rattle.walk.specs.Meaning.{Readable, no-stride, too-wide, past-end}
+use Rattle.walk.proofs.Answers.{better-is}
 use Rattle.walk.proofs.Bits.{cut-le}
 use Rattle.walk.proofs.Walks.{walk-stops, walk-spends, walk-ends, walk-goes}
 use Rattle.walk.proofs.walk.follow.Statement.{statement}
@@ -15,23 +16,23 @@ use Rattle.walk.proofs.walk.follow.Tie as tie
 
 -- the walk from here on is the walk from the root's block (a link has 32 bits)
 abbrev Inv-loop : tie.InvT-loop
-Inv-loop elements address hop link stride levels root width floor base₀ s₀ left₀ best₀ reads₀ base s left best reads =
+Inv-loop elements address hop lens link stride levels root width floor base₀ s₀ left₀ best₀ len₀ reads₀ base s left best len reads =
     (reads ≤ levels) × (left ≤ WIDTH) × (base < 2 ^ 32)
-    × (walk elements address (rowAt (lists hop link stride)) (levels - reads) base s left best reads
-    ≡ walk elements address (rowAt (lists hop link stride)) levels 0 root width floor 0)
+    × (walk elements address (rowAt (lists hop lens link stride)) (levels - reads) base s left (record { hop = best; len = len }) reads
+    ≡ walk elements address (rowAt (lists hop lens link stride)) levels 0 root width (floorBest floor) 0)
 
 abbrev μ-loop : tie.MeasureT-loop
-μ-loop elements address hop link stride levels root width floor base₀ s₀ left₀ best₀ reads₀ base s left best reads =
+μ-loop elements address hop lens link stride levels root width floor base₀ s₀ left₀ best₀ len₀ reads₀ base s left best len reads =
     levels - reads
 
 loop-holds : tie.Need-loop-holds Inv-loop μ-loop
 loop-holds c =
-    let a = c .before .before .before .args in
-    let at = rowAt (lists (a .hop .now) (a .link .now) (a .stride .now)) in (
+    let a = c .before .before .before .before .args in
+    let at = rowAt (lists (a .hop .now) (a .lens .now) (a .link .now) (a .stride .now)) in (
       omega arith,
       omega arith,
       omega arith,
-      ap (λ (k : ℕ). walk (a .elements) (a .address) at k 0 (a .root) (a .width) (a .floor) 0) (sub-zero (a .levels)),
+      ap (λ (k : ℕ). walk (a .elements) (a .address) at k 0 (a .root) (a .width) (floorBest (a .floor)) 0) (sub-zero (a .levels)),
     )
 
 refusal-numbers-requires : tie.Need-refusal-numbers-requires Inv-loop μ-loop
@@ -53,12 +54,12 @@ cut-requires c κs = omega arith
 add-row : tie.Need-add-row Inv-loop μ-loop
 add-row c =
     let l = c .before .before .before .before .loop in
-    omega (arith, cut-le (c .before .before .before .before .before .before .before .before .args .address) (2 ^ (l .left - l .s)) (2 ^ l .s))
+    omega (arith, cut-le (c .before .before .before .before .before .before .before .before .before .args .address) (2 ^ (l .left - l .s)) (2 ^ l .s))
 
 -- the row that the code computes is the rule's
 row-is : (c : tie.After-cut Inv-loop μ-loop) →
     let l = c .before .before .before .before .loop in
-    l .base + c .cut .result ≡ rowOf (c .before .before .before .before .before .before .before .before .args .address) (l .base) (l .s) (l .left)
+    l .base + c .cut .result ≡ rowOf (c .before .before .before .before .before .before .before .before .before .args .address) (l .base) (l .s) (l .left)
 unfolding rowOf
 row-is c = ap (λ (x : ℕ). c .before .before .before .before .loop .base + x) (c .cut .ensures)
 
@@ -72,18 +73,24 @@ returns-3 c =
 
 can-read : (c : tie.Else3 Inv-loop μ-loop) →
     let l = c .before .before .before .before .before .loop in
-    let a = c .before .before .before .before .before .before .before .before .before .args in
+    let a = c .before .before .before .before .before .before .before .before .before .before .args in
     Readable (a .elements) (a .address) (l .base) (l .s) (l .left)
 can-read c = record { stride = omega arith; fits = c .before .before .if2 .left; within = rw (row-is (c .before)) at (c .if3 .left) }
 
-mul-newer : tie.Need-mul-newer Inv-loop μ-loop
-mul-newer c = search needs
+mul-h : tie.Need-mul-h Inv-loop μ-loop
+mul-h c = search needs
 
-shared-slice-read-newer : tie.Need-shared-slice-read-newer Inv-loop μ-loop
-shared-slice-read-newer c = omega arith
+shared-slice-read-h : tie.Need-shared-slice-read-h Inv-loop μ-loop
+shared-slice-read-h c = omega arith
 
 newer-requires : tie.Need-newer-requires Inv-loop μ-loop
 newer-requires c κs = search needs
+
+shared-slice-read-newer-length : tie.Need-shared-slice-read-newer-length Inv-loop μ-loop
+shared-slice-read-newer-length c = omega arith
+
+newer-length-requires : tie.Need-newer-length-requires Inv-loop μ-loop
+newer-length-requires c κs = search needs
 
 add-reads : tie.Need-add-reads Inv-loop μ-loop
 add-reads c = omega arith
@@ -97,46 +104,53 @@ shared-slice-read-next c = omega arith
 hop-numbers-requires : tie.Need-hop-numbers-requires Inv-loop μ-loop
 hop-numbers-requires c κs = search needs
 
+-- the best that the code keeps is the rule's
+new-best : (c : tie.After-newer-length Inv-loop μ-loop) →
+    let l = c .before .before .before .before .before .before .before .before .before .loop in
+    let a = c .before .before .before .before .before .before .before .before .before .before .before .before .before .before .args in
+    let row = rowAt (lists (a .hop .now) (a .lens .now) (a .link .now) (a .stride .now)) (l .base + c .before .before .before .before .before .cut .result) in
+    _≡_ {A = Best} (record { hop = c .before .before .newer .result; len = c .newer-length .result }) (better row (record { hop = l .best; len = l .len }))
+new-best c = better-is _ _ (c .before .before .newer .ensures) (c .newer-length .ensures)
+
 returns-4 : tie.Need-returns-4 Inv-loop μ-loop
 returns-4 c =
-    let l = c .before .before .before .before .before .before .before .before .before .before .loop in
-    let a = c .before .before .before .before .before .before .before .before .before .before .before .before .before .before .args in
+    let kept = c .before .before .before in
+    let free = kept .before .before .before .before in
+    let l = free .before .before .before .before .before .loop in
+    let a = free .before .before .before .before .before .before .before .before .before .before .args in
     c .hop-numbers .ensures
     ∙ ap answerNumbers
-    (sym (walk-ends _ _ (rowAt (lists (a .hop .now) (a .link .now) (a .stride .now))) _ _ _ _ _ _ {j = a .levels - (l .reads + 1)} (omega arith)
-    (can-read (c .before .before .before .before .before)) (row-is (c .before .before .before .before .before .before)) (c .before .before .before .newer .ensures) (c .before .if4 .taken))
+    (sym (walk-ends _ _ (rowAt (lists (a .hop .now) (a .lens .now) (a .link .now) (a .stride .now))) _ _ _ _ _ _ {j = a .levels - (l .reads + 1)} (omega arith)
+    (can-read free) (row-is (free .before)) (new-best kept) (c .before .if4 .taken))
     ∙ l .inv .3)
 
 cast-base : tie.Need-cast-base Inv-loop μ-loop
 cast-base c =
-    let l = c .before .before .before .before .before .before .before .before .before .loop in
-    omega (arith, c .before .shared-slice-known5 .given (l .base + c .before .before .before .before .before .cut .result))
+    let free = c .before .before .before .before .before .before in
+    omega (arith, c .before .shared-slice-known7 .given (free .before .before .before .before .before .loop .base + free .before .cut .result))
 
 shared-slice-read-s : tie.Need-shared-slice-read-s Inv-loop μ-loop
 shared-slice-read-s c = omega arith
 
 cast-s : tie.Need-cast-s Inv-loop μ-loop
 cast-s c =
-    let l = c .before .before .before .before .before .before .before .before .before .before .loop in
-    omega (arith, c .shared-slice-known6 .given (l .base + c .before .before .before .before .before .before .cut .result))
+    let free = c .before .before .before .before .before .before .before in
+    omega (arith, c .shared-slice-known8 .given (free .before .before .before .before .before .loop .base + free .before .cut .result))
 
 loop-less : tie.Need-loop-less Inv-loop μ-loop
 loop-less c = omega arith
 
 loop-again : tie.Need-loop-again Inv-loop μ-loop
 loop-again c =
-    let c3 = c .before .before .before in
-    let c5 = c3 .before .before in
-    let c6 = c5 .before in
-    let c10 = c6 .before .before .before .before in
-    let c14 = c10 .before .before .before .before in
-    let l = c10 .loop in
-    let a = c14 .args in (
+    let kept = c .before .before .before in
+    let free = kept .before .before .before .before in
+    let l = free .before .before .before .before .before .loop in
+    let a = free .before .before .before .before .before .before .before .before .before .before .args in (
       omega arith,
       omega arith,
-      omega (arith, c .before .before .shared-slice-known5 .given (l .base + c6 .cut .result)),
-      sym (walk-goes _ _ (rowAt (lists (a .hop .now) (a .link .now) (a .stride .now))) _ _ _ _ _ _ (omega arith)
-          (can-read (c5)) (row-is (c6)) (c3 .newer .ensures) (c .before .if4 .left)) ∙ l .inv .3,
+      omega (arith, c .before .before .shared-slice-known7 .given (l .base + free .before .cut .result)),
+      sym (walk-goes _ _ (rowAt (lists (a .hop .now) (a .lens .now) (a .link .now) (a .stride .now))) _ _ _ _ _ _ (omega arith)
+          (can-read free) (row-is (free .before)) (new-best kept) (c .before .if4 .left)) ∙ l .inv .3,
     )
 
 refusal-numbers-requires-4 : tie.Need-refusal-numbers-requires-4 Inv-loop μ-loop
@@ -160,9 +174,11 @@ follow-spec =
     add-row
     refusal-numbers-requires-3
     returns-3
-    mul-newer
-    shared-slice-read-newer
+    mul-h
+    shared-slice-read-h
     newer-requires
+    shared-slice-read-newer-length
+    newer-length-requires
     add-reads
     mul-next
     shared-slice-read-next

@@ -11,13 +11,13 @@ use Rattle.walk.proofs.walk.lookup_numbers.Statement.{statement}
 use Rattle.walk.proofs.walk.lookup_numbers.Tie as tie
 
 -- the number that the tests gave is that of the shortest list
-number : (c : tie.After-first-refusal) → let a = c .before .before .before .before .before .before .args in
-    c .first-refusal .result ≡ refusalOf WIDTH (a .t1) (shortest (lists (a .hop .now) (a .link .now) (a .stride .now))) (a .address)
-number c = rw (c .before .smaller2 .ensures, c .before .before .smaller .ensures) at (c .first-refusal .ensures)
+number : (c : tie.After-first-refusal) → let a = c .before .before .before .before .before .before .before .before .args in
+    c .first-refusal .result ≡ refusalOf WIDTH (a .t1) (shortest (lists (a .hop .now) (a .lens .now) (a .link .now) (a .stride .now))) (a .address)
+number c = rw (c .before .smaller3 .ensures, c .before .before .smaller2 .ensures, c .before .before .before .smaller .ensures) at (c .first-refusal .ensures)
 
 -- no test failed
-zero-number : (c : tie.Else1) → let a = c .before .before .before .before .before .before .before .args in
-    refusalOf WIDTH (a .t1) (shortest (lists (a .hop .now) (a .link .now) (a .stride .now))) (a .address) ≡ 0
+zero-number : (c : tie.Else1) → let a = c .before .before .before .before .before .before .before .before .before .args in
+    refusalOf WIDTH (a .t1) (shortest (lists (a .hop .now) (a .lens .now) (a .link .now) (a .stride .now))) (a .address) ≡ 0
 zero-number c = sym (number (c .before)) ∙ c .if1 .left
 
 smaller-requires : tie.Need-smaller-requires
@@ -25,6 +25,9 @@ smaller-requires c κs = search needs
 
 smaller-requires-2 : tie.Need-smaller-requires-2
 smaller-requires-2 c κs = search needs
+
+smaller-requires-3 : tie.Need-smaller-requires-3
+smaller-requires-3 c κs = search needs
 
 first-refusal-requires : tie.Need-first-refusal-requires
 first-refusal-requires c κs = search needs
@@ -66,6 +69,7 @@ lookup-numbers-spec =
     (tie.spec
     smaller-requires
     smaller-requires-2
+    smaller-requires-3
     first-refusal-requires
     refusal-numbers-requires
     returns

@@ -6,20 +6,20 @@ use lib.ListN.{length, length-set}
 use borrow.Author.Needs.{needs}
 use Rattle.tries.specs.Filling.{Spread}
 use Rattle.tries.proofs.Filling.{spread-none, spread-more, spread-end}
-use Rattle.tries.proofs.blocks.clear_stride.Statement.{statement}
-use Rattle.tries.proofs.blocks.clear_stride.Tie as tie
+use Rattle.tries.proofs.blocks.spread_byte.Statement.{statement}
+use Rattle.tries.proofs.blocks.spread_byte.Tie as tie
 
 abbrev Inv-loop : tie.InvT-loop
-Inv-loop stride₀ base end i₀ stride i = (length stride ≡ length stride₀) × (base ≤ i) × (i ≤ end) × Spread base i 0 stride₀ stride
+Inv-loop list₀ base end b i₀ list i = (length list ≡ length list₀) × (base ≤ i) × (i ≤ end) × Spread base i b list₀ list
 
 abbrev μ-loop : tie.MeasureT-loop
-μ-loop stride₀ base end i₀ stride i = end - i
+μ-loop list₀ base end b i₀ list i = end - i
 
 loop-holds : tie.Need-loop-holds Inv-loop μ-loop
 loop-holds c = (refl, omega arith, omega arith, spread-none)
 
-slice-write-stride : tie.Need-slice-write-stride Inv-loop μ-loop
-slice-write-stride c = search needs
+slice-write-list : tie.Need-slice-write-list Inv-loop μ-loop
+slice-write-list c = search needs
 
 add-i : tie.Need-add-i Inv-loop μ-loop
 add-i c = search needs
@@ -30,7 +30,7 @@ loop-less c = search needs
 loop-again : tie.Need-loop-again Inv-loop μ-loop
 loop-again c =
     let l = c .before .loop in
-    (length-set (l .stride) (l .i) _ ∙ l .inv .0, omega arith, omega arith, spread-more (l .inv .1) (omega arith) (l .inv .3))
+    (length-set (l .list) (l .i) _ ∙ l .inv .0, omega arith, omega arith, spread-more (l .inv .1) (omega arith) (l .inv .3))
 
 same-length : tie.Need-same-length Inv-loop μ-loop
 same-length c = search needs
@@ -38,5 +38,5 @@ same-length c = search needs
 returns : tie.Need-returns Inv-loop μ-loop
 returns c = let l = c .before .loop in spread-end (omega arith) (l .inv .3)
 
-pub clear-stride-spec : {M : Type 1} → statement M
-clear-stride-spec = tie.close (tie.spec Inv-loop μ-loop loop-holds slice-write-stride add-i loop-less loop-again same-length returns)
+pub spread-byte-spec : {M : Type 1} → statement M
+spread-byte-spec = tie.close (tie.spec Inv-loop μ-loop loop-holds slice-write-list add-i loop-less loop-again same-length returns)
