@@ -23,8 +23,11 @@
  * it is the longest that begins an address, the answer, with number 0. Test for it before sending: it is no link. Nor is it hop 0, which
  * says that no entry begins the address.
  *
+ * With the hop a lookup answers the length of the entry that won: how many bits it has. Beside a hop that is not 0, length 0 is that of
+ * the entry of length 0; beside hop 0 the length is 0.
+ *
  * A table can be laid out in two ways: in elements, as few as a level limit allows, or as a tree bitmap, in supernodes of four
- * levels and hops. Both give every address the same hop.
+ * levels and hops. Both give every address the same hop and the same length.
  *
  * How long the lists of a build must be: lend it no scratch. Where it is refused by 6, the detail is the number of scratch rows
  * (HONGSAMUK_ROW numbers each) that the table needs: one for each node of its 1-bit trie. A table with no entry, or with none but
@@ -47,7 +50,7 @@
  *    hongsamuk_chosen         number 0, detail 8, cost 16, strides 24, size 56
  *    hongsamuk_built          number 0, detail 8, record 16, size 64
  *    hongsamuk_built_bitmap   number 0, detail 8, record 16, size 32
- *    hongsamuk_answer         number 0, hop 4, reads 8, size 12
+ *    hongsamuk_answer         number 0, hop 4, length 6, reads 8, size 12
  */
 #ifndef HONGSAMUK_H
 #define HONGSAMUK_H
@@ -124,6 +127,7 @@ typedef struct hongsamuk_built_bitmap {
 typedef struct hongsamuk_answer {
     uint32_t number;                     /* 0, 1, 2, 8 or 9, whose detail is always 0 */
     uint16_t hop;                        /* 0: no route, or refused; HONGSAMUK_DISCARD: discard */
+    uint8_t length;                      /* bits of the prefix that won; 0: the floor's, no route, or refused */
     uint32_t reads;                      /* blocks, or supernodes, read; refused: 0 */
 } hongsamuk_answer;
 
@@ -163,9 +167,10 @@ hongsamuk_chosen hongsamuk_choose_variable(
     const uint16_t *hop, size_t hops,
     uint64_t *scratch, size_t words);
 
-/* Turns a table into a record and element rows, with the least number of elements E of the kind: tests 1 to 7. Accepted, all of
- * scratch is 0, rows 0 to E - 1 of the three element lists are the build's, and later rows are as they were. Refused by 7, all
- * of scratch is 0 and no element changes; refused by 1 to 6, no list changes. The table's lists never change. */
+/* Turns a table into a record and element rows, with the least number of elements E of the kind: tests 1 to 7, where 7 counts the
+ * shortest of the four element lists. Accepted, all of scratch is 0, rows 0 to E - 1 of these lists are the build's, and later rows
+ * are as they were. Refused by 7, all of scratch is 0 and no element changes; refused by 1 to 6, no list changes. The table's lists
+ * never change. An element's row_length is the length of the entry whose hop its row_hop is, 0 where that is 0. */
 hongsamuk_built hongsamuk_build_fixed(
     uint32_t width, uint32_t levels,
     const uint32_t *value, size_t values,
@@ -173,6 +178,7 @@ hongsamuk_built hongsamuk_build_fixed(
     const uint16_t *hop, size_t hops,
     uint64_t *scratch, size_t words,
     uint16_t *row_hop, size_t row_hops,
+    uint8_t *row_length, size_t row_lengths,
     uint32_t *row_link, size_t row_links,
     uint8_t *row_stride, size_t row_strides);
 
@@ -183,30 +189,35 @@ hongsamuk_built hongsamuk_build_variable(
     const uint16_t *hop, size_t hops,
     uint64_t *scratch, size_t words,
     uint16_t *row_hop, size_t row_hops,
+    uint8_t *row_length, size_t row_lengths,
     uint32_t *row_link, size_t row_links,
     uint8_t *row_stride, size_t row_strides);
 
-/* One lookup: tests 1, 2, 8, 9. Over a record and element lists that one accepted build left together: the hop of the table's
- * longest prefix that begins the address, a discard's too, or 0 where none does. Over any other: the latest hop that is not 0 of the
- * rows on the address's path, else the floor, as they are found there. No list changes. */
+/* One lookup: tests 1, 2, 8, 9, where 9 counts the shortest of the four element lists. Over a record and element lists that one
+ * accepted build left together: the hop and the length of the table's longest prefix that begins the address, a discard's too, or 0
+ * and 0 where none does. Over any other: the latest hop that is not 0 of the rows on the address's path with the length of its row,
+ * else the floor with length 0, as they are found there. No list changes. */
 hongsamuk_answer hongsamuk_lookup(
     hongsamuk_record record,
     const uint16_t *row_hop, size_t row_hops,
+    const uint8_t *row_length, size_t row_lengths,
     const uint32_t *row_link, size_t row_links,
     const uint8_t *row_stride, size_t row_strides,
     uint32_t address);
 
-/* Lookups one after the other: answers as many addresses as the shortest of the address list and the three answer lists has, writes
- * number, hop (HONGSAMUK_DISCARD: discard) and reads of each at its index, keeps the later places of these lists, and returns how many.
- * No other list changes. */
+/* Lookups one after the other: answers as many addresses as the shortest of the address list and the four answer lists has, writes
+ * number, hop (HONGSAMUK_DISCARD: discard), length and reads of each at its index, keeps the later places of these lists, and returns
+ * how many. No other list changes. */
 size_t hongsamuk_lookup_batch(
     hongsamuk_record record,
     const uint16_t *row_hop, size_t row_hops,
+    const uint8_t *row_length, size_t row_lengths,
     const uint32_t *row_link, size_t row_links,
     const uint8_t *row_stride, size_t row_strides,
     const uint32_t *address, size_t addresses,
     uint32_t *number, size_t numbers,
     uint16_t *hop, size_t hops,
+    uint8_t *length, size_t lengths,
     uint32_t *reads, size_t counts);
 
 /* Turns a table into a tree bitmap: tests 1, 3 to 7. There is a supernode for each start of an entry that has 0, 4, 8 .. bits,
@@ -234,8 +245,9 @@ hongsamuk_built_bitmap hongsamuk_build_bitmap(
     uint16_t *hop_row, size_t hop_rows);
 
 /* One lookup in a tree bitmap: tests 1, 8, 9; at most width / 4 + 1 reads. Over a record and lists that one accepted build left
- * together: the hop of the table's longest prefix that begins the address, a discard's too, or 0 where none does. Over any other: the
- * hop of the longest entry that the internal maps on the address's path have, as it is found there. No list changes. */
+ * together: the hop and the length of the table's longest prefix that begins the address, a discard's too, or 0 and 0 where none
+ * does. Over any other: the hop and the length of the longest entry that the internal maps on the address's path have, the hop as it is
+ * found there, or 0 and 0 where that hop is 0 or there is no such entry. No list changes. */
 hongsamuk_answer hongsamuk_lookup_bitmap(
     hongsamuk_bitmap record,
     const uint16_t *internal, size_t internals,
@@ -294,6 +306,7 @@ HONGSAMUK_AT(hongsamuk_built_bitmap, record, 16);
 HONGSAMUK_SIZE(hongsamuk_built_bitmap, 32);
 HONGSAMUK_AT(hongsamuk_answer, number, 0);
 HONGSAMUK_AT(hongsamuk_answer, hop, 4);
+HONGSAMUK_AT(hongsamuk_answer, length, 6);
 HONGSAMUK_AT(hongsamuk_answer, reads, 8);
 HONGSAMUK_SIZE(hongsamuk_answer, 12);
 #undef HONGSAMUK_SIZE

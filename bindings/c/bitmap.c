@@ -1,6 +1,6 @@
-/* The eight-prefix table both ways: as a tree bitmap and in elements, where every address must get the same hop. Then the calls of
- * the bitmap with too little room, with damaged rows, and with no lists at all. Exits with 1 where an answer is not the one
- * expected. */
+/* The eight-prefix table both ways: as a tree bitmap and in elements, where every address must get the same hop and the same length.
+ * Then the calls of the bitmap with too little room, with damaged rows, and with no lists at all. Exits with 1 where an answer is not
+ * the one expected. */
 #include <stdio.h>
 #include <string.h>
 #include "hongsamuk.h"
@@ -10,7 +10,7 @@
 #define TABLE LIST(value), LIST(length), LIST(hop)
 #define NUMBERS LIST(first_child), LIST(first_hop)
 #define BITMAP LIST(internal), LIST(external), NUMBERS, LIST(hop_row)
-#define ROWS LIST(row_hop), LIST(row_link), LIST(row_stride)
+#define ROWS LIST(row_hop), LIST(row_length), LIST(row_link), LIST(row_stride)
 
 /* Nodes of the binary trie and of the 1-bit trie; elements with two levels. */
 enum { WIDTH = 7, ADDRESSES = 128, NODES = 14, SUPERNODES = 3, HOPS = 8, LEVELS = 2, ONE_BIT_NODES = 10, ELEMENTS = 26 };
@@ -28,6 +28,7 @@ static uint16_t hop_row[HOPS];
 
 static uint64_t scratch[ONE_BIT_NODES * HONGSAMUK_ROW];
 static uint16_t row_hop[ELEMENTS];
+static uint8_t row_length[ELEMENTS];
 static uint32_t row_link[ELEMENTS];
 static uint8_t row_stride[ELEMENTS];
 
@@ -64,17 +65,17 @@ static hongsamuk_bitmap build(void)
 static void look(hongsamuk_bitmap record)
 {
     hongsamuk_answer answer = hongsamuk_lookup_bitmap(record, BITMAP, 97);
-    printf("address=97 hop=%u reads=%u\n", (unsigned)answer.hop, (unsigned)answer.reads);
-    expect(answer.number == 0 && answer.hop == 7 && answer.reads == 2, "address 97");
+    printf("address=97 hop=%u length=%u reads=%u\n", (unsigned)answer.hop, (unsigned)answer.length, (unsigned)answer.reads);
+    expect(answer.number == 0 && answer.hop == 7 && answer.length == 6 && answer.reads == 2, "address 97");
     expect(hongsamuk_lookup_bitmap(record, BITMAP, ADDRESSES).number == 8, "address 128");
     hongsamuk_built built = hongsamuk_build_variable(WIDTH, LEVELS, TABLE, LIST(scratch), ROWS);
     unsigned same = 0;
     for (uint32_t address = 0; address < ADDRESSES; address++) {
         hongsamuk_answer other = hongsamuk_lookup(built.record, ROWS, address);
         answer = hongsamuk_lookup_bitmap(record, BITMAP, address);
-        same += answer.number == 0 && other.number == 0 && answer.hop == other.hop;
+        same += answer.number == 0 && other.number == 0 && answer.hop == other.hop && answer.length == other.length;
     }
-    printf("the same hop as from elements: %u of %u addresses\n", same, (unsigned)ADDRESSES);
+    printf("the same hop and length as from elements: %u of %u addresses\n", same, (unsigned)ADDRESSES);
     expect(same == ADDRESSES, "one table, one answer");
 }
 
@@ -89,7 +90,7 @@ static void lend_too_little(void)
     built = hongsamuk_build_bitmap(WIDTH, NONE, NONE, NONE, NONE, NONE, NONE, NONE, NONE, NONE);
     expect(built.number == 0 && built.record.width == WIDTH && built.record.supernodes == 0, "the build of nothing");
     hongsamuk_answer answer = hongsamuk_lookup_bitmap(built.record, NONE, NONE, NONE, NONE, NONE, 5);
-    expect(answer.number == 0 && answer.hop == 0 && answer.reads == 0, "the lookup in nothing");
+    expect(answer.number == 0 && answer.hop == 0 && answer.length == 0 && answer.reads == 0, "the lookup in nothing");
 }
 
 static void damage(hongsamuk_bitmap record)

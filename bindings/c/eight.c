@@ -7,6 +7,10 @@
 
 #define LIST(a) (a), sizeof (a) / sizeof *(a)
 #define NONE NULL, 0
+#define NO_TABLE NONE, NONE, NONE
+#define NO_ROWS NONE, NONE, NONE, NONE
+#define TABLE LIST(value), LIST(length), LIST(hop)
+#define ROWS LIST(row_hop), LIST(row_length), LIST(row_link), LIST(row_stride)
 
 enum { WIDTH = 7, LEVELS = 2, NODES = 10, ELEMENTS = 26, ADDRESSES = 6 };
 
@@ -16,9 +20,11 @@ static const uint16_t hop[] = { 1, 2, 5, 4, 3, 6, 7, 8 };
 
 static const uint32_t address[ADDRESSES] = { 97, 96, 103, 104, 71, 79 };
 static const uint16_t expected[ADDRESSES] = { 7, 8, 6, 3, 5, 2 };
+static const uint8_t matched[ADDRESSES] = { 6, 7, 4, 2, 5, 1 };
 
 static uint64_t scratch[NODES * HONGSAMUK_ROW];
 static uint16_t row_hop[ELEMENTS];
+static uint8_t row_length[ELEMENTS];
 static uint32_t row_link[ELEMENTS];
 static uint8_t row_stride[ELEMENTS];
 
@@ -34,8 +40,7 @@ static void expect(int holds, const char *what)
 
 static hongsamuk_record build(void)
 {
-    hongsamuk_built built = hongsamuk_build_variable(WIDTH, LEVELS, LIST(value), LIST(length), LIST(hop), LIST(scratch),
-                                                     LIST(row_hop), LIST(row_link), LIST(row_stride));
+    hongsamuk_built built = hongsamuk_build_variable(WIDTH, LEVELS, TABLE, LIST(scratch), ROWS);
     printf("refusal=%u detail=%llu elements=%u root=%u\n", (unsigned)built.number, (unsigned long long)built.detail,
            (unsigned)built.record.elements, (unsigned)built.record.strides[0]);
     expect(built.number == 0 && built.record.elements == ELEMENTS && built.record.strides[0] == 4, "the build");
@@ -45,40 +50,44 @@ static hongsamuk_record build(void)
 static void look(hongsamuk_record record)
 {
     for (size_t i = 0; i < ADDRESSES; i++) {
-        hongsamuk_answer answer = hongsamuk_lookup(record, LIST(row_hop), LIST(row_link), LIST(row_stride), address[i]);
-        printf("address=%u hop=%u reads=%u\n", (unsigned)address[i], (unsigned)answer.hop, (unsigned)answer.reads);
-        expect(answer.number == 0 && answer.hop == expected[i], "a lookup");
+        hongsamuk_answer answer = hongsamuk_lookup(record, ROWS, address[i]);
+        printf("address=%u hop=%u length=%u reads=%u\n", (unsigned)address[i], (unsigned)answer.hop, (unsigned)answer.length,
+               (unsigned)answer.reads);
+        expect(answer.number == 0 && answer.hop == expected[i] && answer.length == matched[i], "a lookup");
     }
-    expect(hongsamuk_lookup(record, LIST(row_hop), LIST(row_link), LIST(row_stride), 128).number == 8, "address 128");
+    expect(hongsamuk_lookup(record, ROWS, 128).number == 8, "address 128");
 }
 
 static void look_in_a_batch(hongsamuk_record record)
 {
     uint32_t number[ADDRESSES];
     uint16_t best[ADDRESSES];
+    uint8_t bits[ADDRESSES];
     uint32_t reads[ADDRESSES];
-    size_t answered = hongsamuk_lookup_batch(record, LIST(row_hop), LIST(row_link), LIST(row_stride), LIST(address), LIST(number),
-                                             LIST(best), LIST(reads));
+    size_t answered = hongsamuk_lookup_batch(record, ROWS, LIST(address), LIST(number), LIST(best), LIST(bits), LIST(reads));
     printf("batch of %zu\n", answered);
     expect(answered == ADDRESSES, "the batch's count");
-    for (size_t i = 0; i < answered; i++)
+    for (size_t i = 0; i < answered; i++) {
         expect(number[i] == 0 && best[i] == expected[i] && reads[i] >= 1 && reads[i] <= LEVELS, "the batch");
+        expect(bits[i] == matched[i], "the batch's lengths");
+    }
+    answered = hongsamuk_lookup_batch(record, ROWS, LIST(address), LIST(number), LIST(best), bits, 2, LIST(reads));
+    expect(answered == 2, "a batch with the fewest places for lengths");
 }
 
 static void ask_the_table(void)
 {
-    hongsamuk_span zone = hongsamuk_zone_span(WIDTH, LIST(value), LIST(length), LIST(hop), 96, 4);
+    hongsamuk_span zone = hongsamuk_zone_span(WIDTH, TABLE, 96, 4);
     printf("zone 1100: index=%u count=%u\n", (unsigned)zone.index, (unsigned)zone.count);
     expect(zone.number == 0 && zone.index == 5 && zone.count == 3, "the zone");
     hongsamuk_shared shared = hongsamuk_shared_length(WIDTH, 68, 5, 80, 3);
     expect(shared.number == 0 && shared.bits == 2, "the shared length");
-    expect(hongsamuk_check(WIDTH, LIST(value), LIST(length), LIST(hop)).number == 0, "the check");
-    hongsamuk_chosen chosen = hongsamuk_choose_fixed(WIDTH, 3, LIST(value), LIST(length), LIST(hop), LIST(scratch));
+    expect(hongsamuk_check(WIDTH, TABLE).number == 0, "the check");
+    hongsamuk_chosen chosen = hongsamuk_choose_fixed(WIDTH, 3, TABLE, LIST(scratch));
     expect(chosen.number == 0 && chosen.cost == 20 && chosen.strides[0] == 3 && chosen.strides[2] == 2, "the fixed choice");
-    chosen = hongsamuk_choose_variable(WIDTH, 3, LIST(value), LIST(length), LIST(hop), scratch, 9 * HONGSAMUK_ROW);
+    chosen = hongsamuk_choose_variable(WIDTH, 3, TABLE, scratch, 9 * HONGSAMUK_ROW);
     expect(chosen.number == 6 && chosen.detail == NODES && chosen.cost == 0 && chosen.strides[0] == 0, "too little scratch");
-    hongsamuk_built built = hongsamuk_build_fixed(WIDTH, LEVELS, LIST(value), LIST(length), LIST(hop), LIST(scratch),
-                                                  LIST(row_hop), LIST(row_link), LIST(row_stride));
+    hongsamuk_built built = hongsamuk_build_fixed(WIDTH, LEVELS, TABLE, LIST(scratch), ROWS);
     expect(built.number == 7 && built.detail == 32 && built.record.elements == 0, "too little room");
 }
 
@@ -87,17 +96,17 @@ static void discard_a_corner(void)
     static const uint32_t values[] = { 8, 10 };
     static const uint8_t lengths[] = { 2, 4 };
     static const uint16_t own[] = { 1, HONGSAMUK_DISCARD };
-    hongsamuk_built built = hongsamuk_build_variable(4, LEVELS, LIST(values), LIST(lengths), LIST(own), LIST(scratch),
-                                                     LIST(row_hop), LIST(row_link), LIST(row_stride));
+    hongsamuk_built built = hongsamuk_build_variable(4, LEVELS, LIST(values), LIST(lengths), LIST(own), LIST(scratch), ROWS);
     expect(built.number == 0, "the build of a discard");
-    hongsamuk_answer corner = hongsamuk_lookup(built.record, LIST(row_hop), LIST(row_link), LIST(row_stride), 10);
-    hongsamuk_answer beside = hongsamuk_lookup(built.record, LIST(row_hop), LIST(row_link), LIST(row_stride), 11);
-    hongsamuk_answer outside = hongsamuk_lookup(built.record, LIST(row_hop), LIST(row_link), LIST(row_stride), 7);
-    printf("corner: hop=%u reads=%u; beside it: hop=%u; outside: hop=%u\n", (unsigned)corner.hop, (unsigned)corner.reads,
-           (unsigned)beside.hop, (unsigned)outside.hop);
+    hongsamuk_answer corner = hongsamuk_lookup(built.record, ROWS, 10);
+    hongsamuk_answer beside = hongsamuk_lookup(built.record, ROWS, 11);
+    hongsamuk_answer outside = hongsamuk_lookup(built.record, ROWS, 7);
+    printf("corner: hop=%u length=%u reads=%u; beside it: hop=%u; outside: hop=%u\n", (unsigned)corner.hop,
+           (unsigned)corner.length, (unsigned)corner.reads, (unsigned)beside.hop, (unsigned)outside.hop);
     expect(corner.number == 0 && corner.hop == HONGSAMUK_DISCARD && corner.reads == 2, "the corner is discarded");
     expect(beside.number == 0 && beside.hop == 1, "beside it the wide route goes on");
     expect(outside.number == 0 && outside.hop == 0, "outside there is no route");
+    expect(corner.length == 4 && beside.length == 2 && outside.length == 0, "the lengths about the corner");
 }
 
 static void go_to_the_limits(void)
@@ -107,20 +116,23 @@ static void go_to_the_limits(void)
     static const uint16_t next[] = { 9 };
     static uint64_t words[HONGSAMUK_WIDTH * HONGSAMUK_ROW];
     static uint16_t hops[2 * HONGSAMUK_LEVELS];
+    static uint8_t matches[2 * HONGSAMUK_LEVELS];
     static uint32_t links[2 * HONGSAMUK_LEVELS];
     static uint8_t strides[2 * HONGSAMUK_LEVELS];
     hongsamuk_built built = hongsamuk_build_fixed(HONGSAMUK_WIDTH, HONGSAMUK_LEVELS, LIST(host), LIST(bits), LIST(next),
-                                                  LIST(words), LIST(hops), LIST(links), LIST(strides));
-    hongsamuk_answer answer = hongsamuk_lookup(built.record, LIST(hops), LIST(links), LIST(strides), host[0]);
-    printf("32 levels: elements=%u hop=%u reads=%u\n", (unsigned)built.record.elements, (unsigned)answer.hop,
-           (unsigned)answer.reads);
+                                                  LIST(words), LIST(hops), LIST(matches), LIST(links), LIST(strides));
+    hongsamuk_answer answer = hongsamuk_lookup(built.record, LIST(hops), LIST(matches), LIST(links), LIST(strides), host[0]);
+    printf("32 levels: elements=%u hop=%u length=%u reads=%u\n", (unsigned)built.record.elements, (unsigned)answer.hop,
+           (unsigned)answer.length, (unsigned)answer.reads);
     expect(built.number == 0 && built.record.elements == 2 * HONGSAMUK_LEVELS, "a build with 32 levels");
     for (size_t i = 0; i < HONGSAMUK_LEVELS; i++)
         expect(built.record.strides[i] == 1, "32 strides of 1");
     expect(answer.number == 0 && answer.hop == 9 && answer.reads == HONGSAMUK_LEVELS, "a lookup with 32 reads");
+    expect(answer.length == HONGSAMUK_WIDTH, "a match of all 32 bits");
     built.record.levels = HONGSAMUK_LEVELS + 1;
-    expect(hongsamuk_lookup(built.record, LIST(hops), LIST(links), LIST(strides), host[0]).number == 2, "a record of 33 levels");
-    expect(hongsamuk_choose_fixed(WIDTH, HONGSAMUK_LEVELS + 1, NONE, NONE, NONE, NONE).number == 2, "33 levels");
+    answer = hongsamuk_lookup(built.record, LIST(hops), LIST(matches), LIST(links), LIST(strides), host[0]);
+    expect(answer.number == 2 && answer.hop == 0 && answer.length == 0, "a record of 33 levels");
+    expect(hongsamuk_choose_fixed(WIDTH, HONGSAMUK_LEVELS + 1, NO_TABLE, NONE).number == 2, "33 levels");
 
     enum { MOST = HONGSAMUK_ENTRIES };
     static uint32_t values[MOST + 1];
@@ -137,23 +149,25 @@ static void go_to_the_limits(void)
 
 static void lend_nothing(void)
 {
-    expect(hongsamuk_check(WIDTH, NONE, NONE, NONE).number == 0, "the check of nothing");
-    hongsamuk_span zone = hongsamuk_zone_span(WIDTH, NONE, NONE, NONE, 96, 4);
+    expect(hongsamuk_check(WIDTH, NO_TABLE).number == 0, "the check of nothing");
+    hongsamuk_span zone = hongsamuk_zone_span(WIDTH, NO_TABLE, 96, 4);
     expect(zone.number == 0 && zone.index == 0 && zone.count == 0, "the zone of nothing");
-    expect(hongsamuk_choose_fixed(WIDTH, LEVELS, NONE, NONE, NONE, NONE).number == 0, "the fixed choice for nothing");
-    expect(hongsamuk_choose_variable(WIDTH, LEVELS, NONE, NONE, NONE, NONE).number == 0, "the variable choice for nothing");
-    hongsamuk_built built = hongsamuk_build_fixed(WIDTH, LEVELS, NONE, NONE, NONE, NONE, NONE, NONE, NONE);
+    expect(hongsamuk_choose_fixed(WIDTH, LEVELS, NO_TABLE, NONE).number == 0, "the fixed choice for nothing");
+    expect(hongsamuk_choose_variable(WIDTH, LEVELS, NO_TABLE, NONE).number == 0, "the variable choice for nothing");
+    hongsamuk_built built = hongsamuk_build_fixed(WIDTH, LEVELS, NO_TABLE, NONE, NO_ROWS);
     expect(built.number == 0 && built.record.elements == 0 && built.record.width == WIDTH, "the fixed build of nothing");
-    built = hongsamuk_build_variable(WIDTH, LEVELS, NONE, NONE, NONE, NONE, NONE, NONE, NONE);
+    built = hongsamuk_build_variable(WIDTH, LEVELS, NO_TABLE, NONE, NO_ROWS);
     expect(built.number == 0 && built.record.elements == 0 && built.record.width == WIDTH, "the variable build of nothing");
-    hongsamuk_answer answer = hongsamuk_lookup(built.record, NONE, NONE, NONE, 5);
-    expect(answer.number == 0 && answer.hop == 0 && answer.reads == 0, "the lookup in nothing");
-    expect(hongsamuk_lookup_batch(built.record, NONE, NONE, NONE, NONE, NONE, NONE, NONE) == 0, "the batch of nothing");
+    hongsamuk_answer answer = hongsamuk_lookup(built.record, NO_ROWS, 5);
+    expect(answer.number == 0 && answer.hop == 0 && answer.length == 0 && answer.reads == 0, "the lookup in nothing");
+    expect(hongsamuk_lookup_batch(built.record, NO_ROWS, NONE, NONE, NONE, NONE, NONE) == 0, "the batch of nothing");
     expect(hongsamuk_check(WIDTH, LIST(value), NONE, NONE).number == 3, "unequal lists");
-    built = hongsamuk_build_variable(WIDTH, LEVELS, LIST(value), LIST(length), LIST(hop), NONE, NONE, NONE, NONE);
+    built = hongsamuk_build_variable(WIDTH, LEVELS, TABLE, NONE, NO_ROWS);
     expect(built.number == 6 && built.detail == NODES, "no scratch");
-    built = hongsamuk_build_variable(WIDTH, LEVELS, LIST(value), LIST(length), LIST(hop), LIST(scratch), NONE, NONE, NONE);
+    built = hongsamuk_build_variable(WIDTH, LEVELS, TABLE, LIST(scratch), NO_ROWS);
     expect(built.number == 7 && built.detail == ELEMENTS, "no room");
+    built = hongsamuk_build_variable(WIDTH, LEVELS, TABLE, LIST(scratch), LIST(row_hop), NONE, LIST(row_link), LIST(row_stride));
+    expect(built.number == 7 && built.detail == ELEMENTS, "no room for lengths");
 }
 
 int main(void)

@@ -1,5 +1,5 @@
 //! The eight-prefix table both ways: as a tree bitmap and in elements. Asks the build of the bitmap for its room, and shows that every
-//! address gets the same hop.
+//! address gets the same hop and the same length.
 
 use hongsamuk::{build, build_bitmap, lookup, lookup_bitmap, Answer, Bitmap, BitmapRows, BitmapRowsMut};
 use hongsamuk::{BuiltBitmap, Kind, Outcome, Record, Rows, RowsMut, Table, DISCARD, NODE_ROW, SCRATCH_ROW};
@@ -71,19 +71,35 @@ fn bitmap() -> (Bitmap, Lists) {
     (built.record, lists)
 }
 
-fn elements() -> (Record, Vec<u16>, Vec<u32>, Vec<u8>) {
-    let (mut hop, mut link, mut stride) = (vec![0; ELEMENTS], vec![0; ELEMENTS], vec![0; ELEMENTS]);
-    let room = RowsMut { hop: &mut hop, link: &mut link, stride: &mut stride };
-    let built = build(Kind::Variable, 2, TABLE, &mut [0; NODES * SCRATCH_ROW], room);
-    assert_eq!(built.outcome, Outcome::Accepted);
-    (built.record, hop, link, stride)
+/// The element rows.
+struct Elements {
+    hop: Vec<u16>,
+    length: Vec<u8>,
+    link: Vec<u32>,
+    stride: Vec<u8>,
 }
 
-fn hop_and_reads(answer: Answer) -> (u16, u32) {
+impl Elements {
+    fn rows(&self) -> Rows<'_> {
+        Rows { hop: &self.hop, length: &self.length, link: &self.link, stride: &self.stride }
+    }
+}
+
+fn elements() -> (Record, Elements) {
+    let (mut hop, mut length) = (vec![0; ELEMENTS], vec![0; ELEMENTS]);
+    let (mut link, mut stride) = (vec![0; ELEMENTS], vec![0; ELEMENTS]);
+    let room = RowsMut { hop: &mut hop, length: &mut length, link: &mut link, stride: &mut stride };
+    let built = build(Kind::Variable, 2, TABLE, &mut [0; NODES * SCRATCH_ROW], room);
+    assert_eq!(built.outcome, Outcome::Accepted);
+    (built.record, Elements { hop, length, link, stride })
+}
+
+/// The hop and the length of the prefix that won.
+fn won(answer: Answer) -> (u16, u8) {
     match answer {
-        Answer::Match { hop, reads } => (hop, reads),
-        Answer::Discard { reads } => (DISCARD, reads),
-        Answer::NoRoute { reads } => (0, reads),
+        Answer::Match { hop, length, .. } => (hop, length),
+        Answer::Discard { length, .. } => (DISCARD, length),
+        Answer::NoRoute { .. } => (0, 0),
         Answer::Refused { number } => panic!("refused by {number}"),
     }
 }
@@ -97,16 +113,15 @@ fn main() {
         );
     }
     println!("hops {:?}", lists.hop_row);
-    let (other, hop, link, stride) = elements();
-    let rows = Rows { hop: &hop, link: &link, stride: &stride };
+    let (other, elements) = elements();
     let address = 0b1100001;
-    let (best, reads) = hop_and_reads(lookup_bitmap(&record, lists.rows(), address));
-    println!("address={address:07b} hop={best} reads={reads}");
+    if let Answer::Match { hop, length, reads } = lookup_bitmap(&record, lists.rows(), address) {
+        println!("address={address:07b} hop={hop} length={length} reads={reads}");
+    }
     let same = (0..1 << TABLE.width).filter(|&address| {
-        let (best, _) = hop_and_reads(lookup_bitmap(&record, lists.rows(), address));
-        best == hop_and_reads(lookup(&other, rows, address)).0
+        won(lookup_bitmap(&record, lists.rows(), address)) == won(lookup(&other, elements.rows(), address))
     });
     let same = same.count();
-    println!("the same hop as from elements: {same} of {} addresses", 1 << TABLE.width);
+    println!("the same hop and length as from elements: {same} of {} addresses", 1 << TABLE.width);
     assert_eq!(same, 128);
 }

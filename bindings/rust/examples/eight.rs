@@ -18,26 +18,31 @@ const ADDRESSES: [u32; 6] = [0b1100001, 0b1100000, 0b1100111, 0b1101000, 0b10001
 
 fn main() {
     let mut scratch = [0u64; NODES * hongsamuk::SCRATCH_ROW];
-    let (mut hop, mut link, mut stride) = ([0; ELEMENTS], [0; ELEMENTS], [0; ELEMENTS]);
-    let room = RowsMut { hop: &mut hop, link: &mut link, stride: &mut stride };
+    let (mut hop, mut length) = ([0; ELEMENTS], [0; ELEMENTS]);
+    let (mut link, mut stride) = ([0; ELEMENTS], [0; ELEMENTS]);
+    let room = RowsMut { hop: &mut hop, length: &mut length, link: &mut link, stride: &mut stride };
     let built = build(Kind::Variable, LEVELS, TABLE, &mut scratch, room);
     if let Outcome::Refused { number, detail } = built.outcome {
         eprintln!("refused by {number}, detail {detail}");
         std::process::exit(1);
     }
     println!("elements={} root={}", built.record.elements, built.record.strides[0]);
-    let rows = Rows { hop: &hop, link: &link, stride: &stride };
+    let rows = Rows { hop: &hop, length: &length, link: &link, stride: &stride };
     for address in ADDRESSES {
         match lookup(&built.record, rows, address) {
-            Answer::Match { hop, reads } => println!("address={address:07b} hop={hop} reads={reads}"),
-            Answer::Discard { reads } => println!("address={address:07b} discarded, reads={reads}"),
+            Answer::Match { hop, length, reads } => {
+                println!("address={address:07b} hop={hop} length={length} reads={reads}")
+            }
+            Answer::Discard { length, reads } => {
+                println!("address={address:07b} discarded, length={length} reads={reads}")
+            }
             Answer::NoRoute { reads } => println!("address={address:07b} no route, reads={reads}"),
             Answer::Refused { number } => println!("address={address:07b} refused by {number}"),
         }
     }
-    let (mut number, mut best, mut reads) = ([0; 6], [0; 6], [0; 6]);
-    let room = AnswersMut { number: &mut number, hop: &mut best, reads: &mut reads };
+    let (mut number, mut best, mut matched, mut reads) = ([0; 6], [0; 6], [0; 6], [0; 6]);
+    let room = AnswersMut { number: &mut number, hop: &mut best, length: &mut matched, reads: &mut reads };
     let answered = lookup_batch(&built.record, rows, &ADDRESSES, room);
-    println!("batch of {answered}: hops {best:?}");
+    println!("batch of {answered}: hops {best:?}, lengths {matched:?}");
     println!("zone 1100: {:?}", zone(TABLE, Prefix { value: 0b1100000, bits: 4 }));
 }

@@ -62,15 +62,17 @@ pub enum Span {
     Refused { number: u32, detail: u64 },
 }
 
-/// What a lookup answers.
+/// What a lookup answers. `length` is that of the prefix that won: how many bits it has, 0 for the floor.
 #[derive(Clone, Copy, PartialEq, Eq, Debug)]
 pub enum Answer {
     Match {
         hop: u16,
+        length: u8,
         reads: u32,
     },
     /// The longest prefix that begins the address discards.
     Discard {
+        length: u8,
         reads: u32,
     },
     /// No prefix begins the address.
@@ -127,6 +129,8 @@ pub struct Prefix {
 #[derive(Clone, Copy, PartialEq, Eq, Debug)]
 pub struct Rows<'a> {
     pub hop: &'a [u16],
+    /// The length of the entry whose hop the row has, 0 where that is 0.
+    pub length: &'a [u8],
     pub link: &'a [u32],
     pub stride: &'a [u8],
 }
@@ -135,6 +139,7 @@ pub struct Rows<'a> {
 #[derive(PartialEq, Eq, Debug)]
 pub struct RowsMut<'a> {
     pub hop: &'a mut [u16],
+    pub length: &'a mut [u8],
     pub link: &'a mut [u32],
     pub stride: &'a mut [u8],
 }
@@ -163,11 +168,13 @@ pub struct BitmapRowsMut<'a> {
     pub hop_row: &'a mut [u16],
 }
 
-/// Room for the answers of a batch: number (0: accepted), hop (0: no route, or refused; [`DISCARD`]: discard) and reads of each address.
+/// Room for the answers of a batch: number (0: accepted), hop (0: no route, or refused; [`DISCARD`]: discard), length (0: the
+/// floor's, no route, or refused) and reads of each address.
 #[derive(PartialEq, Eq, Debug)]
 pub struct AnswersMut<'a> {
     pub number: &'a mut [u32],
     pub hop: &'a mut [u16],
+    pub length: &'a mut [u8],
     pub reads: &'a mut [u32],
 }
 
@@ -204,9 +211,9 @@ impl From<raw::Answer> for Answer {
     #[inline]
     fn from(answer: raw::Answer) -> Answer {
         match answer {
-            raw::Answer { number: 0, hop: 0, reads } => Answer::NoRoute { reads },
-            raw::Answer { number: 0, hop: DISCARD, reads } => Answer::Discard { reads },
-            raw::Answer { number: 0, hop, reads } => Answer::Match { hop, reads },
+            raw::Answer { number: 0, hop: 0, reads, .. } => Answer::NoRoute { reads },
+            raw::Answer { number: 0, hop: DISCARD, length, reads } => Answer::Discard { length, reads },
+            raw::Answer { number: 0, hop, length, reads } => Answer::Match { hop, length, reads },
             raw::Answer { number, .. } => Answer::Refused { number },
         }
     }
@@ -290,9 +297,9 @@ pub fn choose(kind: Kind, levels: u32, table: Table, scratch: &mut [u64]) -> Cho
     Chosen { outcome: outcome(chosen.number, chosen.detail), cost: chosen.cost, strides: chosen.strides }
 }
 
-/// Turns a table into a record and element rows, with the least number of elements E of the kind: tests 1 to 7. Accepted, all of
-/// scratch is 0, rows 0 to E - 1 are the build's, and later rows are as they were. Refused by 7, all of scratch is 0 and no element
-/// changes; refused by 1 to 6, no list changes.
+/// Turns a table into a record and element rows, with the least number of elements E of the kind: tests 1 to 7, where 7 counts the
+/// shortest of the four lists. Accepted, all of scratch is 0, rows 0 to E - 1 are the build's, and later rows are as they were.
+/// Refused by 7, all of scratch is 0 and no element changes; refused by 1 to 6, no list changes.
 pub fn build(kind: Kind, levels: u32, table: Table, scratch: &mut [u64], rows: RowsMut) -> Built {
     let call: raw::Build = match kind {
         Kind::Fixed => raw::hongsamuk_build_fixed,
@@ -314,6 +321,8 @@ pub fn build(kind: Kind, levels: u32, table: Table, scratch: &mut [u64], rows: R
             scratch.len(),
             rows.hop.as_mut_ptr(),
             rows.hop.len(),
+            rows.length.as_mut_ptr(),
+            rows.length.len(),
             rows.link.as_mut_ptr(),
             rows.link.len(),
             rows.stride.as_mut_ptr(),
@@ -323,9 +332,10 @@ pub fn build(kind: Kind, levels: u32, table: Table, scratch: &mut [u64], rows: R
     Built { outcome: outcome(built.number, built.detail), record: built.record }
 }
 
-/// One lookup: tests 1, 2, 8, 9. Over a record and rows that one accepted build left together: a match with the hop of the table's
-/// longest prefix that begins the address, a discard where that prefix discards, or no route where there is none. Over any other: by
-/// the latest hop that is not 0 of the rows on the address's path, else by the floor, as they are found there.
+/// One lookup: tests 1, 2, 8, 9, where 9 counts the shortest of the four lists. Over a record and rows that one accepted build left
+/// together: a match with the hop and the length of the table's longest prefix that begins the address, a discard with its length
+/// where that prefix discards, or no route where there is none. Over any other: by the latest hop that is not 0 of the rows on the
+/// address's path with the length of its row, else by the floor with length 0, as they are found there.
 #[inline]
 pub fn lookup(record: &Record, rows: Rows, address: u32) -> Answer {
     // SAFETY: pointers and lengths are those of slices, which the call only reads.
@@ -334,6 +344,8 @@ pub fn lookup(record: &Record, rows: Rows, address: u32) -> Answer {
             *record,
             rows.hop.as_ptr(),
             rows.hop.len(),
+            rows.length.as_ptr(),
+            rows.length.len(),
             rows.link.as_ptr(),
             rows.link.len(),
             rows.stride.as_ptr(),
@@ -344,7 +356,7 @@ pub fn lookup(record: &Record, rows: Rows, address: u32) -> Answer {
     answer.into()
 }
 
-/// Lookups one after the other: answers as many addresses as the shortest of the address list and the three answer lists has, keeps
+/// Lookups one after the other: answers as many addresses as the shortest of the address list and the four answer lists has, keeps
 /// the later places of these lists, and returns how many.
 pub fn lookup_batch(record: &Record, rows: Rows, addresses: &[u32], answers: AnswersMut) -> usize {
     // SAFETY: pointers and lengths are those of slices; the call writes the answer lists only, which nobody else borrows.
@@ -353,6 +365,8 @@ pub fn lookup_batch(record: &Record, rows: Rows, addresses: &[u32], answers: Ans
             *record,
             rows.hop.as_ptr(),
             rows.hop.len(),
+            rows.length.as_ptr(),
+            rows.length.len(),
             rows.link.as_ptr(),
             rows.link.len(),
             rows.stride.as_ptr(),
@@ -363,6 +377,8 @@ pub fn lookup_batch(record: &Record, rows: Rows, addresses: &[u32], answers: Ans
             answers.number.len(),
             answers.hop.as_mut_ptr(),
             answers.hop.len(),
+            answers.length.as_mut_ptr(),
+            answers.length.len(),
             answers.reads.as_mut_ptr(),
             answers.reads.len(),
         )
@@ -402,9 +418,9 @@ pub fn build_bitmap(table: Table, scratch: &mut [u64], rows: BitmapRowsMut) -> B
 }
 
 /// One lookup in a tree bitmap: tests 1, 8, 9. Over a record and rows that one accepted build left together: a match with the hop
-/// of the table's longest prefix that begins the address, a discard where that prefix discards, or no route where there is none. Over
-/// any other: by the hop of the longest entry that the internal maps on the address's path have, as it is found there. Reads are the
-/// supernodes read.
+/// and the length of the table's longest prefix that begins the address, a discard with its length where that prefix discards, or no
+/// route where there is none. Over any other: by the hop, as it is found there, and the length of the longest entry that the internal
+/// maps on the address's path have; no route where that hop is 0. Reads are the supernodes read.
 #[inline]
 pub fn lookup_bitmap(record: &Bitmap, rows: BitmapRows, address: u32) -> Answer {
     // SAFETY: pointers and lengths are those of slices, which the call only reads.

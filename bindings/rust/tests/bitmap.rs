@@ -85,26 +85,26 @@ fn longest_match() {
     for (address, hop) in [(97, 7), (96, 8), (103, 6), (104, 3), (71, 5), (79, 2), (127, 3), (0, 1)] {
         assert!(matches!(made.lookup(address), Answer::Match { hop: found, .. } if found == hop), "{address}");
     }
-    assert_eq!(made.lookup(97), Answer::Match { hop: 7, reads: 2 });
-    assert_eq!(made.lookup(0), Answer::Match { hop: 1, reads: 1 });
+    assert_eq!(made.lookup(97), Answer::Match { hop: 7, length: 6, reads: 2 });
+    assert_eq!(made.lookup(0), Answer::Match { hop: 1, length: 1, reads: 1 });
     assert_eq!(made.lookup(128), Answer::Refused { number: 8 });
 }
 
 #[test]
-fn the_same_hops_as_from_elements() {
+fn the_same_hops_and_lengths_as_from_elements() {
     let made = eight();
-    let (mut hop, mut link, mut stride) = ([0; 26], [0; 26], [0; 26]);
-    let room = RowsMut { hop: &mut hop, link: &mut link, stride: &mut stride };
+    let (mut hop, mut length, mut link, mut stride) = ([0; 26], [0; 26], [0; 26], [0; 26]);
+    let room = RowsMut { hop: &mut hop, length: &mut length, link: &mut link, stride: &mut stride };
     let built = build(Kind::Variable, 2, EIGHT, &mut [0; 10 * SCRATCH_ROW], room);
-    let rows = Rows { hop: &hop, link: &link, stride: &stride };
-    let hop_of = |answer| match answer {
-        Answer::Match { hop, .. } => hop,
-        Answer::Discard { .. } => DISCARD,
-        Answer::NoRoute { .. } => 0,
+    let rows = Rows { hop: &hop, length: &length, link: &link, stride: &stride };
+    let won = |answer| match answer {
+        Answer::Match { hop, length, .. } => (hop, length),
+        Answer::Discard { length, .. } => (DISCARD, length),
+        Answer::NoRoute { .. } => (0, 0),
         Answer::Refused { number } => panic!("refused by {number}"),
     };
     for address in 0..128 {
-        assert_eq!(hop_of(made.lookup(address)), hop_of(lookup(&built.record, rows, address)), "{address}");
+        assert_eq!(won(made.lookup(address)), won(lookup(&built.record, rows, address)), "{address}");
     }
 }
 
@@ -137,7 +137,7 @@ fn little_in_the_table() {
     assert_eq!(made.built.record, Bitmap { width: 7, supernodes: 0, hops: 0 });
     assert_eq!(made.lookup(5), Answer::NoRoute { reads: 0 });
     let every = Table { width: 7, value: &[0], length: &[0], hop: &[9] };
-    assert_eq!(make(every, NODE_ROW, 1, 1).lookup(5), Answer::Match { hop: 9, reads: 1 });
+    assert_eq!(make(every, NODE_ROW, 1, 1).lookup(5), Answer::Match { hop: 9, length: 0, reads: 1 });
     assert_eq!(make(every, 0, 1, 1).built, refused(6, 1));
 }
 
@@ -145,7 +145,7 @@ fn little_in_the_table() {
 fn bits_past_the_width() {
     let last = Table { width: 4, value: &[15], length: &[4], hop: &[5] };
     let mut made = make(last, 5 * NODE_ROW, 2, 1);
-    assert_eq!(made.lookup(15), Answer::Match { hop: 5, reads: 2 });
+    assert_eq!(made.lookup(15), Answer::Match { hop: 5, length: 4, reads: 2 });
     made.internal[1] = 2;
     assert_eq!(made.lookup(15), Answer::NoRoute { reads: 2 });
     made.external[1] = 1;
@@ -159,7 +159,7 @@ fn damaged_rows() {
         change(&mut made);
         (made.lookup(97), made.lookup(0))
     };
-    let (damaged, sound) = (Answer::Refused { number: 9 }, Answer::Match { hop: 1, reads: 1 });
+    let (damaged, sound) = (Answer::Refused { number: 9 }, Answer::Match { hop: 1, length: 1, reads: 1 });
     assert_eq!(change(|made| made.built.record.supernodes = 4), (damaged, damaged));
     assert_eq!(change(|made| made.built.record.hops = 9), (damaged, damaged));
     assert_eq!(change(|made| made.built.record.supernodes = 2), (damaged, sound));
@@ -168,7 +168,7 @@ fn damaged_rows() {
     assert_eq!(change(|made| made.first_hop[2] = u32::MAX), (damaged, sound));
     assert_eq!(change(|made| made.external[2] = 4), (damaged, sound));
     assert_eq!(change(|made| made.hop_row[6] = 0), (Answer::NoRoute { reads: 2 }, sound));
-    assert_eq!(change(|made| made.hop_row[6] = DISCARD), (Answer::Discard { reads: 2 }, sound));
+    assert_eq!(change(|made| made.hop_row[6] = DISCARD), (Answer::Discard { length: 6, reads: 2 }, sound));
     let width = Answer::Refused { number: 1 };
     assert_eq!(change(|made| made.built.record.width = 0), (width, width));
     let none = Answer::NoRoute { reads: 0 };

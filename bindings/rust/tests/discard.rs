@@ -10,21 +10,23 @@ const ROOM: usize = 16;
 struct Made {
     record: Record,
     hop: Vec<u16>,
+    length: Vec<u8>,
     link: Vec<u32>,
     stride: Vec<u8>,
 }
 
 impl Made {
     fn of(kind: Kind, levels: u32, table: Table) -> Made {
-        let (mut hop, mut link, mut stride) = (vec![9; ROOM], vec![9; ROOM], vec![9; ROOM]);
-        let rows = RowsMut { hop: &mut hop, link: &mut link, stride: &mut stride };
+        let (mut hop, mut length) = (vec![9; ROOM], vec![9; ROOM]);
+        let (mut link, mut stride) = (vec![9; ROOM], vec![9; ROOM]);
+        let rows = RowsMut { hop: &mut hop, length: &mut length, link: &mut link, stride: &mut stride };
         let built = build(kind, levels, table, &mut [7; 4 * SCRATCH_ROW], rows);
         assert_eq!(built.outcome, Outcome::Accepted);
-        Made { record: built.record, hop, link, stride }
+        Made { record: built.record, hop, length, link, stride }
     }
 
     fn rows(&self) -> Rows<'_> {
-        Rows { hop: &self.hop, link: &self.link, stride: &self.stride }
+        Rows { hop: &self.hop, length: &self.length, link: &self.link, stride: &self.stride }
     }
 
     fn lookup(&self, address: u32) -> Answer {
@@ -37,9 +39,11 @@ fn a_discarded_corner_in_elements() {
     for kind in [Kind::Fixed, Kind::Variable] {
         for levels in 1..=LEVELS as u32 {
             let made = Made::of(kind, levels, CORNER);
-            assert!(matches!(made.lookup(0b1010), Answer::Discard { reads } if (1..=levels).contains(&reads)));
+            assert!(
+                matches!(made.lookup(0b1010), Answer::Discard { length: 4, reads } if (1..=levels).contains(&reads))
+            );
             for address in [0b1000, 0b1001, 0b1011] {
-                assert!(matches!(made.lookup(address), Answer::Match { hop: 1, .. }), "{address}");
+                assert!(matches!(made.lookup(address), Answer::Match { hop: 1, length: 2, .. }), "{address}");
             }
             assert!(matches!(made.lookup(0b0111), Answer::NoRoute { .. }));
         }
@@ -51,8 +55,9 @@ fn rows_of_the_corner() {
     let made = Made::of(Kind::Variable, 2, CORNER);
     assert_eq!((made.record.elements, made.record.strides[0]), (8, 2));
     assert_eq!(made.hop[..8], [0, 0, 1, 0, 0, 0, DISCARD, 0]);
-    assert_eq!(made.lookup(0b1010), Answer::Discard { reads: 2 });
-    assert_eq!(made.lookup(0b1011), Answer::Match { hop: 1, reads: 2 });
+    assert_eq!(made.length[..8], [0, 0, 2, 0, 0, 0, 4, 0]);
+    assert_eq!(made.lookup(0b1010), Answer::Discard { length: 4, reads: 2 });
+    assert_eq!(made.lookup(0b1011), Answer::Match { hop: 1, length: 2, reads: 2 });
 }
 
 #[test]
@@ -75,8 +80,8 @@ fn a_discarded_corner_in_a_bitmap() {
         first_hop: &first_hop,
         hop_row: &hop_row,
     };
-    assert_eq!(lookup_bitmap(&built.record, rows, 0b1010), Answer::Discard { reads: 2 });
-    assert_eq!(lookup_bitmap(&built.record, rows, 0b1011), Answer::Match { hop: 1, reads: 1 });
+    assert_eq!(lookup_bitmap(&built.record, rows, 0b1010), Answer::Discard { length: 4, reads: 2 });
+    assert_eq!(lookup_bitmap(&built.record, rows, 0b1011), Answer::Match { hop: 1, length: 2, reads: 1 });
     assert_eq!(lookup_bitmap(&built.record, rows, 0b0111), Answer::NoRoute { reads: 1 });
 }
 
@@ -84,24 +89,25 @@ fn a_discarded_corner_in_a_bitmap() {
 #[test]
 fn a_batch() {
     let made = Made::of(Kind::Fixed, 2, CORNER);
-    let (mut number, mut hop, mut reads) = ([9; 4], [9; 4], [9; 4]);
-    let room = AnswersMut { number: &mut number, hop: &mut hop, reads: &mut reads };
+    let (mut number, mut hop, mut length, mut reads) = ([9; 4], [9; 4], [9; 4], [9; 4]);
+    let room = AnswersMut { number: &mut number, hop: &mut hop, length: &mut length, reads: &mut reads };
     assert_eq!(lookup_batch(&made.record, made.rows(), &[0b1010, 0b1011, 0b0111, 16], room), 4);
-    assert_eq!((number, hop, reads), ([0, 0, 0, 8], [DISCARD, 1, 0, 0], [2, 2, 1, 0]));
+    assert_eq!((number, hop), ([0, 0, 0, 8], [DISCARD, 1, 0, 0]));
+    assert_eq!((length, reads), ([4, 2, 0, 0], [2, 2, 1, 0]));
 }
 
 /// A floor that discards, and the hop of a discard in rows and records that no build left.
 #[test]
 fn wherever_it_is_found() {
     let floor = Table { width: 4, value: &[0], length: &[0], hop: &[DISCARD] };
-    assert_eq!(Made::of(Kind::Variable, 1, floor).lookup(5), Answer::Discard { reads: 0 });
+    assert_eq!(Made::of(Kind::Variable, 1, floor).lookup(5), Answer::Discard { length: 0, reads: 0 });
     let mut made = Made::of(Kind::Variable, 2, CORNER);
     made.record.floor = DISCARD;
-    assert_eq!(made.lookup(0b0111), Answer::Discard { reads: 1 });
+    assert_eq!(made.lookup(0b0111), Answer::Discard { length: 0, reads: 1 });
     made.hop[1] = DISCARD - 1;
-    assert_eq!(made.lookup(0b0111), Answer::Match { hop: DISCARD - 1, reads: 1 });
+    assert_eq!(made.lookup(0b0111), Answer::Match { hop: DISCARD - 1, length: 0, reads: 1 });
     made.hop[2] = DISCARD;
-    assert_eq!(made.lookup(0b1011), Answer::Discard { reads: 2 });
+    assert_eq!(made.lookup(0b1011), Answer::Discard { length: 2, reads: 2 });
 }
 
 /// Of all hops only 0 is refused by 4.

@@ -15,13 +15,14 @@ struct Made {
     built: Built,
     scratch: Vec<u64>,
     hop: Vec<u16>,
+    length: Vec<u8>,
     link: Vec<u32>,
     stride: Vec<u8>,
 }
 
 impl Made {
     fn rows(&self) -> Rows<'_> {
-        Rows { hop: &self.hop, link: &self.link, stride: &self.stride }
+        Rows { hop: &self.hop, length: &self.length, link: &self.link, stride: &self.stride }
     }
 
     fn lookup(&self, address: u32) -> Answer {
@@ -30,10 +31,11 @@ impl Made {
 }
 
 fn make(kind: Kind, levels: u32, table: Table, words: usize, room: usize) -> Made {
-    let (mut scratch, mut hop, mut link, mut stride) = (vec![7; words], vec![9; room], vec![9; room], vec![9; room]);
-    let rows = RowsMut { hop: &mut hop, link: &mut link, stride: &mut stride };
+    let (mut scratch, mut hop, mut length) = (vec![7; words], vec![9; room], vec![9; room]);
+    let (mut link, mut stride) = (vec![9; room], vec![9; room]);
+    let rows = RowsMut { hop: &mut hop, length: &mut length, link: &mut link, stride: &mut stride };
     let built = build(kind, levels, table, &mut scratch, rows);
-    Made { built, scratch, hop, link, stride }
+    Made { built, scratch, hop, length, link, stride }
 }
 
 fn refused(number: u32, detail: u64) -> Outcome {
@@ -70,7 +72,7 @@ fn longest_match_with_every_limit() {
             assert_eq!(made.built.outcome, Outcome::Accepted);
             for (address, best) in answers {
                 match made.lookup(address) {
-                    Answer::Match { hop, reads } => assert!(hop == best && (1..=levels).contains(&reads)),
+                    Answer::Match { hop, reads, .. } => assert!(hop == best && (1..=levels).contains(&reads)),
                     other => panic!("{address}: {other:?}"),
                 }
             }
@@ -84,10 +86,11 @@ fn variable_with_two_levels() {
     let record = Record { width: 7, levels: 2, elements: 26, floor: 0, strides: strides(&[4]) };
     assert_eq!(made.built, Built { outcome: Outcome::Accepted, record });
     assert!(made.scratch.iter().all(|x| *x == 0));
-    assert!(made.hop[26..] == [9; 4] && made.link[26..] == [9; 4] && made.stride[26..] == [9; 4]);
+    assert!(made.hop[26..] == [9; 4] && made.length[26..] == [9; 4]);
+    assert!(made.link[26..] == [9; 4] && made.stride[26..] == [9; 4]);
     assert_eq!((made.link[8], made.stride[8], made.link[12], made.stride[12]), (16, 1, 18, 3));
-    assert_eq!(made.lookup(97), Answer::Match { hop: 7, reads: 2 });
-    assert_eq!(made.lookup(0), Answer::Match { hop: 1, reads: 1 });
+    assert_eq!(made.lookup(97), Answer::Match { hop: 7, length: 6, reads: 2 });
+    assert_eq!(made.lookup(0), Answer::Match { hop: 1, length: 1, reads: 1 });
     assert_eq!(made.lookup(128), Answer::Refused { number: 8 });
 }
 
@@ -96,10 +99,11 @@ fn rows_of_the_small_table() {
     let table = Table { width: 3, value: &[4, 5], length: &[1, 3], hop: &[1, 2] };
     let made = make(Kind::Variable, 2, table, 3 * SCRATCH_ROW, 6);
     assert_eq!(made.hop, [0, 1, 0, 2, 0, 0]);
+    assert_eq!(made.length, [0, 1, 0, 3, 0, 0]);
     assert_eq!(made.link, [0, 2, 0, 0, 0, 0]);
     assert_eq!(made.stride, [0, 2, 0, 0, 0, 0]);
-    assert_eq!(made.lookup(0b101), Answer::Match { hop: 2, reads: 2 });
-    assert_eq!(made.lookup(0b111), Answer::Match { hop: 1, reads: 2 });
+    assert_eq!(made.lookup(0b101), Answer::Match { hop: 2, length: 3, reads: 2 });
+    assert_eq!(made.lookup(0b111), Answer::Match { hop: 1, length: 1, reads: 2 });
     assert_eq!(made.lookup(0b011), Answer::NoRoute { reads: 1 });
 }
 
@@ -123,10 +127,10 @@ fn what_refused_builds_leave() {
     let scarce = make(Kind::Fixed, 2, EIGHT, WORDS, 31);
     assert_eq!((scarce.built.outcome, scarce.built.record), (refused(7, 32), Record::default()));
     assert!(scarce.scratch.iter().all(|x| *x == 0));
-    assert!(scarce.hop == [9; 31] && scarce.link == [9; 31] && scarce.stride == [9; 31]);
+    assert!(scarce.hop == [9; 31] && scarce.length == [9; 31] && scarce.link == [9; 31] && scarce.stride == [9; 31]);
     let early = make(Kind::Fixed, 2, EIGHT, WORDS - 1, 32);
     assert_eq!((early.built.outcome, early.built.record), (refused(6, 10), Record::default()));
-    assert!(early.scratch.iter().all(|x| *x == 7) && early.hop == [9; 32]);
+    assert!(early.scratch.iter().all(|x| *x == 7) && early.hop == [9; 32] && early.length == [9; 32]);
 }
 
 #[test]
@@ -147,7 +151,7 @@ fn empty_lists() {
     assert_eq!(made.lookup(5), Answer::NoRoute { reads: 0 });
     assert_eq!(zone(none, Prefix { value: 64, bits: 1 }), []);
     let floor = Table { width: 7, value: &[0], length: &[0], hop: &[9] };
-    assert_eq!(make(Kind::Variable, 1, floor, 0, 0).lookup(5), Answer::Match { hop: 9, reads: 0 });
+    assert_eq!(make(Kind::Variable, 1, floor, 0, 0).lookup(5), Answer::Match { hop: 9, length: 0, reads: 0 });
 }
 
 #[test]
@@ -186,11 +190,12 @@ fn shared_lengths_at_the_edges() {
 #[test]
 fn batches() {
     let made = make(Kind::Variable, 2, EIGHT, WORDS, 26);
-    let (mut number, mut hop, mut reads) = ([77; 4], [77; 5], [77; 6]);
-    let room = AnswersMut { number: &mut number, hop: &mut hop, reads: &mut reads };
+    let (mut number, mut hop, mut length, mut reads) = ([77; 4], [77; 5], [77; 4], [77; 6]);
+    let room = AnswersMut { number: &mut number, hop: &mut hop, length: &mut length, reads: &mut reads };
     assert_eq!(lookup_batch(&made.built.record, made.rows(), &[97, 128, 0], room), 3);
     assert_eq!(number, [0, 8, 0, 77]);
     assert_eq!(hop, [7, 0, 1, 77, 77]);
+    assert_eq!(length, [6, 0, 1, 77]);
     assert_eq!(reads, [2, 0, 1, 77, 77, 77]);
 }
 
@@ -199,7 +204,7 @@ fn damaged_rows() {
     let mut made = make(Kind::Variable, 2, EIGHT, WORDS, 26);
     made.link[12] = 25;
     assert_eq!(made.lookup(97), Answer::Refused { number: 9 });
-    assert_eq!(made.lookup(0), Answer::Match { hop: 1, reads: 1 });
+    assert_eq!(made.lookup(0), Answer::Match { hop: 1, length: 1, reads: 1 });
     made.built.record.elements = 27;
     assert_eq!(made.lookup(0), Answer::Refused { number: 9 });
     for levels in [0, 33] {

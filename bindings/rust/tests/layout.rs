@@ -54,7 +54,7 @@ fn of_this_crate() -> BTreeMap<&'static str, Layout> {
         ("hongsamuk_chosen", layout!(raw::Chosen: number, detail, cost, strides)),
         ("hongsamuk_built", layout!(raw::Built: number, detail, record)),
         ("hongsamuk_built_bitmap", layout!(raw::BuiltBitmap: number, detail, record)),
-        ("hongsamuk_answer", layout!(raw::Answer: number, hop, reads)),
+        ("hongsamuk_answer", layout!(raw::Answer: number, hop, length, reads)),
     ])
 }
 

@@ -34,8 +34,8 @@ fn own_hop(i: u32) -> u16 {
 
 fn own_answer(i: u32, reads: u32) -> Answer {
     match own_hop(i) {
-        DISCARD => Answer::Discard { reads },
-        hop => Answer::Match { hop, reads },
+        DISCARD => Answer::Discard { length: WIDTH as u8, reads },
+        hop => Answer::Match { hop, length: WIDTH as u8, reads },
     }
 }
 
@@ -63,12 +63,13 @@ fn the_most_entries_in_elements() {
     let most = Routes::new(MOST);
     let mut scratch = vec![7; NODES * SCRATCH_ROW];
     for kind in [Kind::Fixed, Kind::Variable] {
-        let (mut hop, mut link, mut stride) = (vec![9; ROWS], vec![9; ROWS], vec![9; ROWS]);
-        let rows = RowsMut { hop: &mut hop, link: &mut link, stride: &mut stride };
+        let (mut hop, mut length) = (vec![9; ROWS], vec![9; ROWS]);
+        let (mut link, mut stride) = (vec![9; ROWS], vec![9; ROWS]);
+        let rows = RowsMut { hop: &mut hop, length: &mut length, link: &mut link, stride: &mut stride };
         let Built { outcome, record } = build(kind, LEVELS as u32, most.table(), &mut scratch, rows);
         assert_eq!((outcome, record.elements as usize, record.strides[0]), (Outcome::Accepted, ROWS, 1));
         assert!(scratch.iter().all(|x| *x == 0));
-        let rows = Rows { hop: &hop, link: &link, stride: &stride };
+        let rows = Rows { hop: &hop, length: &length, link: &link, stride: &stride };
         for address in 0..MOST {
             assert_eq!(lookup(&record, rows, address), own_answer(address, 2));
         }
@@ -122,16 +123,17 @@ fn the_most_levels() {
         for (levels, reads) in [(9, 9), (31, 31), (32, 32)] {
             let mut scratch = vec![7; 32 * SCRATCH_ROW];
             let chosen = choose(kind, levels, chain, &mut scratch);
-            let (mut hop, mut link, mut stride) = (vec![9; 128], vec![9; 128], vec![9; 128]);
-            let rows = RowsMut { hop: &mut hop, link: &mut link, stride: &mut stride };
+            let (mut hop, mut length) = (vec![9; 128], vec![9; 128]);
+            let (mut link, mut stride) = (vec![9; 128], vec![9; 128]);
+            let rows = RowsMut { hop: &mut hop, length: &mut length, link: &mut link, stride: &mut stride };
             let Built { outcome, record } = build(kind, levels, chain, &mut scratch, rows);
             assert_eq!(outcome, Outcome::Accepted);
             assert_eq!((record.levels, record.elements as u64, record.strides), (levels, chosen.cost, chosen.strides));
             if kind == Kind::Fixed && levels == 32 {
                 assert_eq!((record.elements, record.strides), (64, [1; LEVELS]));
             }
-            let rows = Rows { hop: &hop, link: &link, stride: &stride };
-            assert_eq!(lookup(&record, rows, 0xc0a8_0101), Answer::Match { hop: 9, reads });
+            let rows = Rows { hop: &hop, length: &length, link: &link, stride: &stride };
+            assert_eq!(lookup(&record, rows, 0xc0a8_0101), Answer::Match { hop: 9, length: 32, reads });
             assert_eq!(lookup(&record, rows, 0xc0a8_0100), Answer::NoRoute { reads });
             let fewer = Record { levels: levels - 1, ..record };
             assert_eq!(lookup(&fewer, rows, 0xc0a8_0101), Answer::Refused { number: 9 });
