@@ -151,12 +151,19 @@ pub enum Damage {
     LevelAboveWidth,
 }
 
-/// What a lookup meets: the supernodes it visits, in order, and the place of each hop that was the best
-/// so far. The last of these is the winner.
+/// An entry that was the best so far: the place of its hop, and its length (02, [5]).
+#[derive(Clone, Copy, PartialEq, Eq, Debug)]
+pub struct Best {
+    pub place: u64,
+    pub length: u8,
+}
+
+/// What a lookup meets: the supernodes it visits, in order, and each entry that was the best so far. The last
+/// of these is the winner.
 #[derive(Clone, PartialEq, Eq, Debug, Default)]
 pub struct Path {
     pub visited: Vec<usize>,
-    pub bests: Vec<u64>,
+    pub bests: Vec<Best>,
 }
 
 /// Tests 1, 8, then 9. A winning hop 0 is no route, 65,535 a discard (02, [4]).
@@ -167,11 +174,21 @@ pub fn lookup(record: &Bitmap, rows: &Supernodes, address: u32) -> Result<Found,
     }
     match walk(record, rows, address) {
         Ok(path) => {
-            let hop = path.bests.last().map_or(0, |place| rows.hop_row[*place as usize]);
-            Ok(Found::of(hop, path.visited.len() as u32))
+            let winner = path.bests.last();
+            let (hop, length) = winner.map_or((0, 0), |best| (rows.hop_row[best.place as usize], best.length));
+            Ok(Found::of(hop, length, path.visited.len() as u32))
         }
         Err(_) => refuse(9, 0),
     }
+}
+
+/// The longest entry of a supernode that the bits left of the address, at most four, start with.
+fn best(rows: &Supernodes, at: usize, next: &str, level: usize) -> Option<Best> {
+    let internal = rows.internal[at];
+    let matches = |place: &str| next.starts_with(place);
+    let longest = (0..INTERNAL.len()).rev().find(|&i| bit(internal, i) && matches(INTERNAL[i]))?;
+    let place = rows.first_hop[at] as u64 + ones_before(internal, longest);
+    Some(Best { place, length: (level + INTERNAL[longest].len()) as u8 })
 }
 
 /// The walk itself, after tests 1 and 8. `Err` says which clause of 9 was met.
@@ -196,11 +213,8 @@ pub fn walk(record: &Bitmap, rows: &Supernodes, address: u32) -> Result<Path, Da
         }
         let at = number as usize;
         path.visited.push(at);
-        let (internal, external, next) = (rows.internal[at], rows.external[at], &address[level..level + STRIDE]);
-        let matches = |place: &str| next.starts_with(place) && level + place.len() <= width;
-        if let Some(longest) = (0..INTERNAL.len()).rev().find(|&i| bit(internal, i) && matches(INTERNAL[i])) {
-            path.bests.push(rows.first_hop[at] as u64 + ones_before(internal, longest));
-        }
+        let (external, next) = (rows.external[at], &address[level..level + STRIDE]);
+        path.bests.extend(best(rows, at, &next[..STRIDE.min(width - level)], level));
         let branch = EXTERNAL.iter().position(|place| *place == next).expect("four bits");
         if !bit(external, branch) {
             break;
@@ -211,7 +225,7 @@ pub fn walk(record: &Bitmap, rows: &Supernodes, address: u32) -> Result<Path, Da
         }
         number = rows.first_child[at] as u64 + ones_before(external, branch);
     }
-    if path.bests.last().is_some_and(|winner| *winner >= record.hops as u64) {
+    if path.bests.last().is_some_and(|winner| winner.place >= record.hops as u64) {
         return Err(Damage::HopPastEnd);
     }
     Ok(path)

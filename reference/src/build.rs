@@ -21,17 +21,18 @@ pub struct Record {
     pub strides: [u8; LEVELS],
 }
 
-/// The three element lists.
+/// The four element lists (01: three; 02, [5], adds the length).
 #[derive(Clone, PartialEq, Eq, Debug, Default)]
 pub struct Elements {
     pub hop: Vec<u16>,
+    pub length: Vec<u8>,
     pub link: Vec<u32>,
     pub stride: Vec<u8>,
 }
 
 impl Elements {
     pub fn shortest(&self) -> usize {
-        self.hop.len().min(self.link.len()).min(self.stride.len())
+        self.hop.len().min(self.length.len()).min(self.link.len()).min(self.stride.len())
     }
 }
 
@@ -92,6 +93,7 @@ pub fn build(
     let laid = lay(table, &trie, &choice);
     assert!(laid.hop.len() as u64 == rows, "E is the cost");
     elements.hop[..laid.hop.len()].copy_from_slice(&laid.hop);
+    elements.length[..laid.length.len()].copy_from_slice(&laid.length);
     elements.link[..laid.link.len()].copy_from_slice(&laid.link);
     elements.stride[..laid.stride.len()].copy_from_slice(&laid.stride);
     let record =
@@ -120,7 +122,9 @@ pub fn lay(table: &Table, trie: &Trie, choice: &Choice) -> Elements {
     while let Some(block) = queue.pop_front() {
         for index in 0..1u64 << block.stride {
             let path = format!("{}{}", block.node, crate::table::bits(block.stride, index as u32, block.stride));
-            rows.hop.push(row_hop(&hops, &path, block.node.len()));
+            let (hop, length) = row_entry(&hops, &path, block.node.len());
+            rows.hop.push(hop);
+            rows.length.push(length);
             if trie.has(&path) {
                 let stride = choice.stride(&path, block.nth + 1);
                 rows.link.push(next);
@@ -136,7 +140,9 @@ pub fn lay(table: &Table, trie: &Trie, choice: &Choice) -> Elements {
     rows
 }
 
-/// The hop of the longest entry with length above d, and at most the path's, that begins the path; else 0.
-fn row_hop(hops: &BTreeMap<String, u16>, path: &str, d: usize) -> u16 {
-    (d + 1..=path.len()).rev().find_map(|length| hops.get(&path[..length]).copied()).unwrap_or(0)
+/// The hop of the longest entry with length above d, and at most the path's, that begins the path, and the length of
+/// that entry; else 0 and 0.
+fn row_entry(hops: &BTreeMap<String, u16>, path: &str, d: usize) -> (u16, u8) {
+    let entry = |length: usize| hops.get(&path[..length]).map(|hop| (*hop, length as u8));
+    (d + 1..=path.len()).rev().find_map(entry).unwrap_or((0, 0))
 }

@@ -1,4 +1,5 @@
-//! 01's own examples, line by line, 02's of a discard, and brute force against recurrence on random small tries.
+//! 01's own examples, line by line, 02's of a discard, matched lengths, and brute force against recurrence on random
+//! small tries.
 
 mod bitmaps;
 
@@ -27,7 +28,7 @@ fn eight() -> Table {
 }
 
 fn room(n: usize) -> Elements {
-    Elements { hop: vec![0; n], link: vec![0; n], stride: vec![0; n] }
+    Elements { hop: vec![0; n], length: vec![0; n], link: vec![0; n], stride: vec![0; n] }
 }
 
 fn built(
@@ -54,12 +55,13 @@ fn number(bits: &str) -> u32 {
 #[test]
 fn whole_run() {
     let input = "width=3\nkind=vst\nlevels=2\nentries=2\nbits=1\nhop=1\nbits=101\nhop=2\nqueries=3\naddress=101\naddress=111\naddress=011\n";
-    let output = "refusal=0\ndetail=0\nelements=6\nroot=1\naddress=101\nhop=2\nreads=2\naddress=111\nhop=1\nreads=2\naddress=011\nhop=0\nreads=1\n";
+    let output = "refusal=0\ndetail=0\nelements=6\nroot=1\naddress=101\nhop=2\nlength=3\nreads=2\naddress=111\nhop=1\nlength=1\nreads=2\naddress=011\nhop=0\nlength=0\nreads=1\n";
     assert_eq!(tablet::run(input.as_bytes()), output);
     let small = table(3, &[("1", 1), ("101", 2)]);
     let trie = Trie::of(&small);
     let rows = lay(&small, &trie, &choose(Kind::Variable, &trie, 2));
     assert_eq!(rows.hop, [0, 1, 0, 2, 0, 0]);
+    assert_eq!(rows.length, [0, 1, 0, 3, 0, 0]);
     assert_eq!(rows.link, [0, 2, 0, 0, 0, 0]);
     assert_eq!(rows.stride, [0, 2, 0, 0, 0, 0]);
 }
@@ -77,12 +79,15 @@ fn eight_prefix_nodes_and_costs() {
     assert_eq!(fixed_cost(&trie, &[1, 3, 1, 2]), 18);
 }
 
+/// 01's addresses with their hops, and the lengths of the entries that have these hops.
+const MATCHES: [(&str, u16, u8); 6] =
+    [("1100001", 7, 6), ("1100000", 8, 7), ("1100111", 6, 4), ("1101000", 3, 2), ("1000111", 5, 5), ("1001111", 2, 1)];
+
 #[test]
 fn eight_prefix_answers() {
     let table = eight();
-    let matches = [("1100001", 7), ("1100000", 8), ("1100111", 6), ("1101000", 3), ("1000111", 5), ("1001111", 2)];
-    for (address, hop) in matches {
-        assert_eq!(table.answer(number(address)), hop);
+    for (address, hop, length) in MATCHES {
+        assert_eq!(table.answer(number(address)), (hop, length));
     }
     assert_eq!(shared_length(7, number("1000100"), 5, number("1010000"), 3), Ok(2));
     assert_eq!(table.zone(number("1100000"), 4), Ok((5, 3)));
@@ -124,8 +129,8 @@ fn chain_of_32_nodes() {
         let (outcome, record, rows) = built(kind, 32, &chain, 32, 64);
         assert_eq!((outcome, record.elements), (Ok(()), 64));
         assert_eq!(record.strides, if kind == Kind::Fixed { [1; 32] } else { strides(&[1]) });
-        assert_eq!(lookup(&record, &rows, number(&lengths[31])), Ok(Found::Match { hop: 32, reads: 32 }));
-        assert_eq!(lookup(&record, &rows, number(&lengths[31]) ^ 1), Ok(Found::Match { hop: 31, reads: 32 }));
+        assert_eq!(lookup(&record, &rows, number(&lengths[31])), Ok(Found::of(32, 32, 32)));
+        assert_eq!(lookup(&record, &rows, number(&lengths[31]) ^ 1), Ok(Found::of(31, 31, 32)));
         assert_eq!(lookup(&record, &rows, 0), Ok(Found::NoRoute { reads: 1 }));
     }
 }
@@ -153,16 +158,66 @@ fn discarded_corner() {
     for (kind, levels) in [(Kind::Fixed, 1), (Kind::Variable, 1), (Kind::Fixed, 2), (Kind::Variable, 4)] {
         let (outcome, record, rows) = built(kind, levels, &corner, 4, 16);
         assert_eq!(outcome, Ok(()));
-        let reads = |address| walk(&record, &rows, number(address)).unwrap().1.len() as u32;
-        assert_eq!(lookup(&record, &rows, number("1010")), Ok(Found::Discard { reads: reads("1010") }));
-        assert_eq!(lookup(&record, &rows, number("1011")), Ok(Found::Match { hop: 1, reads: reads("1011") }));
+        let reads = |address| walk(&record, &rows, number(address)).unwrap().rows.len() as u32;
+        assert_eq!(lookup(&record, &rows, number("1010")), Ok(Found::Discard { length: 4, reads: reads("1010") }));
+        assert_eq!(
+            lookup(&record, &rows, number("1011")),
+            Ok(Found::Match { hop: 1, length: 2, reads: reads("1011") })
+        );
         assert_eq!(lookup(&record, &rows, number("0010")), Ok(Found::NoRoute { reads: reads("0010") }));
     }
     let text = "width=4\nkind=vst\nlevels=2\nentries=2\nbits=10\nhop=1\nbits=1010\nhop=65535\nqueries=2\naddress=1010\naddress=1011\n";
     let report =
-        "refusal=0\ndetail=0\nelements=8\nroot=2\naddress=1010\nhop=65535\nreads=2\naddress=1011\nhop=1\nreads=2\n";
+        "refusal=0\ndetail=0\nelements=8\nroot=2\naddress=1010\nhop=65535\nlength=4\nreads=2\naddress=1011\nhop=1\nlength=2\nreads=2\n";
     assert_eq!(tablet::run(text.as_bytes()), report);
     assert_eq!(table(4, &[("10", 65535), ("1010", 0)]).check(), Err(Refusal { number: 4, detail: 1 }));
+}
+
+/// 02, [5]: the matched lengths of 01's table, by both kinds and with every level limit.
+#[test]
+fn matched_lengths() {
+    for (kind, levels) in (1..=8).flat_map(|levels| [(Kind::Fixed, levels), (Kind::Variable, levels)]) {
+        let (outcome, record, rows) = built(kind, levels, &eight(), 10, 128);
+        assert_eq!(outcome, Ok(()));
+        for (address, hop, length) in MATCHES {
+            let found = lookup(&record, &rows, number(address)).unwrap();
+            assert_eq!((found.hop(), found.length()), (hop, length));
+        }
+    }
+    let floor = table(3, &[("", 9), ("1", 65535), ("101", 2)]);
+    let (_, record, rows) = built(Kind::Variable, 2, &floor, 3, 6);
+    assert_eq!(rows.length, [0, 1, 0, 3, 0, 0]);
+    assert_eq!(lookup(&record, &rows, 0), Ok(Found::Match { hop: 9, length: 0, reads: 1 }));
+    assert_eq!(lookup(&record, &rows, 4), Ok(Found::Discard { length: 1, reads: 2 }));
+}
+
+/// Refusals 7 and 9 count the shortest of four lists.
+#[test]
+fn the_length_list_alone_too_short() {
+    let mut lent = room(26);
+    lent.length.pop();
+    let before = lent.clone();
+    let (outcome, record) = build(Kind::Variable, 2, &eight(), &mut [7; 10 * SCRATCH_ROW], &mut lent);
+    assert_eq!((outcome, record), (Err(Refusal { number: 7, detail: 26 }), Record::default()));
+    assert_eq!(lent, before);
+    let (_, record, mut rows) = built(Kind::Variable, 2, &eight(), 10, 26);
+    rows.length.pop();
+    assert_eq!(lookup(&record, &rows, 0), Err(Refusal { number: 9, detail: 0 }));
+}
+
+/// A length beside a hop is taken as found, as the hop is; one beside hop 0 says nothing.
+#[test]
+fn lengths_as_found() {
+    let (_, mut record, mut rows) = built(Kind::Variable, 2, &table(3, &[("1", 1), ("101", 2)]), 3, 6);
+    record.floor = 9;
+    for length in [0, 1, 33, 255] {
+        rows.length.fill(length);
+        assert_eq!(lookup(&record, &rows, 5), Ok(Found::Match { hop: 2, length, reads: 2 }));
+        assert_eq!(lookup(&record, &rows, 7), Ok(Found::Match { hop: 1, length, reads: 2 }));
+        assert_eq!(lookup(&record, &rows, 0), Ok(Found::Match { hop: 9, length: 0, reads: 1 }));
+    }
+    record.floor = 0;
+    assert_eq!(lookup(&record, &rows, 0).unwrap().length(), 0);
 }
 
 #[test]
@@ -200,7 +255,7 @@ fn builds_answer_longest_match() {
             assert_eq!(outcome, Ok(()));
             for address in 0..1u32 << width {
                 let found = lookup(&record, &rows, address).unwrap();
-                assert_eq!(found.hop(), table.answer(address));
+                assert_eq!((found.hop(), found.length()), table.answer(address));
                 assert!(found.reads() <= k);
             }
         }

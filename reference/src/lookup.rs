@@ -4,21 +4,22 @@
 use crate::build::{test_levels, Elements, Record};
 use crate::table::{refuse, test_width, Refusal, DISCARD};
 
-/// A match with hop and reads, or no route with reads; a discard is an answer of its own with reads (02, [4]).
+/// A match with hop and reads, or no route with reads; a discard is an answer of its own with reads (02, [4]). Each
+/// match or discard carries the length of the entry that won, 0 for the floor (02, [5]).
 #[derive(Clone, Copy, PartialEq, Eq, Debug)]
 pub enum Found {
-    Match { hop: u16, reads: u32 },
-    Discard { reads: u32 },
+    Match { hop: u16, length: u8, reads: u32 },
+    Discard { length: u8, reads: u32 },
     NoRoute { reads: u32 },
 }
 
 impl Found {
     /// Hop 0 means no route, hop 65,535 discard.
-    pub fn of(hop: u16, reads: u32) -> Found {
+    pub fn of(hop: u16, length: u8, reads: u32) -> Found {
         match hop {
             0 => Found::NoRoute { reads },
-            DISCARD => Found::Discard { reads },
-            _ => Found::Match { hop, reads },
+            DISCARD => Found::Discard { length, reads },
+            _ => Found::Match { hop, length, reads },
         }
     }
 
@@ -31,9 +32,17 @@ impl Found {
         }
     }
 
+    /// The number that the tablet prints as length.
+    pub fn length(self) -> u8 {
+        match self {
+            Found::Match { length, .. } | Found::Discard { length, .. } => length,
+            Found::NoRoute { .. } => 0,
+        }
+    }
+
     pub fn reads(self) -> u32 {
         match self {
-            Found::Match { reads, .. } | Found::Discard { reads } | Found::NoRoute { reads } => reads,
+            Found::Match { reads, .. } | Found::Discard { reads, .. } | Found::NoRoute { reads } => reads,
         }
     }
 }
@@ -56,28 +65,34 @@ pub fn lookup(record: &Record, rows: &Elements, address: u32) -> Result<Found, R
         return refuse(8, 0);
     }
     match walk(record, rows, address) {
-        Ok((hop, path)) => Ok(Found::of(hop, path.len() as u32)),
+        Ok(path) => Ok(Found::of(path.hop, path.length, path.rows.len() as u32)),
         Err(_) => refuse(9, 0),
     }
 }
 
-/// The walk itself, after tests 1, 2 and 8: the best hop and the rows read, in order. `Err` says which
-/// clause of 9 was met.
-pub fn walk(record: &Record, rows: &Elements, address: u32) -> Result<(u16, Vec<usize>), Damage> {
+/// What a walk meets: the best hop, the length that stands beside it (0 for the floor), and the rows read, in order.
+#[derive(Clone, PartialEq, Eq, Debug)]
+pub struct Path {
+    pub hop: u16,
+    pub length: u8,
+    pub rows: Vec<usize>,
+}
+
+/// The walk itself, after tests 1, 2 and 8. `Err` says which clause of 9 was met.
+pub fn walk(record: &Record, rows: &Elements, address: u32) -> Result<Path, Damage> {
     let elements = record.elements as u64;
     if elements > rows.shortest() as u64 {
         return Err(Damage::ListsTooShort);
     }
-    let mut best = record.floor;
-    let mut path = vec![];
+    let mut path = Path { hop: record.floor, length: 0, rows: vec![] };
     let mut stride = record.strides[0] as u32;
     if stride == 0 {
-        return if elements == 0 { Ok((best, path)) } else { Err(Damage::RootStrideZero) };
+        return if elements == 0 { Ok(path) } else { Err(Damage::RootStrideZero) };
     }
     let mut first: u64 = 0;
     let mut left = record.width;
     loop {
-        if path.len() as u32 == record.levels {
+        if path.rows.len() as u32 == record.levels {
             return Err(Damage::BlockAfterLast);
         }
         if stride == 0 {
@@ -92,12 +107,12 @@ pub fn walk(record: &Record, rows: &Elements, address: u32) -> Result<(u16, Vec<
             return Err(Damage::RowPastEnd);
         }
         let row = row as usize;
-        path.push(row);
+        path.rows.push(row);
         if rows.hop[row] != 0 {
-            best = rows.hop[row];
+            (path.hop, path.length) = (rows.hop[row], rows.length[row]);
         }
         if rows.link[row] == 0 {
-            return Ok((best, path));
+            return Ok(path);
         }
         first = rows.link[row] as u64;
         stride = rows.stride[row] as u32;

@@ -96,9 +96,9 @@ impl Table {
         best
     }
 
-    /// The hop of the longest matching entry, else 0.
-    pub fn answer(&self, address: u32) -> u16 {
-        self.longest(address).map_or(0, |i| self.hop[i])
+    /// The hop and the length of the longest matching entry, else 0 and 0.
+    pub fn answer(&self, address: u32) -> (u16, u8) {
+        self.longest(address).map_or((0, 0), |i| (self.hop[i], self.length[i]))
     }
 
     /// The first index and the count of the entries that start with the prefix. If none, count 0 at

@@ -114,7 +114,12 @@ fn table(sheet: &Sheet) -> Table {
 
 fn report(text: &[u8]) -> Result<String, Refusal> {
     let sheet = parse(text)?;
-    let mut rows = Elements { hop: vec![0; ELEMENTS], link: vec![0; ELEMENTS], stride: vec![0; ELEMENTS] };
+    let mut rows = Elements {
+        hop: vec![0; ELEMENTS],
+        length: vec![0; ELEMENTS],
+        link: vec![0; ELEMENTS],
+        stride: vec![0; ELEMENTS],
+    };
     let mut scratch = vec![0; SCRATCH_ROWS * SCRATCH_ROW];
     let (outcome, record) = build(sheet.kind, sheet.levels, &table(&sheet), &mut scratch, &mut rows);
     outcome?;
@@ -124,7 +129,8 @@ fn report(text: &[u8]) -> Result<String, Refusal> {
     let mut out = format!("refusal=0\ndetail=0\nelements={}\nroot={}\n", record.elements, record.strides[0]);
     for address in &sheet.addresses {
         let found = lookup(&record, &rows, read_bits(address) as u32).expect("rows of one build");
-        out += &format!("address={}\nhop={}\nreads={}\n", address, found.hop(), found.reads());
+        let (hop, length, reads) = (found.hop(), found.length(), found.reads());
+        out += &format!("address={address}\nhop={hop}\nlength={length}\nreads={reads}\n");
     }
     Ok(out)
 }

@@ -173,18 +173,22 @@ fn any_levels(random: &mut Random) -> u32 {
 /// What a lookup answers, and what a vector file counts it as.
 fn answered(answer: Result<Found, Refusal>) -> (String, String) {
     match answer {
-        Ok(Found::Match { hop, reads }) => (format!("match {hop} reads {reads}"), "lookup match".to_string()),
-        Ok(Found::Discard { reads }) => (format!("discard reads {reads}"), "lookup discard".to_string()),
+        Ok(Found::Match { hop, length, reads }) => {
+            (format!("match {hop} length {length} reads {reads}"), "lookup match".to_string())
+        }
+        Ok(Found::Discard { length, reads }) => {
+            (format!("discard length {length} reads {reads}"), "lookup discard".to_string())
+        }
         Ok(Found::NoRoute { reads }) => (format!("none reads {reads}"), "lookup no route".to_string()),
         Err(refusal) => (format!("refused {}", refusal.number), format!("lookup refused {}", refusal.number)),
     }
 }
 
-/// The same, short: hop/reads, d for a discard's hop, hop 0 for no route, or r and the refusal.
+/// The same, short: hop/length/reads, d for a discard's hop, 0/reads for no route, or r and the refusal.
 fn swept(answer: Result<Found, Refusal>) -> String {
     match answer {
-        Ok(Found::Match { hop, reads }) => format!(" {hop}/{reads}"),
-        Ok(Found::Discard { reads }) => format!(" d/{reads}"),
+        Ok(Found::Match { hop, length, reads }) => format!(" {hop}/{length}/{reads}"),
+        Ok(Found::Discard { length, reads }) => format!(" d/{length}/{reads}"),
         Ok(Found::NoRoute { reads }) => format!(" 0/{reads}"),
         Err(refusal) => format!(" r{}", refusal.number),
     }

@@ -1,9 +1,9 @@
-//! A table as a tree bitmap: the archive's build and lookups and the reference's, compared in everything, and the hops compared with
-//! those of the same table's elements.
+//! A table as a tree bitmap: the archive's build and lookups and the reference's, compared in everything, and the hops and lengths
+//! compared with those of the same table's elements.
 
 use crate::bitmap_harm;
 use crate::tally::Call;
-use crate::trying::{numbers, same, same_list, Same, Trial, SMALL};
+use crate::trying::{c_answer, numbers, same, same_list, Same, Trial, SMALL};
 use hongsamuk::raw;
 use reference::bitmap::{build, lookup, nodes, walk, Bitmap, Supernodes, NODE_ROW, STRIDE};
 use reference::lookup::Found;
@@ -82,7 +82,7 @@ impl Trial<'_> {
         Ok(Refusal { number, detail })
     }
 
-    /// Lookups over what an accepted build left, held to the elements' hops, then over the same damaged.
+    /// Lookups over what an accepted build left, held to the elements' hops and lengths, then over the same damaged.
     fn after_bitmap(&mut self, table: &Table, mut record: Bitmap, mut rows: Supernodes) -> Same {
         let elements = std::mem::take(&mut self.answers);
         let addresses: Vec<u32> = match elements.is_empty() {
@@ -92,11 +92,13 @@ impl Trial<'_> {
         let answers = self.look_in_bitmap(&record, &rows, &addresses)?;
         if answers[0].number == 0 {
             self.tally.bitmap_longest += 1;
-            same("longest match in a bitmap", answers[0].hop, table.answer(addresses[0]))?;
+            let (hop, length) = (answers[0].hop, answers[0].length);
+            same("longest match in a bitmap", (hop, length), table.answer(addresses[0]))?;
         }
         for ((address, element), answer) in elements.iter().zip(&answers) {
             same(&format!("number for {address} of both layouts"), answer.number, element.number)?;
             same(&format!("hop for {address} of both layouts"), answer.hop, element.hop)?;
+            same(&format!("length for {address} of both layouts"), answer.length, element.length)?;
             self.tally.agreed += 1;
         }
         if self.random.one_in(2) {
@@ -120,19 +122,18 @@ impl Trial<'_> {
     }
 
     fn expected_in_bitmap(&mut self, record: &Bitmap, rows: &Supernodes, address: u32) -> raw::Answer {
-        match lookup(record, rows, address) {
+        let found = lookup(record, rows, address);
+        match found {
             Ok(found) => {
                 self.tally.bitmap_no_routes += matches!(found, Found::NoRoute { .. }) as u64;
                 self.tally.bitmap_discards += matches!(found, Found::Discard { .. }) as u64;
-                raw::Answer { number: 0, hop: found.hop(), reads: found.reads() }
             }
-            Err(refusal) => {
-                if refusal.number == 9 {
-                    self.tally.bitmap_damage(walk(record, rows, address).expect_err("refused by 9"));
-                }
-                raw::Answer { number: refusal.number, hop: 0, reads: 0 }
+            Err(refusal) if refusal.number == 9 => {
+                self.tally.bitmap_damage(walk(record, rows, address).expect_err("refused by 9"));
             }
+            Err(_) => (),
         }
+        c_answer(found)
     }
 
     /// The addresses over the rows that are lent. Returns the archive's answers.

@@ -15,6 +15,7 @@ pub struct Lists {
     hop: Lent<u16>,
     pub scratch: Lent<u64>,
     pub row_hop: Lent<u16>,
+    pub row_length: Lent<u8>,
     pub row_link: Lent<u32>,
     pub row_stride: Lent<u8>,
     pub internal: Lent<u16>,
@@ -25,7 +26,16 @@ pub struct Lists {
     address: Lent<u32>,
     pub number: Lent<u32>,
     pub best: Lent<u16>,
+    pub matched: Lent<u8>,
     pub reads: Lent<u32>,
+}
+
+/// The four answer lists of a batch.
+pub struct Answers {
+    pub number: Vec<u32>,
+    pub hop: Vec<u16>,
+    pub length: Vec<u8>,
+    pub reads: Vec<u32>,
 }
 
 /// The longest lists that are lent.
@@ -50,6 +60,7 @@ impl Lists {
             hop: Lent::new(most.entries, edge),
             scratch: Lent::new(most.words, edge),
             row_hop: Lent::new(most.rows, edge),
+            row_length: Lent::new(most.rows, edge),
             row_link: Lent::new(most.rows, edge),
             row_stride: Lent::new(most.rows, edge),
             internal: Lent::new(most.supernodes, edge),
@@ -60,6 +71,7 @@ impl Lists {
             address: Lent::new(most.addresses, edge),
             number: Lent::new(most.addresses, edge),
             best: Lent::new(most.addresses, edge),
+            matched: Lent::new(most.addresses, edge),
             reads: Lent::new(most.addresses, edge),
         }
     }
@@ -76,6 +88,7 @@ impl Lists {
 
     pub fn lend_rows(&mut self, rows: &Elements, random: &mut Random) {
         lend(&mut self.row_hop, &rows.hop, random);
+        lend(&mut self.row_length, &rows.length, random);
         lend(&mut self.row_link, &rows.link, random);
         lend(&mut self.row_stride, &rows.stride, random);
     }
@@ -92,14 +105,16 @@ impl Lists {
         lend(&mut self.address, addresses, random);
     }
 
-    pub fn lend_answers(&mut self, number: &[u32], best: &[u16], reads: &[u32], random: &mut Random) {
-        lend(&mut self.number, number, random);
-        lend(&mut self.best, best, random);
-        lend(&mut self.reads, reads, random);
+    pub fn lend_answers(&mut self, answers: &Answers, random: &mut Random) {
+        lend(&mut self.number, &answers.number, random);
+        lend(&mut self.best, &answers.hop, random);
+        lend(&mut self.matched, &answers.length, random);
+        lend(&mut self.reads, &answers.reads, random);
     }
 
     pub fn rows_are(&self, rows: &Elements) -> bool {
-        self.row_hop.held() == rows.hop && self.row_link.held() == rows.link && self.row_stride.held() == rows.stride
+        (self.row_hop.held(), self.row_length.held()) == (&rows.hop, &rows.length)
+            && (self.row_link.held(), self.row_stride.held()) == (&rows.link, &rows.stride)
     }
 
     // SAFETY of all calls below: each pointer is good for its length, or null with length 0; lists do not overlap.
@@ -168,6 +183,8 @@ impl Lists {
                 self.scratch.len(),
                 self.row_hop.write(),
                 self.row_hop.len(),
+                self.row_length.write(),
+                self.row_length.len(),
                 self.row_link.write(),
                 self.row_link.len(),
                 self.row_stride.write(),
@@ -182,6 +199,8 @@ impl Lists {
                 record,
                 self.row_hop.read(),
                 self.row_hop.len(),
+                self.row_length.read(),
+                self.row_length.len(),
                 self.row_link.read(),
                 self.row_link.len(),
                 self.row_stride.read(),
@@ -242,6 +261,8 @@ impl Lists {
                 record,
                 self.row_hop.read(),
                 self.row_hop.len(),
+                self.row_length.read(),
+                self.row_length.len(),
                 self.row_link.read(),
                 self.row_link.len(),
                 self.row_stride.read(),
@@ -252,6 +273,8 @@ impl Lists {
                 self.number.len(),
                 self.best.write(),
                 self.best.len(),
+                self.matched.write(),
+                self.matched.len(),
                 self.reads.write(),
                 self.reads.len(),
             )

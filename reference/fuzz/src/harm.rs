@@ -36,7 +36,7 @@ fn harm_record(record: &mut Record, rows: &Elements, random: &mut Random) {
 fn harm_rows(rows: &mut Elements, random: &mut Random) {
     let n = rows.shortest() as u64;
     let row = linked(rows, random);
-    match random.within(0, 9) {
+    match random.within(0, 13) {
         0 => rows.hop.truncate(random.within(0, n) as usize),
         1 => rows.link.truncate(random.within(0, n) as usize),
         2 => rows.stride.truncate(random.within(0, n) as usize),
@@ -49,6 +49,10 @@ fn harm_rows(rows: &mut Elements, random: &mut Random) {
             rows.stride[row] = random.within(1, 3) as u8;
         }
         8 => rows.hop[row] = pick(random, &[0, 1, 65535]),
+        9 => rows.length.truncate(random.within(0, n) as usize),
+        10 => rows.length[row] = pick(random, &[0, 1, 32, 33, 128, 255]),
+        11 => rows.length.iter_mut().for_each(|length| *length = pick(random, &[0, *length, 33, 255])),
+        12 => rows.hop.iter_mut().for_each(|hop| *hop = pick(random, &[0, *hop, *hop])),
         _ => rows.link[row] = random.next() as u32,
     }
 }
@@ -73,6 +77,7 @@ pub fn noise(random: &mut Random) -> (Record, Elements) {
     let mut rows = Elements::default();
     for _ in 0..n {
         rows.hop.push(if random.one_in(2) { 0 } else { random.next() as u16 });
+        rows.length.push(if random.one_in(4) { 0 } else { random.next() as u8 });
         rows.link.push(if random.one_in(2) { 0 } else { random.within(0, n + 1) as u32 });
         rows.stride.push(if random.one_in(16) { random.next() as u8 } else { random.within(0, 3) as u8 });
     }
@@ -92,6 +97,7 @@ fn long_paths(random: &mut Random) -> (Record, Elements) {
     let mut rows = Elements::default();
     for _ in 0..n {
         rows.hop.push(if random.one_in(2) { 0 } else { random.next() as u16 });
+        rows.length.push(if random.one_in(4) { 0 } else { random.next() as u8 });
         rows.link.push(if random.one_in(16) { 0 } else { random.within(1, n - 1) as u32 });
         rows.stride.push(if random.one_in(32) { random.within(0, 3) as u8 } else { 1 });
     }

@@ -47,13 +47,14 @@ fn one_entry(bits: u32) -> Table {
     Table { width: bits, value: vec![5], length: vec![bits as u8], hop: vec![7] }
 }
 
-/// E at the limit is accepted where the lists have as many rows; twice as many elements are refused.
+/// E at the limit is accepted where the four lists have as many rows; twice as many elements are refused.
 fn limits(trial: &mut Trial) -> Same {
     let most = ELEMENTS as usize;
-    for (bits, rows) in [(24, most), (24, most - 1), (25, ROWS)] {
+    let short = [most, most - 1, most, most];
+    for (bits, rows) in [(24, [most; 4]), (24, [most - 1; 4]), (24, short), (25, [ROWS; 4])] {
         for kind in KINDS {
             let given = trial.given(&one_entry(bits), bits as usize, kind, 1, rows)?;
-            println!("{kind:?}, one entry of {bits} bits, k = 1, {rows} rows lent: {}", outcome(&given));
+            println!("{kind:?}, one entry of {bits} bits, k = 1, {rows:?} rows lent: {}", outcome(&given));
         }
     }
     Ok(())
@@ -64,7 +65,7 @@ fn chain(trial: &mut Trial) -> Same {
     for levels in 1..=33 {
         for kind in KINDS {
             let told = |text| format!("one entry of 32 bits {kind:?} levels {levels}: {text}");
-            let given = trial.given(&one_entry(32), 32, kind, levels, 1 << 17).map_err(told)?;
+            let given = trial.given(&one_entry(32), 32, kind, levels, [1 << 17; 4]).map_err(told)?;
             println!("{kind:?}, one entry of 32 bits, k = {levels}: {}", outcome(&given));
         }
     }
@@ -106,7 +107,7 @@ impl Size {
             let mut less = u64::MAX;
             for (levels, most) in self.levels.iter().zip(&mut most) {
                 let told = |text| format!("{name}, {n} entries, {kind:?} levels {levels}: {text}");
-                let given = trial.given(table, nodes, kind, *levels, self.rows).map_err(told)?;
+                let given = trial.given(table, nodes, kind, *levels, [self.rows; 4]).map_err(told)?;
                 println!("{kind:?}, k = {levels}: {}", outcome(&given));
                 let cost = given.0.detail.max(given.1.elements.into());
                 if cost > less || cost > *most {

@@ -46,6 +46,9 @@ pub struct Tally {
     bitmap_damages: BTreeMap<bitmap::Damage, u64>,
     pub no_routes: u64,
     pub discards: u64,
+    /// Answers with a length that no prefix of the width has; and refusals by 9 for which the length list alone is too short.
+    pub damaged_lengths: u64,
+    pub short_lengths: u64,
     pub batches: u64,
     pub longest: u64,
     /// The most reads of a lookup in elements.
@@ -58,7 +61,7 @@ pub struct Tally {
     most_levels: u64,
     most_strides: u64,
     /// Of lookups in bitmaps: those without a route, those that discard, those held to longest match besides, and those held to the hop
-    /// that the elements of the same table gave.
+    /// and the length that the elements of the same table gave.
     pub bitmap_no_routes: u64,
     pub bitmap_discards: u64,
     pub bitmap_longest: u64,
@@ -123,6 +126,8 @@ impl Tally {
         }
         println!("lookups without a route: {}; that discard: {}", self.no_routes, self.discards);
         println!("refusal 9 by clause: {}", by_clause(&self.damages));
+        let (above, short) = (self.damaged_lengths, self.short_lengths);
+        println!("lengths above the width: {above}; refused for the length list alone: {short}");
         println!("batches: {}; answers held to longest match besides: {}", self.batches, self.longest);
         println!("tables of {ENTRIES} entries checked: {}; of more: {}", self.most_entries, self.more_entries);
         let (many, most, strides) = (self.many_levels, self.most_levels, self.most_strides);
@@ -134,7 +139,10 @@ impl Tally {
             self.bitmap_no_routes, self.bitmap_discards
         );
         println!("refusal 9 in bitmaps by clause: {clauses}");
-        println!("held to longest match besides: {}; to the elements' hop: {}", self.bitmap_longest, self.agreed);
+        println!(
+            "held to longest match besides: {}; to the elements' hop and length: {}",
+            self.bitmap_longest, self.agreed
+        );
         println!("{}", self.done());
     }
 }

@@ -2,7 +2,7 @@
 //! detail, values, and after a call that may write, every place of every list that it may write. (Lists that it may not write are
 //! lent from memory that cannot be written.)
 
-use crate::calls::{shared_length, Lists, Most};
+use crate::calls::{shared_length, Answers, Lists, Most};
 use crate::tally::{Call, Tally};
 use crate::{harm, tables};
 use hongsamuk::raw;
@@ -62,6 +62,19 @@ fn c_record(record: &Record) -> hongsamuk::Record {
     hongsamuk::Record { width, levels, elements, floor, strides }
 }
 
+pub fn c_answer(found: Result<Found, Refusal>) -> raw::Answer {
+    match found {
+        Ok(found) => raw::Answer { number: 0, hop: found.hop(), length: found.length(), reads: found.reads() },
+        Err(refusal) => raw::Answer { number: refusal.number, ..raw::Answer::default() },
+    }
+}
+
+/// Whether the length list alone is too short for the record.
+fn is_short_of_lengths(record: &Record, rows: &Elements) -> bool {
+    let elements = record.elements as usize;
+    rows.length.len() < elements && elements <= rows.hop.len().min(rows.link.len()).min(rows.stride.len())
+}
+
 pub struct Trial<'a> {
     pub lists: &'a mut Lists,
     pub tally: &'a mut Tally,
@@ -118,9 +131,11 @@ impl Trial<'_> {
         self.marks(words, |mark| mark | 1)
     }
 
-    fn rows(&mut self, hops: usize, links: usize, strides: usize) -> Elements {
+    /// Lists of the hops, lengths, links and strides.
+    fn rows(&mut self, [hops, lengths, links, strides]: [usize; 4]) -> Elements {
         Elements {
             hop: self.marks(hops, |mark| mark as u16),
+            length: self.marks(lengths, |mark| mark as u8),
             link: self.marks(links, |mark| mark as u32),
             stride: self.marks(strides, |mark| mark as u8),
         }
@@ -130,12 +145,12 @@ impl Trial<'_> {
     fn room(&mut self, cost: u64) -> Elements {
         let about = cost.min(SMALL.rows as u64 - 20);
         let about = if self.random.one_in(8) { self.random.within(0, about) } else { about };
-        let mut lengths = [about as usize + self.random.within(0, 9) as usize; 3];
-        lengths[self.random.within(0, 2) as usize] = self.around(about, 9);
+        let mut lengths = [about as usize + self.random.within(0, 9) as usize; 4];
+        lengths[self.random.within(0, 3) as usize] = self.around(about, 9);
         if self.random.one_in(2) {
-            lengths = [about as usize; 3];
+            lengths = [about as usize; 4];
         }
-        self.rows(lengths[0], lengths[1], lengths[2])
+        self.rows(lengths)
     }
 
     /// One table through every call.
@@ -150,7 +165,7 @@ impl Trial<'_> {
         self.bitmap(&table).map_err(told)
     }
 
-    /// A given table through every call, with scratch for so many nodes and element lists of that length. Answers the build's
+    /// A given table through every call, with scratch for so many nodes and element lists of these lengths. Answers the build's
     /// number, detail and record.
     pub fn given(
         &mut self,
@@ -158,12 +173,12 @@ impl Trial<'_> {
         nodes: usize,
         kind: Kind,
         levels: u32,
-        rows: usize,
+        rows: [usize; 4],
     ) -> Result<(Refusal, Record), String> {
         self.lists.lend_table(table, &mut self.random);
         self.entries(table)?;
         let scratch = self.marks(nodes * SCRATCH_ROW, |mark| mark | 1);
-        let rows = self.rows(rows, rows, rows);
+        let rows = self.rows(rows);
         let (outcome, record) = self.build_over(table, kind, levels, scratch, rows)?;
         let mut scratch = self.marks(nodes * SCRATCH_ROW, |mark| mark | 1);
         if outcome.number > 0 {
@@ -255,6 +270,7 @@ impl Trial<'_> {
         same_list("scratch after the build", self.lists.scratch.held(), &scratch)?;
         if !self.lists.rows_are(&rows) {
             same_list("hops after the build", self.lists.row_hop.held(), &rows.hop)?;
+            same_list("lengths after the build", self.lists.row_length.held(), &rows.length)?;
             same_list("links after the build", self.lists.row_link.held(), &rows.link)?;
             same_list("strides after the build", self.lists.row_stride.held(), &rows.stride)?;
         }
@@ -284,9 +300,9 @@ impl Trial<'_> {
     fn longest(&mut self, table: &Table, record: &Record, rows: &Elements, address: u32) -> Same {
         if let Ok(found) = lookup(record, rows, address) {
             self.tally.longest += 1;
-            let archive = self.lists.lookup(c_record(record), address).hop;
-            same("longest match", archive, table.answer(address))?;
-            same("longest match by the reference's rows", found.hop(), table.answer(address))?;
+            let archive = self.lists.lookup(c_record(record), address);
+            same("longest match", (archive.hop, archive.length), table.answer(address))?;
+            same("longest match by the reference's rows", (found.hop(), found.length()), table.answer(address))?;
         }
         Ok(())
     }
@@ -327,20 +343,21 @@ impl Trial<'_> {
     }
 
     fn expected(&mut self, record: &Record, rows: &Elements, address: u32) -> raw::Answer {
-        match lookup(record, rows, address) {
+        let found = lookup(record, rows, address);
+        match found {
             Ok(found) => {
                 self.tally.no_routes += matches!(found, Found::NoRoute { .. }) as u64;
                 self.tally.discards += matches!(found, Found::Discard { .. }) as u64;
+                self.tally.damaged_lengths += (u32::from(found.length()) > record.width) as u64;
                 self.tally.most_reads = self.tally.most_reads.max(found.reads());
-                raw::Answer { number: 0, hop: found.hop(), reads: found.reads() }
             }
-            Err(refusal) => {
-                if refusal.number == 9 {
-                    self.tally.damage(walk(record, rows, address).expect_err("refused by 9"));
-                }
-                raw::Answer { number: refusal.number, hop: 0, reads: 0 }
+            Err(refusal) if refusal.number == 9 => {
+                self.tally.damage(walk(record, rows, address).expect_err("refused by 9"));
+                self.tally.short_lengths += is_short_of_lengths(record, rows) as u64;
             }
+            Err(_) => (),
         }
+        c_answer(found)
     }
 
     /// The addresses one by one, then in a batch, over the rows that are lent. Returns the answers, which both sides have.
@@ -359,21 +376,26 @@ impl Trial<'_> {
 
     fn batch(&mut self, record: &Record, addresses: &[u32], answers: &[raw::Answer]) -> Same {
         let about = addresses.len() as u64;
-        let lengths = [self.around(about, 3), self.around(about, 3), self.around(about, 3)];
-        let mut number = self.marks(lengths[0], |mark| mark as u32);
-        let mut best = self.marks(lengths[1], |mark| mark as u16);
-        let mut reads = self.marks(lengths[2], |mark| mark as u32);
+        let places = [0; 4].map(|_| self.around(about, 3));
+        let mut to = Answers {
+            number: self.marks(places[0], |mark| mark as u32),
+            hop: self.marks(places[1], |mark| mark as u16),
+            length: self.marks(places[2], |mark| mark as u8),
+            reads: self.marks(places[3], |mark| mark as u32),
+        };
         self.lists.lend_addresses(addresses, &mut self.random);
-        self.lists.lend_answers(&number, &best, &reads, &mut self.random);
-        let count = lengths.iter().copied().min().unwrap_or(0).min(addresses.len());
+        self.lists.lend_answers(&to, &mut self.random);
+        let count = places.into_iter().min().unwrap_or(0).min(addresses.len());
         for (i, answer) in answers[..count].iter().enumerate() {
-            (number[i], best[i], reads[i]) = (answer.number, answer.hop, answer.reads);
+            (to.number[i], to.hop[i]) = (answer.number, answer.hop);
+            (to.length[i], to.reads[i]) = (answer.length, answer.reads);
             self.tally.count(Call::BatchedLookup, answer.number);
         }
         self.tally.batches += 1;
         same("length of the batch", self.lists.lookup_batch(c_record(record)), count)?;
-        same_list("numbers of the batch", self.lists.number.held(), &number)?;
-        same_list("hops of the batch", self.lists.best.held(), &best)?;
-        same_list("reads of the batch", self.lists.reads.held(), &reads)
+        same_list("numbers of the batch", self.lists.number.held(), &to.number)?;
+        same_list("hops of the batch", self.lists.best.held(), &to.hop)?;
+        same_list("lengths of the batch", self.lists.matched.held(), &to.length)?;
+        same_list("reads of the batch", self.lists.reads.held(), &to.reads)
     }
 }

@@ -131,7 +131,7 @@ fn archive_lookups(record: Bitmap, rows: BitmapRows, addresses: &[u32]) -> u64 {
                 *address,
             )
         };
-        sum += u64::from(answer.number) + u64::from(answer.hop) + u64::from(answer.reads);
+        sum += u64::from(answer.number) + u64::from(answer.hop) + u64::from(answer.length) + u64::from(answer.reads);
     }
     sum
 }

@@ -22,20 +22,21 @@ pub const SIZES: [usize; 6] = [512, 1024, 2048, 4096, 16_384, 65_536];
 const ELEMENTS: usize = hongsamuk::ELEMENTS as usize;
 /// Rows of a block of 8 bits.
 const OCTET: u64 = 256;
-/// Bytes of an element in the three lists.
-const ELEMENT: u64 = 7;
+/// Bytes of an element in the four lists.
+const ELEMENT: u64 = 8;
 
 /// Element lists.
-#[derive(Clone)]
+#[derive(Clone, PartialEq, Eq)]
 pub struct Rows {
     pub hop: Vec<u16>,
+    pub length: Vec<u8>,
     pub link: Vec<u32>,
     pub stride: Vec<u8>,
 }
 
 impl Rows {
     pub fn new(n: usize) -> Rows {
-        Rows { hop: vec![0; n], link: vec![0; n], stride: vec![0; n] }
+        Rows { hop: vec![0; n], length: vec![0; n], link: vec![0; n], stride: vec![0; n] }
     }
 
     /// What the archive builds, in lists just long enough.
@@ -47,11 +48,11 @@ impl Rows {
     }
 
     pub fn elements(&self) -> plain::Elements<'_> {
-        plain::Elements { hop: &self.hop, link: &self.link, stride: &self.stride }
+        plain::Elements { hop: &self.hop, length: &self.length, link: &self.link, stride: &self.stride }
     }
 
     pub fn lent(&self) -> hongsamuk::Rows<'_> {
-        hongsamuk::Rows { hop: &self.hop, link: &self.link, stride: &self.stride }
+        hongsamuk::Rows { hop: &self.hop, length: &self.length, link: &self.link, stride: &self.stride }
     }
 }
 
@@ -72,7 +73,8 @@ fn least(kind: Kind, levels: u32, routes: &Routes) -> u64 {
 }
 
 pub fn archive(kind: Kind, levels: u32, routes: &Routes, scratch: &mut [u64], rows: &mut Rows) -> (Outcome, Record) {
-    let room = hongsamuk::RowsMut { hop: &mut rows.hop, link: &mut rows.link, stride: &mut rows.stride };
+    let Rows { hop, length, link, stride } = rows;
+    let room = hongsamuk::RowsMut { hop, length, link, stride };
     let built = hongsamuk::build(kind, levels, table(routes), scratch, room);
     (built.outcome, built.record)
 }
@@ -92,7 +94,8 @@ pub fn in_plain_rust(
     scratch: &mut [u64],
     rows: &mut Rows,
 ) -> (Outcome, Record) {
-    let room = plain::Lent { hop: &mut rows.hop, link: &mut rows.link, stride: &mut rows.stride };
+    let Rows { hop, length, link, stride } = rows;
+    let room = plain::Lent { hop, length, link, stride };
     let built = plain::build(kind, levels, &plain_table(routes), scratch, room);
     (outcome(built.refusal), built.record)
 }
@@ -108,7 +111,7 @@ fn timed(kind: Kind, levels: u32, routes: &Routes) -> (Timed, u64) {
         || archive(kind, levels, routes, &mut scratch.borrow_mut(), &mut ours),
         || in_plain_rust(kind, levels, routes, &mut scratch.borrow_mut(), &mut theirs),
     );
-    assert!(ours.hop == theirs.hop && ours.link == theirs.link && ours.stride == theirs.stride, "the same rows");
+    assert!(ours == theirs, "the same rows");
     (timed, cost)
 }
 

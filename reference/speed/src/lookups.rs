@@ -13,25 +13,39 @@ const ROUNDS: usize = 41;
 const SEED: u64 = 11;
 
 /// Where a batch is answered.
+#[derive(PartialEq, Eq)]
 struct Answers {
     number: Vec<u32>,
     hop: Vec<u16>,
+    length: Vec<u8>,
     reads: Vec<u32>,
 }
 
 impl Answers {
     fn new() -> Answers {
-        Answers { number: vec![0; LOOKUPS], hop: vec![0; LOOKUPS], reads: vec![0; LOOKUPS] }
+        Answers { number: vec![0; LOOKUPS], hop: vec![0; LOOKUPS], length: vec![0; LOOKUPS], reads: vec![0; LOOKUPS] }
     }
 
     fn sum(&self, answered: usize) -> u64 {
         let last = answered - 1;
-        answered as u64 + self.number[last] as u64 + self.hop[last] as u64 + self.reads[last] as u64
+        let (hop, length) = (u64::from(self.hop[last]), u64::from(self.length[last]));
+        answered as u64 + u64::from(self.number[last]) + hop + length + u64::from(self.reads[last])
     }
 }
 
 /// The header's call.
-type Lookup = unsafe extern "C" fn(Record, *const u16, usize, *const u32, usize, *const u8, usize, u32) -> raw::Answer;
+type Lookup = unsafe extern "C" fn(
+    record: Record,
+    hop: *const u16,
+    hops: usize,
+    length: *const u8,
+    lengths: usize,
+    link: *const u32,
+    links: usize,
+    stride: *const u8,
+    strides: usize,
+    address: u32,
+) -> raw::Answer;
 
 /// Through a pointer, so that the compiler knows nothing of what is called. The sum keeps it from leaving anything out.
 fn one_by_one(lookup: Lookup, record: Record, rows: &Rows, addresses: &[u32]) -> u64 {
@@ -44,6 +58,8 @@ fn one_by_one(lookup: Lookup, record: Record, rows: &Rows, addresses: &[u32]) ->
                 record,
                 rows.hop.as_ptr(),
                 rows.hop.len(),
+                rows.length.as_ptr(),
+                rows.length.len(),
                 rows.link.as_ptr(),
                 rows.link.len(),
                 rows.stride.as_ptr(),
@@ -51,7 +67,7 @@ fn one_by_one(lookup: Lookup, record: Record, rows: &Rows, addresses: &[u32]) ->
                 *address,
             )
         };
-        sum += u64::from(answer.number) + u64::from(answer.hop) + u64::from(answer.reads);
+        sum += u64::from(answer.number) + u64::from(answer.hop) + u64::from(answer.length) + u64::from(answer.reads);
     }
     sum
 }
@@ -63,13 +79,15 @@ fn plain_by_reference(record: Record, rows: &Rows, addresses: &[u32]) -> u64 {
 }
 
 fn archive_batch(record: Record, rows: &Rows, addresses: &[u32], to: &mut Answers) -> u64 {
-    let room = AnswersMut { number: &mut to.number, hop: &mut to.hop, reads: &mut to.reads };
+    let Answers { number, hop, length, reads } = to;
+    let room = AnswersMut { number, hop, length, reads };
     let answered = hongsamuk::lookup_batch(&record, rows.lent(), addresses, room);
     to.sum(answered)
 }
 
 fn plain_batch(record: Record, rows: &Rows, addresses: &[u32], to: &mut Answers) -> u64 {
-    let room = plain::Answers { number: &mut to.number, hop: &mut to.hop, reads: &mut to.reads };
+    let Answers { number, hop, length, reads } = to;
+    let room = plain::Answers { number, hop, length, reads };
     let answered = plain::lookup_batch(record, rows.elements(), addresses, room);
     to.sum(answered)
 }
@@ -96,7 +114,7 @@ pub fn measure(routes: &Routes) {
                 || archive_batch(record, &rows, &addresses, &mut ours),
                 || plain_batch(record, &rows, &addresses, &mut theirs),
             );
-            assert!((&ours.number, &ours.hop, &ours.reads) == (&theirs.number, &theirs.hop, &theirs.reads));
+            assert!(ours == theirs, "the same answers");
             for (call, timed) in [("one by one", one), ("one by one, by reference", reference), ("batch", batch)] {
                 tell(&format!("{kind:?}"), record.elements, pattern, call, &timed);
             }

@@ -1,7 +1,7 @@
 //! The tree bitmap: the rows of 01's eight-prefix table, answers against longest match, supernodes by a queue, and each clause of
 //! refusal 9.
 
-use super::{eight, number, table};
+use super::{eight, number, table, MATCHES};
 use crate::bitmap::{build, lookup, nodes, walk, Bitmap, Damage, Supernodes, NODE_ROW, STRIDE};
 use crate::lookup::Found;
 use crate::random::Random;
@@ -27,8 +27,8 @@ fn built(table: &Table) -> (Bitmap, Supernodes) {
     (record, lists)
 }
 
-fn found(hop: u16, reads: u32) -> Result<Found, Refusal> {
-    Ok(Found::of(hop, reads))
+fn found(hop: u16, length: u8, reads: u32) -> Result<Found, Refusal> {
+    Ok(Found::of(hop, length, reads))
 }
 
 #[test]
@@ -41,8 +41,12 @@ fn eight_prefixes() {
     assert_eq!(rows.first_child, [1, 0, 0]);
     assert_eq!(rows.first_hop, [0, 4, 5]);
     assert_eq!(rows.hop_row, [1, 2, 3, 4, 5, 6, 7, 8]);
-    assert_eq!(lookup(&record, &rows, number("1100001")), found(7, 2));
-    assert_eq!(lookup(&record, &rows, 0), found(1, 1));
+    for (address, hop, length) in MATCHES {
+        let found = lookup(&record, &rows, number(address)).unwrap();
+        assert_eq!((found.hop(), found.length()), (hop, length));
+    }
+    assert_eq!(lookup(&record, &rows, number("1100001")), found(7, 6, 2));
+    assert_eq!(lookup(&record, &rows, 0), found(1, 1, 1));
     assert_eq!(lookup(&record, &rows, 128), Err(Refusal { number: 8, detail: 0 }));
 }
 
@@ -70,10 +74,10 @@ fn rooms_just_too_small() {
 fn tables_of_little() {
     let (record, rows) = built(&table(7, &[]));
     assert_eq!((record, &rows), (Bitmap { width: 7, supernodes: 0, hops: 0 }, &Supernodes::default()));
-    assert_eq!(lookup(&record, &rows, 5), found(0, 0));
+    assert_eq!(lookup(&record, &rows, 5), found(0, 0, 0));
     let (record, rows) = built(&table(7, &[("", 9)]));
     assert_eq!((record.supernodes, rows.internal[0], rows.external[0]), (1, 1, 0));
-    assert_eq!(lookup(&record, &rows, 5), found(9, 1));
+    assert_eq!(lookup(&record, &rows, 5), found(9, 0, 1));
 }
 
 /// 02's example of a discard ([4]): its hop stands among the others.
@@ -84,8 +88,8 @@ fn discarded_corner() {
         (&rows.internal[..], &rows.external[..], &rows.hop_row[..]),
         (&[32, 1][..], &[1024, 0][..], &[1, 65535][..])
     );
-    assert_eq!(lookup(&record, &rows, number("1010")), Ok(Found::Discard { reads: 2 }));
-    assert_eq!(lookup(&record, &rows, number("1011")), Ok(Found::Match { hop: 1, reads: 1 }));
+    assert_eq!(lookup(&record, &rows, number("1010")), Ok(Found::Discard { length: 4, reads: 2 }));
+    assert_eq!(lookup(&record, &rows, number("1011")), Ok(Found::Match { hop: 1, length: 2, reads: 1 }));
 }
 
 /// Supernodes by a queue, each behind all those before it, as source document 002 draws them.
@@ -114,7 +118,7 @@ fn answers_are_longest_match() {
         assert_eq!((record.supernodes as usize, record.hops as usize), (order.len(), table.value.len()));
         for address in 0..1u32 << width {
             let found = lookup(&record, &rows, address).unwrap();
-            assert_eq!(found.hop(), table.answer(address));
+            assert_eq!((found.hop(), found.length()), table.answer(address));
             let whole = bits(width, address, width);
             let begin: Vec<usize> = (0..order.len()).filter(|&i| whole.starts_with(&order[i])).collect();
             assert_eq!(walk(&record, &rows, address).unwrap().visited, begin);
@@ -137,7 +141,7 @@ fn nothing_off_the_path_counts() {
             (other.internal[i], other.external[i]) = (random.next() as u16, random.next() as u16);
             (other.first_child[i], other.first_hop[i]) = (random.next() as u32, random.next() as u32);
         }
-        for i in (0..rows.hop_row.len()).filter(|i| path.bests.last() != Some(&(*i as u64))) {
+        for i in (0..rows.hop_row.len()).filter(|i| path.bests.last().map(|best| best.place) != Some(*i as u64)) {
             other.hop_row[i] = random.next() as u16;
         }
         assert_eq!(lookup(&record, &rows, address), lookup(&record, &other, address));
@@ -162,8 +166,8 @@ fn damaged_rows() {
     assert_eq!(damage(&record, &next), Err(Damage::SupernodePastEnd));
     let mut none = rows.clone();
     none.hop_row[6] = 0;
-    assert_eq!(lookup(&record, &none, address), found(0, 2));
-    assert_eq!(lookup(&Bitmap { supernodes: 0, ..record }, &rows, address), found(0, 0));
+    assert_eq!(lookup(&record, &none, address), found(0, 0, 2));
+    assert_eq!(lookup(&Bitmap { supernodes: 0, ..record }, &rows, address), found(0, 0, 0));
     assert_eq!(lookup(&Bitmap { width: 33, ..record }, &rows, 0), Err(Refusal { number: 1, detail: 0 }));
 }
 
@@ -172,15 +176,15 @@ fn bits_past_the_width() {
     // W = 4: the supernode of a whole entry begins at level W itself, and holds it at place 0.
     let (record, mut rows) = built(&table(4, &[("1111", 5)]));
     assert_eq!((record.supernodes, rows.internal[1], rows.first_hop[1]), (2, 1, 0));
-    assert_eq!(lookup(&record, &rows, 15), found(5, 2));
+    assert_eq!(lookup(&record, &rows, 15), found(5, 4, 2));
     // An entry of 5 bits there matches nothing.
     rows.internal[1] = 2;
-    assert_eq!(lookup(&record, &rows, 15), found(0, 2));
+    assert_eq!(lookup(&record, &rows, 15), found(0, 0, 2));
     // Bit 15 of an internal map is no place.
     rows.internal[1] = 1 << 15;
-    assert_eq!(lookup(&record, &rows, 15), found(0, 2));
+    assert_eq!(lookup(&record, &rows, 15), found(0, 0, 2));
     rows.external[1] = 2;
-    assert_eq!(lookup(&record, &rows, 15), found(0, 2));
+    assert_eq!(lookup(&record, &rows, 15), found(0, 0, 2));
     rows.external[1] = 1;
     assert_eq!(walk(&record, &rows, 15), Err(Damage::LevelAboveWidth));
 }

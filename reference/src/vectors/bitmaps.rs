@@ -1,11 +1,11 @@
 //! The cases of the tree bitmap (02, [1]). A `table` line sets the table of the builds below it, a `rising` line
-//! has one made. A `bitmap` line gives the length of scratch (filled with sevens), of the four lists of supernode rows and of the hop
-//! list (filled with nines); its answer is the outcome, the record, scratch's zeros and sevens, and how many
+//! has one made. A `bitmap` line gives the length of scratch (filled with sevens), of the four lists of supernode rows
+//! and of the hop list (filled with nines); its answer is the outcome, the record, scratch's zeros and sevens, and how many
 //! nines stand in each list past the record's counts. `print` prints the rows within the counts as
 //! internal/external/first child/first hop, and the hops. `look` asks one address of the last record and
-//! lists, `sweep` all addresses below a number, as hop/reads (d for the hop of a discard), or r with the refusal. A
-//! `record` line sets a record and lists of its own. A line with another word, or with a list longer than the program's room or
-//! than the rows or hops that it gives, is a bad line and changes nothing.
+//! lists, `sweep` all addresses below a number, as hop/length/reads (d for the hop of a discard, 0/reads for no
+//! route), or r with the refusal. A `record` line sets a record and lists of its own. A line with another word, or with
+//! a list longer than the program's room or than the rows or hops that it gives, is a bad line and changes nothing.
 
 mod harmed;
 
@@ -52,6 +52,9 @@ const WANTED: &[&str] = &[
     "count 0 before rows",
     "child backwards followed",
     "damaged row off the path",
+    "match of length 0",
+    "match of all W bits",
+    "discard of all W bits",
     "bad line",
 ];
 
@@ -150,8 +153,18 @@ fn is_too_long(map: u16, path: u32, left: u32) -> bool {
     (left + 1..STRIDE as u32).any(|level| map >> ((1 << level) - 1 + (path >> (4 - level))) & 1 == 1)
 }
 
+/// Counts winners of no bits and of as many as an address has.
+fn count_length(vectors: &mut Vectors, width: u32, found: Found) {
+    match found {
+        Found::Match { length: 0, .. } => vectors.hit("match of length 0"),
+        Found::Match { length, .. } if length as u32 == width => vectors.hit("match of all W bits"),
+        Found::Discard { length, .. } if length as u32 == width => vectors.hit("discard of all W bits"),
+        _ => (),
+    }
+}
+
 /// Counts what an accepted lookup met on its way.
-fn count_path(vectors: &mut Vectors, left: &Left, address: u32, hop: u16) {
+fn count_path(vectors: &mut Vectors, left: &Left, address: u32, found: Found) {
     let Left { record, rows } = left;
     let path = walk(record, rows, address).expect("accepted");
     let level = |i: usize| (i * STRIDE) as u32;
@@ -166,10 +179,10 @@ fn count_path(vectors: &mut Vectors, left: &Left, address: u32, hop: u16) {
     if maps().any(too_long) {
         vectors.hit("bits longer than the width on the path");
     }
-    if path.bests.iter().any(|best| *best >= record.hops as u64) {
+    if path.bests.iter().any(|best| best.place >= record.hops as u64) {
         vectors.hit("best past its count, winner within");
     }
-    if hop == 0 && path.bests.len() > 1 {
+    if found.hop() == 0 && path.bests.len() > 1 {
         vectors.hit("winning hop 0 over a shorter match");
     }
     if record.supernodes == 0 && rows.shortest() > 0 {
@@ -193,7 +206,10 @@ fn count(vectors: &mut Vectors, left: &Left, address: u32) {
     let answer = lookup(&left.record, &left.rows, address);
     vectors.hit(&answered(answer).1);
     match answer {
-        Ok(found) => count_path(vectors, left, address, found.hop()),
+        Ok(found) => {
+            count_length(vectors, left.record.width, found);
+            count_path(vectors, left, address, found);
+        }
         Err(refusal) if refusal.number == 9 => {
             let damage = walk(&left.record, &left.rows, address).unwrap_err();
             vectors.hit(&format!("damage {damage:?}"));
@@ -217,10 +233,11 @@ fn sweep(vectors: &mut Vectors, left: &Left, below: u32) {
     vectors.case(format!("sweep {below}"), answers);
 }
 
-/// An answer of an accepted build is that of longest match, with few enough reads.
+/// An answer of an accepted build is that of longest match, its length too, with few enough reads.
 fn hold(table: &Table, left: &Left, address: u32) {
     let found = lookup(&left.record, &left.rows, address).expect("an accepted build is not damaged");
-    assert!(found == Found::of(table.answer(address), found.reads()) && found.reads() <= table.width / 4 + 1);
+    let (hop, length) = table.answer(address);
+    assert!(found == Found::of(hop, length, found.reads()) && found.reads() <= table.width / 4 + 1);
 }
 
 fn sweep_all(vectors: &mut Vectors, table: &Table, left: &Left) {

@@ -1,13 +1,15 @@
 //! The cases of build and lookup. A `table` line sets the table of the builds below it, a `rising` line has
-//! one made. A `fixed` or
-//! `variable` line gives the level limit, the length of scratch (filled with sevens) and of the three
-//! element lists hop, link and stride (filled with nines); its answer is the outcome, the record, scratch's
-//! zeros and sevens, and how many nines stand in each element list past row E. `print` prints rows 0 to E-1
-//! as hop/link/stride. `look` asks one address of the last record and lists, `sweep` all addresses below a
-//! number, as hop/reads (d for the hop of a discard), or r with the refusal. A `record` line sets a record and lists of its own, the
-//! rows as link/stride>hop; of its strides all but the first are the number called others. A line with another
-//! word, or with a list longer than the program's room or than the rows that it gives, is a bad line and changes
-//! nothing.
+//! one made. A `fixed` or `variable` line gives the level limit, the length of scratch (filled with sevens) and of
+//! the four element lists hop, length, link and stride (the lengths filled with fives, the others with nines); its
+//! answer is the outcome, the record, scratch's zeros and sevens, how many nines stand in the hop, link and stride
+//! list past row E, and how many fives in the length list. `print` prints rows 0 to E-1 as hop/length/link/stride.
+//! `look` asks one address of the last record and lists, `sweep` all addresses below a number, as hop/length/reads (d
+//! for the hop of a discard, 0/reads for no route), or r with the refusal. A `record` line sets a record and lists of
+//! its own, the rows as link/stride>hop and behind them a length for each; of its strides all but the first are the
+//! number called others. A line with another word, or with a list longer than the program's room or than the rows that
+//! it gives, is a bad line and changes nothing.
+
+mod lengths;
 
 use super::choosers::{name, KINDS, SCRATCH};
 use super::tables::{damaged, width, FAULTS};
@@ -58,6 +60,15 @@ const WANTED: &[&str] = &[
     "link backwards followed",
     "32 reads",
     "bad line",
+    "fixed refused for the length list alone",
+    "variable refused for the length list alone",
+    "damage in the length list alone",
+    "length list alone longer",
+    "match by the floor",
+    "discard by the floor",
+    "length 0 of a row taken as found",
+    "length above 32 taken as found",
+    "length beside hop 0 passed by",
 ];
 
 /// What the last build or `record` line left.
@@ -76,43 +87,51 @@ fn risen(vectors: &mut Vectors, rising: Rising) -> Table {
     rising.table()
 }
 
-fn nines<T: Copy + Into<u32>>(list: &[T], from: u32) -> usize {
-    list.iter().skip(from as usize).filter(|x| (**x).into() == 9).count()
+/// How often a mark stands in a list from a row on.
+fn marks<T: Copy + Into<u32>>(list: &[T], from: u32, mark: u32) -> usize {
+    list.iter().skip(from as usize).filter(|x| (**x).into() == mark).count()
 }
 
-/// Lengths of scratch, and of the hop, link and stride list.
-type Lent = (usize, usize, usize, usize);
+/// Lengths of scratch, and of the hop, length, link and stride list.
+type Lent = (usize, [usize; 4]);
 
 fn built(vectors: &mut Vectors, table: &Table, kind: Kind, levels: u32, lent: Lent) -> Left {
-    let (places, hop, link, stride) = lent;
-    assert!(places <= SCRATCH && hop.max(link).max(stride) <= ROOM);
+    let (places, [hop, length, link, stride]) = lent;
+    assert!(places <= SCRATCH && lent.1.iter().all(|list| *list <= ROOM));
     let mut scratch = vec![7; places];
-    let mut rows = Elements { hop: vec![9; hop], link: vec![9; link], stride: vec![9; stride] };
+    let mut rows =
+        Elements { hop: vec![9; hop], length: vec![5; length], link: vec![9; link], stride: vec![9; stride] };
     let (answer, record) = build(kind, levels, table, &mut scratch, &mut rows);
     vectors.outcome(name(kind), &answer);
+    lengths::count_build(vectors, kind, answer, &rows);
     let zeros = scratch.iter().filter(|x| **x == 0).count();
     let strides: String = record.strides.iter().map(|s| format!(" {s}")).collect();
-    let e = record.elements;
     vectors.case(
-        format!("{} levels {levels} scratch {places} lists {hop} {link} {stride}", name(kind)),
+        format!("{} levels {levels} scratch {places} lists {hop} {length} {link} {stride}", name(kind)),
         format!(
-            "{} width {} levels {} elements {e} floor {} strides{strides} zeros {zeros} sevens {} nines {} {} {}",
+            "{} width {} levels {} elements {} floor {} strides{strides} zeros {zeros} sevens {} {}",
             outcome(answer),
             record.width,
             record.levels,
+            record.elements,
             record.floor,
             places - zeros,
-            nines(&rows.hop, e),
-            nines(&rows.link, e),
-            nines(&rows.stride, e)
+            kept(&rows, record.elements)
         ),
     );
     Left { record, rows }
 }
 
+/// The marks that stand in the lists past row E.
+fn kept(rows: &Elements, e: u32) -> String {
+    let (hops, links, strides) = (marks(&rows.hop, e, 9), marks(&rows.link, e, 9), marks(&rows.stride, e, 9));
+    format!("nines {hops} {links} {strides} fives {}", marks(&rows.length, e, 5))
+}
+
 fn rows(vectors: &mut Vectors, left: &Left) {
+    let Elements { hop, length, link, stride } = &left.rows;
     let rows: String = (0..left.record.elements as usize)
-        .map(|i| format!(" {}/{}/{}", left.rows.hop[i], left.rows.link[i], left.rows.stride[i]))
+        .map(|i| format!(" {}/{}/{}/{}", hop[i], length[i], link[i], stride[i]))
         .collect();
     vectors.case("print".to_string(), format!("rows{rows}"));
 }
@@ -124,6 +143,7 @@ fn count(vectors: &mut Vectors, left: &Left, address: u32) {
         vectors.hit("32 reads");
     }
     vectors.hit(&answered(answer).1);
+    lengths::count_lookup(vectors, left, address);
     if answer.is_err_and(|refusal| refusal.number == 9) {
         let damage: Damage = walk(&left.record, &left.rows, address).unwrap_err();
         vectors.hit(&format!("damage {damage:?}"));
@@ -144,12 +164,16 @@ fn sweep(vectors: &mut Vectors, left: &Left, below: u32) {
     vectors.case(format!("sweep {below}"), answers);
 }
 
+/// An answer of an accepted build is that of longest match, its length too, with few enough reads.
+fn hold(table: &Table, left: &Left, address: u32) {
+    let found = lookup(&left.record, &left.rows, address).expect("an accepted build is not damaged");
+    let (hop, length) = table.answer(address);
+    assert!(found == Found::of(hop, length, found.reads()) && found.reads() <= left.record.levels);
+}
+
 /// All addresses of an accepted build, held to longest match besides.
 fn sweep_all(vectors: &mut Vectors, table: &Table, left: &Left) {
-    for address in 0..1u32 << table.width {
-        let found = lookup(&left.record, &left.rows, address).expect("an accepted build is not damaged");
-        assert!(found == Found::of(table.answer(address), found.reads()) && found.reads() <= left.record.levels);
-    }
+    (0..1 << table.width).for_each(|address| hold(table, left, address));
     sweep(vectors, left, 1 << table.width);
 }
 
@@ -159,17 +183,12 @@ fn record(vectors: &mut Vectors, left: &mut Left, others: u8) {
         *s = others;
     }
     let (r, e) = (&left.record, &left.rows);
-    let n = e.hop.len().max(e.link.len()).max(e.stride.len());
+    let lists = [e.hop.len(), e.length.len(), e.link.len(), e.stride.len()];
+    let n = lists.into_iter().max().unwrap_or(0);
+    let listed: String = lists.iter().map(|list| format!(" {list}")).collect();
     let mut line = format!(
-        "record width {} levels {} elements {} floor {} stride {} others {others} lists {} {} {} rows {n}:",
-        r.width,
-        r.levels,
-        r.elements,
-        r.floor,
-        r.strides[0],
-        e.hop.len(),
-        e.link.len(),
-        e.stride.len()
+        "record width {} levels {} elements {} floor {} stride {} others {others} lists{listed} rows {n}:",
+        r.width, r.levels, r.elements, r.floor, r.strides[0],
     );
     for i in 0..n {
         let link = e.link.get(i).copied().unwrap_or(0);
@@ -177,7 +196,8 @@ fn record(vectors: &mut Vectors, left: &mut Left, others: u8) {
         let hop = e.hop.get(i).copied().unwrap_or(0);
         line += &format!(" {link}/{stride}>{hop}");
     }
-    vectors.case(line, "record".to_string());
+    let lengths: String = (0..n).map(|i| format!(" {}", e.length.get(i).copied().unwrap_or(0))).collect();
+    vectors.case(format!("{line} lengths {n}:{lengths}"), "record".to_string());
 }
 
 fn nodes(table: &Table) -> usize {
@@ -187,32 +207,33 @@ fn nodes(table: &Table) -> usize {
 fn examples(vectors: &mut Vectors) {
     let small = of(3, &[(4, 1, 1), (5, 3, 2)]);
     table(vectors, &small);
-    let left = built(vectors, &small, Kind::Variable, 2, (216, 6, 6, 6));
+    let left = built(vectors, &small, Kind::Variable, 2, (216, [6; 4]));
     rows(vectors, &left);
     sweep_all(vectors, &small, &left);
     let eight = eight();
     table(vectors, &eight);
-    let left = built(vectors, &eight, Kind::Variable, 2, (720, 26, 26, 26));
+    let left = built(vectors, &eight, Kind::Variable, 2, (720, [26; 4]));
     rows(vectors, &left);
     for address in [97, 96, 103, 104, 71, 79, 0, 127, 128, 4294967295] {
         look(vectors, &left, address);
     }
     for kind in KINDS {
         for levels in (0..=9).chain([31, 32, 33, 4294967295]) {
-            let left = built(vectors, &eight, kind, levels, (720, 128, 130, 129));
+            let left = built(vectors, &eight, kind, levels, (720, [128, 131, 130, 129]));
             rows(vectors, &left);
             if left.record.width > 0 {
                 sweep_all(vectors, &eight, &left);
             }
         }
         for lent in [
-            (720, 25, 26, 26),
-            (720, 26, 25, 26),
-            (720, 26, 26, 25),
-            (720, 26, 26, 27),
-            (648, 26, 26, 26),
-            (719, 26, 26, 26),
-            (0, 0, 0, 0),
+            (720, [25, 26, 26, 26]),
+            (720, [26, 25, 26, 26]),
+            (720, [26, 26, 25, 26]),
+            (720, [26, 26, 26, 25]),
+            (720, [26, 26, 26, 27]),
+            (648, [26; 4]),
+            (719, [26; 4]),
+            (0, [0; 4]),
         ] {
             built(vectors, &eight, kind, 2, lent);
         }
@@ -233,7 +254,7 @@ fn edges(vectors: &mut Vectors) {
         table(vectors, &made);
         for kind in KINDS {
             for levels in (1..=9).chain([16, 31, 32]) {
-                let left = built(vectors, &made, kind, levels, (nodes(&made), 4096, 4096, 4096));
+                let left = built(vectors, &made, kind, levels, (nodes(&made), [4096; 4]));
                 if left.record.width == 0 {
                     continue;
                 }
@@ -242,7 +263,7 @@ fn edges(vectors: &mut Vectors) {
                 }
             }
         }
-        built(vectors, &made, Kind::Variable, 1, (nodes(&made), 0, 0, 0));
+        built(vectors, &made, Kind::Variable, 1, (nodes(&made), [0; 4]));
     }
 }
 
@@ -253,7 +274,7 @@ fn discarding(vectors: &mut Vectors) {
         table(vectors, &made);
         for kind in KINDS {
             for levels in (1..=made.width + 1).chain([31, 32]) {
-                let left = built(vectors, &made, kind, levels, (nodes(&made), 16, 16, 16));
+                let left = built(vectors, &made, kind, levels, (nodes(&made), [16; 4]));
                 rows(vectors, &left);
                 sweep_all(vectors, &made, &left);
                 for address in 0..1 << made.width {
@@ -263,8 +284,12 @@ fn discarding(vectors: &mut Vectors) {
         }
     }
     for edge in [0, 1, 65533, 65534, 65535] {
-        let hop = vec![0, 0, 1, 0, 0, edge, 65535, 0];
-        let rows = Elements { hop, link: vec![0, 0, 4, 0, 0, 0, 0, 0], stride: vec![0, 0, 2, 0, 0, 0, 0, 0] };
+        let rows = Elements {
+            hop: vec![0, 0, 1, 0, 0, edge, 65535, 0],
+            length: vec![0, 0, 2, 0, 0, 4, 4, 0],
+            link: vec![0, 0, 4, 0, 0, 0, 0, 0],
+            stride: vec![0, 0, 2, 0, 0, 0, 0, 0],
+        };
         for elements in [0, 8] {
             let mut strides = [0; LEVELS];
             strides[0] = if elements == 0 { 0 } else { 2 };
@@ -284,13 +309,13 @@ fn levels(vectors: &mut Vectors, random: &mut Random) {
         let last = made.value[(0..made.value.len()).find(|&i| made.length[i] == 32).expect("one of 32 bits")];
         for kind in KINDS {
             for levels in [31, 32, 33] {
-                let left = built(vectors, &made, kind, levels, (nodes(&made), ROOM, ROOM, ROOM));
+                let left = built(vectors, &made, kind, levels, (nodes(&made), [ROOM; 4]));
                 if left.record.width == 0 {
                     continue;
                 }
                 for address in (0..32).map(|bit| last ^ 1 << bit).chain([last]) {
                     look(vectors, &left, address);
-                    assert!(lookup(&left.record, &left.rows, address).unwrap().hop() == made.answer(address));
+                    hold(&made, &left, address);
                 }
             }
         }
@@ -299,7 +324,8 @@ fn levels(vectors: &mut Vectors, random: &mut Random) {
 
 /// Rows of one bit that call for themselves after a 0 and end after a 1: as many reads as the address has leading zeros, and one.
 fn loops(vectors: &mut Vectors) {
-    let rows = Elements { hop: vec![0, 7, 0, 8], link: vec![2, 0, 2, 0], stride: vec![1, 0, 1, 0] };
+    let rows =
+        Elements { hop: vec![0, 7, 0, 8], length: vec![4, 1, 5, 2], link: vec![2, 0, 2, 0], stride: vec![1, 0, 1, 0] };
     for levels in [1, 8, 9, 31, 32, 33] {
         let record_of = Record { width: 32, levels, elements: 4, floor: 3, strides: [1; LEVELS] };
         let mut left = Left { record: record_of, rows: rows.clone() };
@@ -324,7 +350,7 @@ fn small(vectors: &mut Vectors, random: &mut Random) {
                 // More levels than bits add no choice: no room is drawn for them.
                 let more = if levels > width + 1 { 0 } else { random.within(0, 9) as usize };
                 let room = 64 + more;
-                let left = built(vectors, &made, kind, levels, (nodes(&made) + 5, room, room + 1, 80));
+                let left = built(vectors, &made, kind, levels, (nodes(&made) + 5, [room, 77, room + 1, 80]));
                 if levels == shown {
                     rows(vectors, &left);
                 }
@@ -343,7 +369,7 @@ fn wide(vectors: &mut Vectors, random: &mut Random) {
         table(vectors, &made);
         for kind in KINDS {
             let levels = if random.one_in(2) { random.within(3, 8) } else { random.within(3, 32) } as u32;
-            let left = built(vectors, &made, kind, levels, (nodes(&made), ROOM, ROOM, ROOM));
+            let left = built(vectors, &made, kind, levels, (nodes(&made), [ROOM; 4]));
             if left.record.width == 0 {
                 continue;
             }
@@ -354,8 +380,7 @@ fn wide(vectors: &mut Vectors, random: &mut Random) {
                 {
                     look(vectors, &left, address);
                     if (address as u64) < 1 << width {
-                        let found = lookup(&left.record, &left.rows, address).unwrap();
-                        assert!(found.hop() == made.answer(address));
+                        hold(&made, &left, address);
                     }
                 }
             }
@@ -364,7 +389,7 @@ fn wide(vectors: &mut Vectors, random: &mut Random) {
     let made = of(13, &(0..4096).map(|i| (2 * i, 12, 1 + (i % 1000) as u16)).collect::<Vec<_>>());
     table(vectors, &made);
     for kind in KINDS {
-        let left = built(vectors, &made, kind, 3, (nodes(&made), ROOM, ROOM, ROOM));
+        let left = built(vectors, &made, kind, 3, (nodes(&made), [ROOM; 4]));
         for address in [0, 1, 2, 4095, 4096, 8190, 8191, 8192] {
             look(vectors, &left, address);
         }
@@ -377,27 +402,28 @@ fn most(vectors: &mut Vectors) {
     let made = risen(vectors, rising(14, 8192, 13));
     for kind in KINDS {
         for levels in [1, 4, 32] {
-            let left = built(vectors, &made, kind, levels, (nodes(&made), ROOM, ROOM, ROOM));
+            let left = built(vectors, &made, kind, levels, (nodes(&made), [ROOM; 4]));
             for address in [0, 1, 2, 8191, 8192, 16382, 16383, 16384] {
                 look(vectors, &left, address);
             }
             let e = left.record.elements as usize;
-            built(vectors, &made, kind, levels, (nodes(&made) + SCRATCH_ROW - 1, e, e - 1, e));
+            built(vectors, &made, kind, levels, (nodes(&made) + SCRATCH_ROW - 1, [e, e, e - 1, e]));
+            built(vectors, &made, kind, levels, (nodes(&made), [e, e - 1, e, e]));
         }
-        built(vectors, &made, kind, 32, (nodes(&made) - 1, ROOM, ROOM, ROOM));
+        built(vectors, &made, kind, 32, (nodes(&made) - 1, [ROOM; 4]));
     }
     for rising in [rising(16, 65536, 16), rising(32, 65536, 20), rising(16, 65537, 16), rising(32, 65536, 15)] {
         let made = risen(vectors, rising);
         for kind in KINDS {
             for (levels, places) in [(32, 0), (3, SCRATCH), (33, 0)] {
-                let left = built(vectors, &made, kind, levels, (places, 10, 11, 12));
+                let left = built(vectors, &made, kind, levels, (places, [10, 13, 11, 12]));
                 look(vectors, &left, 0);
             }
         }
     }
 }
 
-/// Refusals of the build, and room that is just enough or just too little.
+/// Refusals of the build.
 fn refusals(vectors: &mut Vectors, random: &mut Random) {
     for turn in 0..180 {
         let kind = turn % FAULTS;
@@ -413,9 +439,13 @@ fn refusals(vectors: &mut Vectors, random: &mut Random) {
             let levels =
                 if random.one_in(4) { [0, 33, 4294967295][random.within(0, 2) as usize] } else { any_levels(random) };
             let places = random.within(0, 180) as usize;
-            built(vectors, &made, kind, levels, (places, 10, 11, 12));
+            built(vectors, &made, kind, levels, (places, [10, 13, 11, 12]));
         }
     }
+}
+
+/// Room that is just enough or just too little.
+fn rooms(vectors: &mut Vectors, random: &mut Random) {
     for _ in 0..60 {
         let made = random.table(6, 6);
         if !Trie::of(&made).has("") {
@@ -424,16 +454,17 @@ fn refusals(vectors: &mut Vectors, random: &mut Random) {
         table(vectors, &made);
         for kind in KINDS {
             let levels = random.within(1, 4) as u32;
-            let left = built(vectors, &made, kind, levels, (nodes(&made), 64, 64, 64));
+            let left = built(vectors, &made, kind, levels, (nodes(&made), [64; 4]));
             let e = left.record.elements as usize;
-            let lent = match random.within(0, 3) {
-                0 => (nodes(&made), e - 1, e, e + 2),
-                1 => (nodes(&made), e + 2, e - 1, e),
-                2 => (nodes(&made) + SCRATCH_ROW - 1, e, e + 2, e - 1),
-                _ => (nodes(&made) - 1, e, e, e),
+            let lent = match random.within(0, 4) {
+                0 => (nodes(&made), [e - 1, e, e, e + 2]),
+                1 => (nodes(&made), [e + 2, e, e - 1, e]),
+                2 => (nodes(&made) + SCRATCH_ROW - 1, [e, e + 3, e + 2, e - 1]),
+                3 => (nodes(&made), [e, e - 1, e + 2, e]),
+                _ => (nodes(&made) - 1, [e; 4]),
             };
             built(vectors, &made, kind, levels, lent);
-            built(vectors, &made, kind, levels, (nodes(&made), e, e, e));
+            built(vectors, &made, kind, levels, (nodes(&made), [e; 4]));
         }
     }
 }
@@ -469,18 +500,24 @@ fn harm(random: &mut Random, left: &mut Left, kind: u64) {
         14 => left.record.width = [0, 33, 256, 4294967295, left.record.width + 1][random.within(0, 4) as usize],
         15 => left.record.levels = [0, 33, 4294967295][random.within(0, 2) as usize],
         16 => left.rows.stride[i] = random.within(0, 255) as u8,
+        17 => drop(left.rows.length.pop()),
+        18 => left.rows.length[i] = [0, 33, 255, random.next() as u8][random.within(0, 3) as usize],
+        19 => left.rows.hop[i] = 0,
+        20 => left.rows.length.fill(random.next() as u8),
         _ => left.record.elements = left.record.elements.wrapping_sub(1),
     }
 }
 
+const HARMS: u64 = 22;
+
 fn harmed(vectors: &mut Vectors, random: &mut Random) {
-    for turn in 0..504 {
+    for turn in 0..528 {
         let width = random.within(2, 5) as u32;
         let n = random.within(2, 8) as usize;
         let made = random.table(width, n);
         let kind = KINDS[turn as usize % 2];
         let levels = random.within(1, 3) as u32;
-        let mut elements = Elements { hop: vec![0; 64], link: vec![0; 64], stride: vec![0; 64] };
+        let mut elements = Elements { hop: vec![0; 64], length: vec![0; 64], link: vec![0; 64], stride: vec![0; 64] };
         let mut scratch = vec![0; nodes(&made)];
         let (_, good) = build(kind, levels, &made, &mut scratch, &mut elements);
         let e = good.elements as usize;
@@ -488,11 +525,12 @@ fn harmed(vectors: &mut Vectors, random: &mut Random) {
             continue;
         }
         elements.hop.truncate(e);
+        elements.length.truncate(e);
         elements.link.truncate(e);
         elements.stride.truncate(e);
         let mut left = Left { record: good, rows: elements };
         let sound = left.clone();
-        harm(random, &mut left, turn % 18);
+        harm(random, &mut left, turn % HARMS);
         if random.one_in(3) && left.rows.shortest() == e {
             harm(random, &mut left, random_kind(turn));
         }
@@ -511,7 +549,7 @@ fn harmed(vectors: &mut Vectors, random: &mut Random) {
 fn count_paths(vectors: &mut Vectors, left: &Left, sound: &Left, below: u32) {
     let accepted = |address| lookup(&left.record, &left.rows, address).is_ok();
     let paths: Vec<Vec<usize>> =
-        (0..below).filter(|a| accepted(*a)).map(|a| walk(&left.record, &left.rows, a).unwrap().1).collect();
+        (0..below).filter(|a| accepted(*a)).map(|a| walk(&left.record, &left.rows, a).unwrap().rows).collect();
     let back = |path: &Vec<usize>| path.windows(2).any(|w| (left.rows.link[w[0]] as usize) <= w[0]);
     if paths.iter().any(back) {
         vectors.hit("link backwards followed");
@@ -519,7 +557,7 @@ fn count_paths(vectors: &mut Vectors, left: &Left, sound: &Left, below: u32) {
     let changed: Vec<usize> = (0..left.rows.shortest())
         .filter(|&i| {
             let (a, b) = (&left.rows, &sound.rows);
-            (a.hop[i], a.link[i], a.stride[i]) != (b.hop[i], b.link[i], b.stride[i])
+            (a.hop[i], a.length[i], a.link[i], a.stride[i]) != (b.hop[i], b.length[i], b.link[i], b.stride[i])
         })
         .collect();
     if paths.iter().any(|path| changed.iter().any(|i| !path.contains(i))) {
@@ -529,7 +567,7 @@ fn count_paths(vectors: &mut Vectors, left: &Left, sound: &Left, below: u32) {
 
 /// Another kind of harm than the turn's own.
 fn random_kind(turn: u64) -> u64 {
-    (turn * 7 + 5) % 18
+    (turn * 7 + 5) % HARMS
 }
 
 /// Rows and records of any numbers.
@@ -540,6 +578,7 @@ fn noise(vectors: &mut Vectors, random: &mut Random) {
         let mut left = Left { record: Record::default(), rows: Elements::default() };
         for _ in 0..n {
             left.rows.hop.push(if random.one_in(2) { 0 } else { random.next() as u16 });
+            left.rows.length.push(if random.one_in(4) { 0 } else { random.next() as u8 });
             left.rows.link.push(if random.one_in(2) { 0 } else { random.within(0, n as u64) as u32 });
             left.rows.stride.push(random.within(0, 3) as u8);
         }
@@ -559,35 +598,41 @@ fn noise(vectors: &mut Vectors, random: &mut Random) {
 /// Lines of another word, and lists longer than the program's room or than the rows that are given. After each
 /// the record and the rows are the ones before it.
 fn bad(vectors: &mut Vectors) {
+    let record = "record width 7 levels 2 elements 0 floor 9 stride 0 others 0 lists";
     let lines = [
         "lock 97".to_string(),
         "looking 97".to_string(),
         "loo 97".to_string(),
         "LOOK 97".to_string(),
         "97".to_string(),
-        "fixes levels 2 scratch 720 lists 26 26 26".to_string(),
-        format!("fixed levels 2 scratch {} lists 26 26 26", SCRATCH + 1),
-        format!("variable levels 2 scratch 720 lists {} 26 26", ROOM + 1),
-        format!("variable levels 2 scratch 720 lists 26 {} 26", ROOM + 1),
-        format!("variable levels 2 scratch 720 lists 26 26 {}", ROOM + 1),
+        "fixes levels 2 scratch 720 lists 26 26 26 26".to_string(),
+        format!("fixed levels 2 scratch {} lists 26 26 26 26", SCRATCH + 1),
+        format!("variable levels 2 scratch 720 lists {} 26 26 26", ROOM + 1),
+        format!("variable levels 2 scratch 720 lists 26 {} 26 26", ROOM + 1),
+        format!("variable levels 2 scratch 720 lists 26 26 {} 26", ROOM + 1),
+        format!("variable levels 2 scratch 720 lists 26 26 26 {}", ROOM + 1),
         format!("table width 7 lists 0 0 0 entries {}: 0/1>1", PLACES + 1),
         format!("rising width 7 entries {} length 7", PLACES + 1),
         "rising width 7 entries 99999999999999999999 length 7".to_string(),
         "risings width 7 entries 8 length 7".to_string(),
         "table width 7 lists 2 1 1 entries 1: 0/1>1".to_string(),
         "table width 7 lists 1 1 2 entries 1: 0/1>1".to_string(),
-        format!("record width 7 levels 2 elements 0 floor 9 stride 0 others 0 lists 0 0 0 rows {}:", ROOM + 1),
-        "record width 7 levels 2 elements 0 floor 9 stride 0 others 0 lists 0 1 0 rows 0:".to_string(),
+        format!("{record} 0 0 0 0 rows {0}: lengths {0}:", ROOM + 1),
+        format!("{record} 1 0 0 0 rows 0: lengths 0:"),
+        format!("{record} 0 1 0 0 rows 0: lengths 0:"),
+        format!("{record} 0 0 1 0 rows 0: lengths 0:"),
+        format!("{record} 0 0 0 1 rows 0: lengths 0:"),
+        format!("{record} 1 2 1 1 rows 1: 0/0>5 lengths 1: 3"),
     ];
     let eight = eight();
     table(vectors, &eight);
-    let left = built(vectors, &eight, Kind::Variable, 2, (720, 26, 26, 26));
+    let left = built(vectors, &eight, Kind::Variable, 2, (720, [26; 4]));
     for line in lines {
         vectors.case(line, "bad line".to_string());
         vectors.hit("bad line");
         look(vectors, &left, 97);
     }
-    built(vectors, &eight, Kind::Variable, 2, (720, 26, 26, 26));
+    built(vectors, &eight, Kind::Variable, 2, (720, [26; 4]));
 }
 
 pub fn write(top: &str) {
@@ -596,12 +641,15 @@ pub fn write(top: &str) {
     examples(&mut vectors);
     edges(&mut vectors);
     discarding(&mut vectors);
+    lengths::lists(&mut vectors);
+    lengths::damaged(&mut vectors);
     levels(&mut vectors, &mut random);
     loops(&mut vectors);
     small(&mut vectors, &mut random);
     wide(&mut vectors, &mut random);
     most(&mut vectors);
     refusals(&mut vectors, &mut random);
+    rooms(&mut vectors, &mut random);
     harmed(&mut vectors, &mut random);
     noise(&mut vectors, &mut random);
     bad(&mut vectors);

@@ -27,15 +27,29 @@ const WANTED: &[&str] = &[
     "bad address line",
     "text after the end",
     "hop=65535 printed",
+    "length=0 of the floor printed",
+    "length=32 printed",
 ];
 
 fn text(vectors: &mut Vectors, text: &[u8]) {
     let report = tablet::run(text);
     let refusal = report.lines().next().and_then(|l| l.strip_prefix("refusal=")).expect("a report begins so");
     vectors.hit(&format!("refusal {refusal}"));
+    let (hops, lengths) = (values(&report, "hop"), values(&report, "length"));
+    if hops.iter().zip(&lengths).any(|(hop, length)| *hop != "0" && *length == "0") {
+        vectors.hit("length=0 of the floor printed");
+    }
+    if lengths.contains(&"32") {
+        vectors.hit("length=32 printed");
+    }
     let mut line = format!("text {}\n", text.len()).into_bytes();
     line.extend(text);
     vectors.raw_case(&line, format!("{report}end"));
+}
+
+/// What a report's lines with a key say.
+fn values<'a>(report: &'a str, key: &str) -> Vec<&'a str> {
+    report.lines().filter_map(|line| line.strip_prefix(key)?.strip_prefix('=')).collect()
 }
 
 const WHOLE: &str = "width=3\nkind=vst\nlevels=2\nentries=2\nbits=1\nhop=1\nbits=101\nhop=2\nqueries=3\naddress=101\naddress=111\naddress=011\n";
@@ -389,8 +403,8 @@ fn levels(vectors: &mut Vectors) {
     }
 }
 
-/// Tables with discards, by both kinds, with 1 to W + 1 levels and the most, asked at all addresses: hop=65535 is printed where the longest entry
-/// discards, and nowhere else.
+/// Tables with discards, by both kinds, with 1 to W + 1 levels and the most, asked at all addresses: hop=65535 is
+/// printed where the longest entry discards, and nowhere else, and behind each hop the length of that entry.
 fn discarding(vectors: &mut Vectors) {
     for made in discards() {
         let entries: String =
@@ -398,11 +412,13 @@ fn discarding(vectors: &mut Vectors) {
         let all = 0..1u32 << made.width;
         let asked: String = all.clone().map(|a| format!("address={}\n", bits(made.width, a, made.width))).collect();
         let tail = format!("entries={}\n{entries}queries={}\n{asked}", made.hop.len(), all.len());
-        let discarded = all.filter(|address| made.answer(*address) == DISCARD).count();
+        let discarded = all.clone().filter(|address| made.answer(*address).0 == DISCARD).count();
+        let matched: Vec<String> = all.map(|address| made.answer(address).1.to_string()).collect();
         for (kind, levels) in (1..=made.width + 1).chain([31, 32]).flat_map(|levels| [("fst", levels), ("vst", levels)])
         {
             let report = lent_case(vectors, &format!("width={}\nkind={kind}\nlevels={levels}\n{tail}", made.width));
             assert!(discarded > 0 && report.matches("hop=65535\n").count() == discarded, "{report}");
+            assert!(values(&report, "length") == matched, "{report}");
             vectors.hit("hop=65535 printed");
         }
     }

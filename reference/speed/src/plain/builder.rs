@@ -1,7 +1,7 @@
 //! The element rows, level by level, each level by one walk of the trie from left to right.
 
 use super::building::Lent;
-use super::rows::{asked, DEPTH, MARK, STRIDE};
+use super::rows::{asked, DEPTH, HOP_BITS, MARK, STRIDE};
 
 /// The trie to be laid, and its strides: a plan from the front where they are fixed, else those of the rows.
 pub struct Source<'a> {
@@ -30,24 +30,27 @@ impl Source<'_> {
     }
 
     #[inline]
-    fn best_below(&self, link: usize, side: usize, best: u16) -> u16 {
+    fn best_below(&self, link: usize, side: usize, best: usize) -> usize {
         match asked(self.rows, link, MARK + side) {
             0 => best,
-            mark => mark as u16,
+            mark => mark,
         }
     }
 
-    /// Writes the 2^c rows from `base` on, below the trie at a link; child blocks lie from row `free` on. Returns the row after them.
-    fn fill(&self, link: usize, c: usize, r: usize, base: usize, best: u16, free: usize, to: &mut Lent) -> usize {
+    /// Writes the 2^c rows from `base` on, below the trie at a link; child blocks lie from row `free` on. `best` is the mark of the
+    /// longest entry so far. Returns the row after them.
+    fn fill(&self, link: usize, c: usize, r: usize, base: usize, best: usize, free: usize, to: &mut Lent) -> usize {
         if link == 0 {
-            to.hop[base..base + (1 << c)].fill(best);
+            to.hop[base..base + (1 << c)].fill(best as u16);
+            to.length[base..base + (1 << c)].fill((best >> HOP_BITS) as u8);
             to.link[base..base + (1 << c)].fill(0);
             to.stride[base..base + (1 << c)].fill(0);
             return free;
         }
         if c == 0 {
             let stride = self.stride(link, r);
-            to.hop[base] = best;
+            to.hop[base] = best as u16;
+            to.length[base] = (best >> HOP_BITS) as u8;
             to.link[base] = free as u32;
             to.stride[base] = stride as u8;
             return free + (1 << stride);

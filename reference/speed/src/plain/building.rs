@@ -12,6 +12,7 @@ const ELEMENTS: u64 = 16_777_216;
 /// Room for the element rows.
 pub struct Lent<'a> {
     pub hop: &'a mut [u16],
+    pub length: &'a mut [u8],
     pub link: &'a mut [u32],
     pub stride: &'a mut [u8],
 }
@@ -69,7 +70,7 @@ pub fn build(kind: Kind, levels: u32, table: &Table, scratch: &mut [u64], mut to
     }
     let k = levels as usize;
     let Plan { cost, strides, plan, root } = planned(kind, k, table, scratch);
-    let room = to.hop.len().min(to.link.len()).min(to.stride.len()) as u64;
+    let room = to.hop.len().min(to.length.len()).min(to.link.len()).min(to.stride.len()) as u64;
     if cost > room || cost > ELEMENTS {
         scratch.fill(0);
         return Built { refusal: Err((7, cost)), record: Record::default() };

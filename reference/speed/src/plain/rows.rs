@@ -1,5 +1,5 @@
 //! The 1-bit trie in scratch rows: links, marks, depth, and the costs and strides for each number of levels left. A link is a row
-//! and one; 0 is none.
+//! and one; 0 is none. A mark is an entry's hop with its length above it.
 
 use super::{Table, LEVELS, WIDTH};
 
@@ -26,8 +26,11 @@ fn raise(rows: &mut [u64], at: usize, depth: usize) {
     *deep = (*deep).max(depth as u64);
 }
 
-/// Puts the last `bits` bits of a value below the root, with a mark. Returns the number of rows then used.
-fn insert(rows: &mut [u64], mut used: usize, value: usize, bits: usize, mark: u16) -> usize {
+/// The bits of a mark below the length.
+pub const HOP_BITS: usize = 16;
+
+/// Puts the last `bits` bits of a value below the root, with its hop and its length for a mark. Returns the number of rows then used.
+fn insert(rows: &mut [u64], mut used: usize, value: usize, bits: usize, hop: u16) -> usize {
     let mut at = 0;
     for left in (1..bits).rev() {
         raise(rows, at, left + 1);
@@ -42,7 +45,7 @@ fn insert(rows: &mut [u64], mut used: usize, value: usize, bits: usize, mark: u1
         }
     }
     raise(rows, at, 1);
-    rows[at * ROW + MARK + (value & 1)] = u64::from(mark);
+    rows[at * ROW + MARK + (value & 1)] = (bits as u64) << HOP_BITS | u64::from(hop);
     used
 }
 

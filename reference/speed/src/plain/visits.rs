@@ -23,6 +23,24 @@ fn ones_before(map: u16, place: u32) -> usize {
     (map & ((1 << place) - 1)).count_ones() as usize
 }
 
+/// The hop row of the longest entry that a supernode has on a path, and its length; so many bits are left at its level.
+#[inline(always)]
+fn longest(rows: BitmapRows, at: usize, path: u32, width: u32, left: u32) -> Option<(usize, u32)> {
+    let internal = rows.internal[at];
+    let on = internal & MASKS[path as usize] & LIMITS[left.min(3) as usize];
+    if on == 0 {
+        return None;
+    }
+    let place = u16::BITS - 1 - on.leading_zeros();
+    Some((rows.first_hop[at] as usize + ones_before(internal, place), width - left + (place + 1).ilog2()))
+}
+
+/// The answer by a winner's hop; hop 0 has no length.
+#[inline(always)]
+fn won(hop: u16, length: u32, reads: u32) -> Numbers {
+    ended(hop, if hop == 0 { 0 } else { length as u8 }, reads)
+}
+
 #[inline(always)]
 fn visit(record: &Bitmap, rows: BitmapRows, address: u32) -> Numbers {
     if record.width == 0 || record.width > WIDTH {
@@ -37,7 +55,7 @@ fn visit(record: &Bitmap, rows: BitmapRows, address: u32) -> Numbers {
         return DAMAGED;
     }
     if supernodes == 0 {
-        return ended(0, 0);
+        return ended(0, 0, 0);
     }
     let (mut best, mut at, mut left, mut reads) = (None, 0, record.width, 0);
     loop {
@@ -46,12 +64,8 @@ fn visit(record: &Bitmap, rows: BitmapRows, address: u32) -> Numbers {
         }
         reads += 1;
         let path = (u64::from(address) << 4 >> left) as u32 & 15;
-        let (internal, external) = (rows.internal[at], rows.external[at]);
-        let on = internal & MASKS[path as usize] & LIMITS[left.min(3) as usize];
-        if on != 0 {
-            let place = u16::BITS - 1 - on.leading_zeros();
-            best = Some(rows.first_hop[at] as usize + ones_before(internal, place));
-        }
+        best = longest(rows, at, path, record.width, left).or(best);
+        let external = rows.external[at];
         if external >> path & 1 == 0 {
             break;
         }
@@ -62,9 +76,9 @@ fn visit(record: &Bitmap, rows: BitmapRows, address: u32) -> Numbers {
         left -= 4;
     }
     match best {
-        None => ended(0, reads),
-        Some(place) if place >= hops => DAMAGED,
-        Some(place) => ended(rows.hop_row[place], reads),
+        None => ended(0, 0, reads),
+        Some((place, _)) if place >= hops => DAMAGED,
+        Some((place, length)) => won(rows.hop_row[place], length, reads),
     }
 }
 

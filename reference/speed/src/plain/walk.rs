@@ -3,12 +3,13 @@
 use super::{LEVELS, WIDTH};
 use hongsamuk::{raw, Record};
 
-/// Number, hop and reads, as the header's calls tell them. By reference and in a tree bitmap that is faster than an enum of four cases,
+/// Number, hop, length and reads, as the header's calls tell them. By reference and in a tree bitmap that is faster than an enum of four cases,
 /// behind the header's call it is slower for random addresses: docs/SPEED.md has both.
 #[derive(Clone, Copy, PartialEq, Eq, Debug)]
 pub struct Numbers {
     pub number: u32,
     pub hop: u16,
+    pub length: u8,
     pub reads: u32,
 }
 
@@ -16,14 +17,15 @@ impl Numbers {
     /// All of them, so that the compiler leaves nothing out.
     #[inline(always)]
     pub fn sum(self) -> u64 {
-        u64::from(self.number) + u64::from(self.hop) + u64::from(self.reads)
+        u64::from(self.number) + u64::from(self.hop) + u64::from(self.length) + u64::from(self.reads)
     }
 }
 
-/// The three element lists.
+/// The four element lists.
 #[derive(Clone, Copy)]
 pub struct Elements<'a> {
     pub hop: &'a [u16],
+    pub length: &'a [u8],
     pub link: &'a [u32],
     pub stride: &'a [u8],
 }
@@ -32,19 +34,20 @@ pub struct Elements<'a> {
 pub struct Answers<'a> {
     pub number: &'a mut [u32],
     pub hop: &'a mut [u16],
+    pub length: &'a mut [u8],
     pub reads: &'a mut [u32],
 }
 
 #[inline(always)]
 pub(super) fn refused(number: u32) -> Numbers {
-    Numbers { number, hop: 0, reads: 0 }
+    Numbers { number, hop: 0, length: 0, reads: 0 }
 }
 
-pub(super) const DAMAGED: Numbers = Numbers { number: 9, hop: 0, reads: 0 };
+pub(super) const DAMAGED: Numbers = Numbers { number: 9, hop: 0, length: 0, reads: 0 };
 
 #[inline(always)]
-pub(super) fn ended(hop: u16, reads: u32) -> Numbers {
-    Numbers { number: 0, hop, reads }
+pub(super) fn ended(hop: u16, length: u8, reads: u32) -> Numbers {
+    Numbers { number: 0, hop, length, reads }
 }
 
 #[inline(always)]
@@ -59,14 +62,14 @@ fn walk(record: &Record, rows: Elements, address: u32) -> Numbers {
         return refused(8);
     }
     let elements = record.elements as usize;
-    if elements > rows.hop.len().min(rows.link.len()).min(rows.stride.len()) {
+    if elements > rows.hop.len().min(rows.length.len()).min(rows.link.len()).min(rows.stride.len()) {
         return DAMAGED;
     }
     let mut stride = u32::from(record.strides[0]);
     if stride == 0 {
-        return if elements == 0 { ended(record.floor, 0) } else { DAMAGED };
+        return if elements == 0 { ended(record.floor, 0, 0) } else { DAMAGED };
     }
-    let (mut best, mut base, mut left) = (record.floor, 0, record.width);
+    let (mut best, mut base, mut left) = ((record.floor, 0), 0, record.width);
     for reads in 0..record.levels {
         if stride == 0 || stride > left {
             return DAMAGED;
@@ -77,10 +80,10 @@ fn walk(record: &Record, rows: Elements, address: u32) -> Numbers {
             return DAMAGED;
         }
         if rows.hop[row] != 0 {
-            best = rows.hop[row];
+            best = (rows.hop[row], rows.length[row]);
         }
         if rows.link[row] == 0 {
-            return ended(best, reads + 1);
+            return ended(best.0, best.1, reads + 1);
         }
         base = rows.link[row] as usize;
         stride = u32::from(rows.stride[row]);
@@ -97,6 +100,8 @@ pub unsafe extern "C" fn lookup(
     record: Record,
     hop: *const u16,
     hops: usize,
+    length: *const u8,
+    lengths: usize,
     link: *const u32,
     links: usize,
     stride: *const u8,
@@ -104,10 +109,11 @@ pub unsafe extern "C" fn lookup(
     address: u32,
 ) -> raw::Answer {
     let hop = std::slice::from_raw_parts(hop, hops);
+    let length = std::slice::from_raw_parts(length, lengths);
     let link = std::slice::from_raw_parts(link, links);
     let stride = std::slice::from_raw_parts(stride, strides);
-    let Numbers { number, hop, reads } = walk(&record, Elements { hop, link, stride }, address);
-    raw::Answer { number, hop, reads }
+    let Numbers { number, hop, length, reads } = walk(&record, Elements { hop, length, link, stride }, address);
+    raw::Answer { number, hop, length, reads }
 }
 
 /// One lookup behind a call of Rust's own: record and lists by reference, so that nothing is copied.
@@ -119,11 +125,11 @@ pub fn lookup_by_reference(record: &Record, rows: &Elements, address: u32) -> Nu
 /// Lookups one after the other: the compiler may take out of the loop what it can.
 #[inline(never)]
 pub fn lookup_batch(record: Record, rows: Elements, addresses: &[u32], answers: Answers) -> usize {
-    let places = answers.number.iter_mut().zip(answers.hop).zip(answers.reads);
+    let places = answers.number.iter_mut().zip(answers.hop).zip(answers.length).zip(answers.reads);
     let mut answered = 0;
-    for (address, ((number, hop), reads)) in addresses.iter().zip(places) {
+    for (address, (((number, hop), length), reads)) in addresses.iter().zip(places) {
         let found = walk(&record, rows, *address);
-        (*number, *hop, *reads) = (found.number, found.hop, found.reads);
+        (*number, *hop, *length, *reads) = (found.number, found.hop, found.length, found.reads);
         answered += 1;
     }
     answered
