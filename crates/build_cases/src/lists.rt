@@ -1,4 +1,4 @@
-// The four element lists of a line, and what a `record` line gives for them: rows of three numbers, then as many lengths.
+// The four element lists of a line, and the rows that a `record` line gives for them.
 
 // The lengths of the lists, and the next place of the text.
 pub struct Lists {
@@ -7,6 +7,15 @@ pub struct Lists {
     pub links: usize,
     pub strides: usize,
     pub next: usize,
+}
+
+// The four numbers of a row, and the next place of the text.
+struct Row {
+    hop: u16,
+    length: u8,
+    link: u32,
+    stride: u8,
+    next: usize,
 }
 
 pub(crate) fn no_lists(at: usize) -> Lists {
@@ -56,22 +65,21 @@ pub(crate) fn is_unfit(text: &[u8], lists: Lists, room: usize) -> bool {
     is_longer(lists, rows)
 }
 
-// Reads how many lengths there are, then the lengths, as many as the list has places; returns the place past them.
-fn read_lengths(text: &[u8], at: usize, row_lengths: &mut [u8]) -> usize {
-    let head = cases::number(text, at);
-    let n = cases::least(head.value as usize, row_lengths.len());
-    let mut next = head.next;
-    let mut i = 0;
-    while i < n {
-        let length = cases::number(text, next);
-        row_lengths[i] = cases::held8(length.value);
-        next = length.next;
-        i += 1;
+fn row_at(text: &[u8], at: usize) -> Row {
+    let hop = cases::number(text, at);
+    let length = cases::number(text, hop.next);
+    let link = cases::number(text, length.next);
+    let stride = cases::number(text, link.next);
+    Row {
+        hop: cases::held16(hop.value),
+        length: cases::held8(length.value),
+        link: cases::held32(link.value),
+        stride: cases::held8(stride.value),
+        next: stride.next,
     }
-    next
 }
 
-// Reads the rows, link, stride and hop of each, then their lengths; returns the place past them.
+// Reads how many rows there are, then the rows, as many as the shortest list has places; returns the place past them.
 pub(crate) fn read_rows(
     text: &[u8],
     at: usize,
@@ -80,6 +88,24 @@ pub(crate) fn read_rows(
     row_links: &mut [u32],
     row_strides: &mut [u8],
 ) -> usize {
-    let listed = cases::rows(text, at, row_links, row_strides, row_hops);
-    read_lengths(text, listed.next, row_lengths)
+    let head = cases::number(text, at);
+    let room = cases::least_of_four(
+        row_hops.len(),
+        row_lengths.len(),
+        row_links.len(),
+        row_strides.len(),
+    );
+    let n = cases::least(head.value as usize, room);
+    let mut next = head.next;
+    let mut i = 0;
+    while i < n {
+        let row = row_at(text, next);
+        row_hops[i] = row.hop;
+        row_lengths[i] = row.length;
+        row_links[i] = row.link;
+        row_strides[i] = row.stride;
+        next = row.next;
+        i += 1;
+    }
+    next
 }

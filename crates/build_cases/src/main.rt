@@ -2,10 +2,11 @@
 // A line of the input is a case. `table` gives the table of the builds below it; `rising` has it made of a width, a
 // number of entries and their length. `fixed` and `variable` give the level limit and the lengths of scratch, which is
 // filled with sevens, and of the element lists, filled with nines, the length list with fives; the answer is the outcome,
-// the record, scratch's zeros and sevens, and how many nines, or fives, each element list has past row E. `record` gives a
-// record and rows of its own. `print` prints rows 0 to E-1 of the last record, `look` asks it one address, `sweep` all
-// addresses below a number. A line with another word, or with a list longer than the program's room or than the rows that
-// it gives, is answered `bad line` and changes nothing. A text that fills the page is answered `text too long`.
+// the record, scratch's zeros and sevens, and how many nines, or fives, each element list has past row E. The element lists
+// and the four numbers of a row are in the order hop, length, link, stride. `record` gives a record and rows of its own.
+// `print` prints rows 0 to E-1 of the last record, `look` asks it one address, `sweep` all addresses below a number. A line
+// with another word, or with a list longer than the program's room or than the rows that it gives, is answered `bad line`
+// and changes nothing. A text that fills the page is answered `text too long`.
 mod lists;
 
 use cases::Held;
@@ -69,12 +70,11 @@ fn say_kept(
     row_links: &[u32],
     row_strides: &[u8],
 ) {
-    say(b" nines");
+    say(b" kept");
     put(cases::count16(row_hops, from, 9) as u64);
+    put(cases::count8(row_lengths, from, 5) as u64);
     put(cases::count32(row_links, from, 9) as u64);
     put(cases::count8(row_strides, from, 9) as u64);
-    say(b" fives");
-    put(cases::count8(row_lengths, from, 5) as u64);
 }
 
 fn say_built(
@@ -360,24 +360,27 @@ fn ask(
     row_lengths: &[u8],
     row_links: &[u32],
     row_strides: &[u8],
-) -> usize {
+) -> State {
     let record = state.record;
     let lists = state.lists;
+    let mut next = state;
     let h = cases::front16(row_hops, lists.hops);
     let b = cases::front8(row_lengths, lists.lengths);
     let l = cases::front32(row_links, lists.links);
     let s = cases::front8(row_strides, lists.strides);
     if let Word::Print = word {
         print(record.elements as usize, h, b, l, s);
-        return cases::seek(text, at, b'\n', b'\n');
+        next.at = cases::seek(text, at, b'\n', b'\n');
+        return next;
     }
     let number = cases::number(text, at);
+    next.at = number.next;
     if let Word::Sweep = word {
         sweep(cases::held32(number.value), record, h, b, l, s);
-        return number.next;
+        return next;
     }
     say_answer(tries::lookup(record, h, b, l, s, cases::held32(number.value)));
-    number.next
+    next
 }
 
 // A record and rows of its own.
@@ -482,20 +485,16 @@ fn line(
             row_strides,
         ),
         Word::Other => bad_line(text, at, state),
-        _ => {
-            let mut next = state;
-            next.at = ask(
-                text,
-                at,
-                word,
-                state,
-                row_hops,
-                row_lengths,
-                row_links,
-                row_strides,
-            );
-            next
-        }
+        _ => ask(
+            text,
+            at,
+            word,
+            state,
+            row_hops,
+            row_lengths,
+            row_links,
+            row_strides,
+        ),
     }
 }
 

@@ -52,6 +52,4 @@ pub use tables::Held;
 pub use tables::byte;
 pub use tables::no_table;
 pub use tables::table_line;
-pub use triples::Listed;
-pub use triples::rows;
 pub use words::is_word;

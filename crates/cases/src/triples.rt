@@ -14,7 +14,7 @@ pub struct Listed {
 }
 
 // Reads how many rows there are, then the rows, as many as the shortest slice has places.
-pub fn rows(
+pub(crate) fn rows(
     text: &[u8],
     at: usize,
     first: &mut [u32],

@@ -9,11 +9,12 @@ use native.Mathlib.Omega.{arith}
 use lib.ListN.{length, getD, replicate, set}
 use borrow.Author.Tests.{eq-eqb, ne-eqb}
 use Rattle.table.specs.Lists.{padded}
-use Rattle.strides.specs.Trie.{Trie, none, node, AllMarks, depth, nodesAt}
+use Rattle.strides.specs.Trie.{Trie, none, node, depth, nodesAt}
 use Rattle.strides.specs.Cheapest.{variable}
 use Rattle.strides.specs.Recurrence.{optBy, pickBy, pickFixedBy, leastBy, stridesBy, fixedStrides}
 use Rattle.strides.specs.Strides.{variableStride}
 use Rattle.strides.proofs.Strides.{pick-variable}
+use Rattle.strides.proofs.Marks.{AllMarks}
 use Rattle.walk.specs.Limits.{WIDTH, LEVELS}
 use Rattle.choosers.specs.Limits.{BYTE}
 use Rattle.choosers.specs.Scratch.{ROW, DEPTH, ask, strideAt, Stands, BEFORE-STRIDES, COST, MARKS, STRIDE}

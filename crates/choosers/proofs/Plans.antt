@@ -8,13 +8,13 @@ use lib.Pow.{pow-mono}
 use lib.ListN.{length, getD, replicate, take, set, length-replicate, length-take}
 use lib.Seq.{getD-take}
 use Rattle.table.specs.Table.{at}
-use Rattle.strides.specs.Trie.{Trie, AllMarks, depth, size}
+use Rattle.strides.specs.Trie.{Trie, depth, size}
 use Rattle.strides.specs.Entries.{longestLength}
 use Rattle.strides.specs.Cheapest.{Kind, fixed, variable}
 use Rattle.strides.specs.Recurrence.{plain, optBy, pickBy, leastBy, stridesBy, fixedStrides}
 use Rattle.strides.specs.Strides.{variableStride, fixedStride, chosenBy}
 use Rattle.strides.proofs.Insertion.{trie-depth, trie-depth-width, nodes-entries}
-use Rattle.strides.proofs.Marks.{trie-marks}
+use Rattle.strides.proofs.Marks.{AllMarks, trie-marks}
 use Rattle.strides.proofs.Capped.{least-capped, strides-capped, follows-capped, cap-never-bites}
 use Rattle.walk.specs.Limits.{WIDTH, LEVELS}
 use Rattle.choosers.specs.Limits.{COST-CAP, BYTE}

@@ -41,7 +41,7 @@ corner-is a r c l =
 
 corner-answers : (Allows : ℕ → Answer → Type 0) → ((a : ℕ) → a < 2 ^ 4 → (r : Answer) → Allows a r
     → Case r × ((numberOf r ≡ 0) × LongestEntry 4 cornerValues cornerLengths cornerHops a (hopOf r) (lengthOf r))) → CornerAnswers Allows
-unfolding answer longest winner matches best longer ofWinner startsWith start
+unfolding answer longest matched winner matches best longer ofWinner startsWith start
 corner-answers Allows f = record {
   corner = λ {r} l. let p = f 0b1010 (omega arith) r l in corner-is 0b1010 r (p .0) (p .1);
   neighbour = λ {r} l. let p = f 0b1011 (omega arith) r l in corner-is 0b1011 r (p .0) (p .1);

@@ -75,7 +75,7 @@ pub extern "C" fn hongsamuk_build_bitmap(
 }
 
 // Looks the address up in rows of supernodes: tests 1, 8, 9. Over the record and lists that one accepted build left together it is the
-// hop of the longest prefix that begins the address, a discard's too, or none. No list changes.
+// hop and the length of the longest prefix that begins the address, a discard's too, or none. No list changes.
 #[no_mangle]
 pub extern "C" fn hongsamuk_lookup_bitmap(
     rec: Bitmap,

@@ -12,22 +12,21 @@ use lib.ListN.{length, length-map}
 use lib.Pow.{pow-pos, shr-shr}
 use lib.Dec.{eqb}
 use Rattle.table.specs.Longest.{newer}
-use Rattle.strides.specs.Trie.{Trie, none, node, Some, left, right, kid, bit, AllMarks, markAlong, subAlong}
+use Rattle.strides.specs.Trie.{Trie, none, node, Some, left, right, kid, bit, markAlong, subAlong}
 use Rattle.strides.specs.Strides.{Good}
 use Rattle.strides.proofs.Paths.{bit-mod, bit-shr, some?, SameBits, sub-none, mark-none, sub-split, mark-same, sub-same, mark-newer, mark-split}
 use Rattle.walk.specs.declared.record.Record.{Record}
 use Rattle.walk.specs.Rows.{Row, Lists, shortest, rowAt, root, rowOf}
-use Rattle.walk.specs.Answers.{Best, floorBest, rowBest, better, latest, answer}
+use Rattle.walk.specs.Answers.{HopLength, floorBest, rowBest, newBest, latest, answer}
 use Rattle.walk.specs.Lookup.{pathRows, lookupOf}
 use Rattle.walk.specs.Meaning.{Passed, Readable, Path, last, on, OnPath, empty, walked}
 use Rattle.layout.specs.Blocks.{Strides, wide, passed, leftOf, linkTo, strideOf, rowBelow, blockRows, levelRows, firstRow, levelsRows, rowsOf, rowCount, Hold, Begun, blocksAlong}
 use Rattle.layout.specs.Blocks.{blockRow, rowIn, rowsAlong}
-use Rattle.layout.specs.Marks.{markBest, HasHop}
 use Rattle.layout.specs.Laid.{LaidTrie}
 use Rattle.walk.proofs.Looked.{path-answer}
 use Rattle.walk.proofs.Reading.{path-rows}
-use Rattle.strides.proofs.Marks.{along-has, sub-marks}
-use Rattle.layout.proofs.Marks.{row-says}
+use Rattle.strides.proofs.Marks.{AllMarks, along-has, sub-marks}
+use Rattle.layout.proofs.Marks.{markBest, HasHop, row-says}
 use Rattle.layout.proofs.GoodStrides.{good-level, good-root, good-block}
 use Rattle.layout.proofs.Blocks.{hold-first, hold-rest, hold-at, level-length, wide-own, level-own, wide-below, level-below, wide-past, left-same, left-own, left-below, left-split}
 use Rattle.layout.proofs.Blocks.{first-next, first-mono, first-past, levels-length, count-none}
@@ -207,10 +206,10 @@ module _ (σ : Strides) (ls : Lists) (e : ℕ) where
     row-best-is = ap rowBest row-is
 
     -- the best after the row
-    best-row : AllMarks HasHop t → (best : ℕ) → better (rowAt ls row) (markBest best) ≡ markBest (newer mark best)
-    unfolding better
+    best-row : AllMarks HasHop t → (best : ℕ) → newBest (rowAt ls row) (markBest best) ≡ markBest (newer mark best)
+    unfolding newBest
     best-row named best =
-        ap (λ (b : Best). cond (eqb (b .hop) 0) (markBest best) b) row-best-is
+        ap (λ (b : HopLength). cond (eqb (b .hop) 0) (markBest best) b) row-best-is
         ∙ row-says mark best (along-has HasHop (λ e. refl) (suc s) t cut 0 named (λ e. refl))
 
     best-next : (best : ℕ) → markAlong w t x best ≡ markAlong (w - suc s) sub x (newer mark best)
@@ -248,7 +247,7 @@ module _ (σ : Strides) (ls : Lists) (e : ℕ) where
         record {
           path = rw (rows-next, h) (on readable (rw to positive) there);
           best = λ named b. rw rows-next
-              (ap (λ (v : Best). latest (rowAt ls) v (rowsHere x r (w - suc s) sub nextFirst)) (best-row named b)
+              (ap (λ (v : HopLength). latest (rowAt ls) v (rowsHere x r (w - suc s) sub nextFirst)) (best-row named b)
               ∙ c .best (sub-marks HasHop (λ e. refl) (suc s) t cut named) (newer mark b) ∙ ap markBest (sym (best-next b)));
         }
       where
@@ -277,7 +276,7 @@ module _ (σ : Strides) (ls : Lists) (e : ℕ) where
   -- the address's path in the whole trie T of width W
   module _ (x W : ℕ) (T : Trie) (said : ℕ → ℕ → ℕ)
       (told : (d s : ℕ) → d + s ≤ W → markAlong s (subAlong d T (x / 2 ^ (W - d))) (x / 2 ^ (W - (d + s))) 0 ≡ said d (d + s)) where
-    abbrev bestSaid : Begun → Best
+    abbrev bestSaid : Begun → HopLength
     bestSaid b = markBest (said (W - b .bits) (W - b .bits + b .stride))
 
     -- where w bits are left, the subtrie is that of the address's first bits
@@ -311,7 +310,7 @@ module _ (σ : Strides) (ls : Lists) (e : ℕ) where
         let to = nextFirst x r s w t at some (b .stride) (b .fits) l in
         let u = subAlong (suc s) t (x / 2 ^ m) in
         ap (map (λ r. rowBest (rowAt ls r))) (rows-next x r s w t at some (b .stride) (b .fits) l)
-        ∙ ap₂ (λ (v : Best) (vs : List Best). v ∷ vs)
+        ∙ ap₂ (λ (v : HopLength) (vs : List HopLength). v ∷ vs)
         (row-best-is x r s w t at some (b .stride) (b .fits) l ∙ ap markBest (mark-here w (suc s) t (b .fits) a))
         (⊎-elim (says-none r m u to)
         (λ k. says r m u to (at-next w (suc s) t (b .fits) a) k (b .child (x / 2 ^ m)) (lies-next x r s w t at some (b .stride) (b .fits) l))
@@ -402,9 +401,9 @@ module _ {most : ℕ} {σ : Strides} {t : Trie} {rec : Record} {ls : Lists} (g :
         → let b = markBest (markAlong W t x m) in lookupOf most rec ls x ≡ answer (b .hop) (b .len) (length (blocksAlong σ W t 0 0 k x))
     unfolding rowsAlong
     lookup-built named m floor =
-        let e = ap (λ (b : Best). latest (rowAt ls) b (rowsAlong σ W k t x)) (sym floor) ∙ finds x .1 named m in
+        let e = ap (λ (b : HopLength). latest (rowAt ls) b (rowsAlong σ W k t x)) (sym floor) ∙ finds x .1 named m in
         path-answer most rec ls x (passes x a) (finds x .0)
-        ∙ ap₂ (λ (b : Best). answer (b .hop) (b .len)) e (length-map (blocksAlong σ W t 0 0 k x) (rowIn x (blockRow σ W k t x)))
+        ∙ ap₂ (λ (b : HopLength). answer (b .hop) (b .len)) e (length-map (blocksAlong σ W t 0 0 k x) (rowIn x (blockRow σ W k t x)))
 
     -- what the rows on the path say, where said says what mark stands in each part of it
     pub rows-say : (said : ℕ → ℕ → ℕ)

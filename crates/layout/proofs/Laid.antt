@@ -17,15 +17,15 @@ use Rattle.strides.proofs.Longest.{mark-block, last-mark-is-longest}
 use Rattle.walk.specs.declared.record.Record.{Record}
 use Rattle.walk.specs.declared.walk.Answer.the-variants.{NoRoute}
 use Rattle.walk.specs.Rows.{Lists, shortest, rowAt}
-use Rattle.walk.specs.Answers.{hopOf, lengthOf, readsOf, NotRefused, Best, Named, floorBest, rowBest, answer}
+use Rattle.walk.specs.Answers.{hopOf, lengthOf, readsOf, NotRefused, HopLength, floorBest, rowBest, answer}
 use Rattle.walk.specs.Lookup.{pathRows, lookupOf}
 use Rattle.layout.specs.Blocks.{Strides, blocksAlong, blockCount, rowsAlong}
-use Rattle.layout.specs.Marks.{entryMarks, markBest}
+use Rattle.layout.specs.Marks.{entryMarks}
 use Rattle.layout.specs.Laid.{tableTrie, Laid}
-use Rattle.walk.proofs.Answers.{answer-number, answer-hop, answer-length, answer-reads}
+use Rattle.walk.proofs.Answers.{NoHopNoLength, answer-number, answer-hop, answer-length, answer-reads}
 use Rattle.walk.proofs.Reading.{reads-most, lookup-local}
 use Rattle.layout.proofs.Cost.{count-cost}
-use Rattle.layout.proofs.Marks.{some-mark, table-marks, winner-says, floor-says}
+use Rattle.layout.proofs.Marks.{markBest, some-mark, table-marks, winner-says, floor-says}
 use Rattle.layout.proofs.Answering.{map-same, path-exactly, lookup-built, rows-say}
 
 module _ {most W : ℕ} {vs ls hs : List ℕ} {σ : Strides} {k : ℕ} {rec : Record} {rows : Lists} (g : Laid most W vs ls hs σ k rec rows) where
@@ -39,11 +39,11 @@ module _ {most W : ℕ} {vs ls hs : List ℕ} {σ : Strides} {k : ℕ} {rec : Re
   module _ (a : ℕ) (small : a < 2 ^ W) where
     -- ---- the longest prefix
     -- what the last nonzero mark on the address's path says, else the floor, is the winner's hop and length
-    abbrev won : Best
+    abbrev won : HopLength
     won = record { hop = longest W (at vs) (at ls) (at hs) (length vs) a; len = matched W (at vs) (at ls) (length vs) a }
 
     mark-won : markBest (markAlong W (tableTrie W vs ls hs) a (floorOf W (at vs) (at ls) (entryMarks ls hs) (length vs))) ≡ won
-    unfolding longest
+    unfolding longest matched
     mark-won =
         ap markBest (last-mark-is-longest W (at vs) (at ls) (entryMarks ls hs) (length vs) (λ i h. g .table .entry i h .prefix) (some-mark (g .table)) a small)
         ∙ winner-says (g .table) (winner W (at vs) (at ls) (length vs) a)
@@ -51,21 +51,21 @@ module _ {most W : ℕ} {vs ls hs : List ℕ} {σ : Strides} {k : ℕ} {rec : Re
     pub lookup-longest : lookupOf most rec rows a ≡ answer (won .hop) (won .len) (blockCount σ W (tableTrie W vs ls hs) k a)
     lookup-longest =
         lookup-built (g .built) a (rw (g .width) small) (table-marks (g .table)) _ (floor-says (g .table) ∙ ap floorBest (sym (g .floor)))
-        ∙ rw (g .width, g .levels) (ap (λ (b : Best). answer (b .hop) (b .len) (blockCount σ W (tableTrie W vs ls hs) k a)) mark-won)
+        ∙ rw (g .width, g .levels) (ap (λ (b : HopLength). answer (b .hop) (b .len) (blockCount σ W (tableTrie W vs ls hs) k a)) mark-won)
 
     pub accepted : NotRefused (lookupOf most rec rows a)
     accepted = rw lookup-longest (answer-number (won .hop) (won .len) _)
 
     -- a hop that is 0 has no winner, and so no length
-    won-named : Named won
-    unfolding longest ofWinner
-    won-named e = ap (ofWinner (at ls)) (winner-none W (at vs) (at ls) (length vs) a .1 (longest-zero W (at vs) (at ls) (at hs) (length vs) a hop-some .0 e))
+    won-no-hop : NoHopNoLength won
+    unfolding longest matched ofWinner
+    won-no-hop e = ap (ofWinner (at ls)) (winner-none W (at vs) (at ls) (length vs) a .1 (longest-zero W (at vs) (at ls) (at hs) (length vs) a hop-some .0 e))
 
     pub hop-longest : hopOf (lookupOf most rec rows a) ≡ longest W (at vs) (at ls) (at hs) (length vs) a
     hop-longest = rw lookup-longest (answer-hop (won .hop) (won .len) _)
 
     pub length-longest : lengthOf (lookupOf most rec rows a) ≡ matched W (at vs) (at ls) (length vs) a
-    length-longest = rw lookup-longest (answer-length won _ won-named)
+    length-longest = rw lookup-longest (answer-length won _ won-no-hop)
 
     -- which are both 0, or hop and length of a prefix that begins the address and than which none that does is longer
     pub laid-longest : LongestEntry W vs ls hs a (hopOf (lookupOf most rec rows a)) (lengthOf (lookupOf most rec rows a))

@@ -1,6 +1,6 @@
 -- What a mark says. Hop and length are read back from it; the lookup's rule, which takes a row with a nonzero hop, agrees with the trie's,
 -- which takes a nonzero mark; and a winner's mark says that winner's hop and length.
-use Prim.Native.Nat.{ℕ, zero, suc, _≤_, _<_}
+use Prim.Native.Nat.{ℕ, zero, suc, _<_}
 use mathlib.Core.Path.{_≡_, refl, sym, ap, _∙_}
 use mathlib.Core.Bool.{Bool, true, false, cond}
 use mathlib.Core.List.{List}
@@ -11,15 +11,21 @@ use lib.ListN.{length, List·getD-eq-default}
 use borrow.Author.Tests.{eqb-true, eqb-false, ne-eqb}
 use Rattle.table.specs.Longest.{best, ofWinner, newer}
 use Rattle.table.specs.Table.{at, Table}
-use Rattle.strides.specs.Trie.{AllMarks}
 use Rattle.strides.specs.Entries.{wholeEntry, floorOf}
 use Rattle.strides.proofs.Longest.{exact-mark, exact-length}
-use Rattle.strides.proofs.Marks.{trie-marks}
-use Rattle.walk.specs.Answers.{Best, floorBest}
-use Rattle.layout.specs.Marks.{LENGTHS, entryMark, entryMarks, hopIn, lengthIn, markBest, HasHop}
+use Rattle.strides.proofs.Marks.{AllMarks, trie-marks}
+use Rattle.walk.specs.Answers.{HopLength, floorBest}
+use Rattle.layout.specs.Marks.{LENGTHS, entryMark, entryMarks, hopIn, lengthIn}
 use Rattle.layout.specs.Laid.{tableTrie, tableFloor}
 
-same-best : {h h′ l l′ : ℕ} → h ≡ h′ → l ≡ l′ → _≡_ {A = Best} (record { hop = h; len = l }) (record { hop = h′; len = l′ })
+abbrev pub markBest : (mark : ℕ) → HopLength
+markBest mark = record { hop = hopIn mark; len = lengthIn mark }
+
+-- a mark that has a hop, or 0
+abbrev pub HasHop : (mark : ℕ) → Type 0
+HasHop mark = hopIn mark ≡ 0 → mark ≡ 0
+
+same-best : {h h′ l l′ : ℕ} → h ≡ h′ → l ≡ l′ → _≡_ {A = HopLength} (record { hop = h; len = l }) (record { hop = h′; len = l′ })
 same-best p q = rw (p, q) refl
 
 mark-says : (h l : ℕ) → l < LENGTHS → markBest (entryMark h l) ≡ record { hop = h; len = l }

@@ -16,12 +16,12 @@ use Rattle.strides.specs.Strides.{Good}
 use Rattle.strides.proofs.Paths.{bit-mod, SameBits, sub-same}
 use Rattle.walk.specs.declared.record.Record.{Record}
 use Rattle.walk.specs.Rows.{Row, Lists, rowAt}
-use Rattle.walk.specs.Answers.{Best}
+use Rattle.walk.specs.Answers.{HopLength}
 use Rattle.layout.specs.Blocks.{Strides, leftOf, linkTo, strideOf, rowBelow, blockRows, firstRow, rowsOf, rowCount, Hold, blockRow}
 use Rattle.layout.specs.PathBlocks.{nodeOn, BlockAt, at-root, after, rowPath}
-use Rattle.layout.specs.Marks.{entryMarks, markBest}
+use Rattle.layout.specs.Marks.{entryMarks}
 use Rattle.layout.specs.Laid.{tableTrie, Laid}
-use Rattle.layout.proofs.Marks.{some-mark, winner-says}
+use Rattle.layout.proofs.Marks.{markBest, some-mark, winner-says}
 use Rattle.layout.proofs.Blocks.{hold-at, level-own, left-same, left-own, left-below, left-split}
 use Rattle.layout.proofs.Answering.{Lies, lies-all, lies-next}
 use Rattle.layout.proofs.Hops.{path-lt, path-row, path-node, row-mark}
@@ -201,6 +201,6 @@ module _ {most W : ℕ} {vs ls hs : List ℕ} {σ : Strides} {k : ℕ} {rec : Re
             stride = strideOf σ (k - suc n) (nodeOn W T y (d + v));
           }
 
-      same-row : {b b′ : Best} {l l′ c c′ : ℕ} → b ≡ b′ → l ≡ l′ → c ≡ c′
+      same-row : {b b′ : HopLength} {l l′ c c′ : ℕ} → b ≡ b′ → l ≡ l′ → c ≡ c′
           → _≡_ {A = Row} (record { hop = b .hop; len = b .len; link = l; stride = c }) (record { hop = b′ .hop; len = b′ .len; link = l′; stride = c′ })
       same-row p q r = rw (p, q, r) refl

@@ -1,10 +1,8 @@
 -- The mark of an entry in the trie that rows are made of: its hop and its length in one number, from which a row takes both (02, [5]: "the
 -- length of the entry whose hop the row has"). 0 is no mark: no entry has hop 0.
 use Prim.Native.Nat.{ℕ, _+_, _*_, _/_, _%_}
-use mathlib.Core.Path.{_≡_}
 use mathlib.Core.List.{List}
 use Rattle.table.specs.Table.{at}
-use Rattle.walk.specs.Answers.{Best}
 
 -- every length is below this
 abbrev pub LENGTHS : ℕ
@@ -23,10 +21,3 @@ hopIn mark = mark / LENGTHS
 
 abbrev pub lengthIn : (mark : ℕ) → ℕ
 lengthIn mark = mark % LENGTHS
-
-abbrev pub markBest : (mark : ℕ) → Best
-markBest mark = record { hop = hopIn mark; len = lengthIn mark }
-
--- a mark that has a hop, or 0
-abbrev pub HasHop : (mark : ℕ) → Type 0
-HasHop mark = hopIn mark ≡ 0 → mark ≡ 0

@@ -126,9 +126,9 @@ module _ (S S′ : ℕ → ℕ → Bool) (M : ℕ → ℕ → ℕ) (c : Closed S
       go true = refl
       go false = refl
 
-  pub mark-below : (m d q : ℕ) → mark (binaryBelow S M (suc m) d q) ≡ M d q
+  mark-binary-below : (m d q : ℕ) → mark (binaryBelow S M (suc m) d q) ≡ M d q
   unfolding binaryBelow knotIf mark
-  mark-below m d q = go (S d q) refl
+  mark-binary-below m d q = go (S d q) refl
     where
       go : (b : Bool) → S d q ≡ b → mark (knotIf b (M d q) (binaryBelow S M m (suc d) (withBit q 0)) (binaryBelow S M m (suc d) (withBit q 1))) ≡ M d q
       go true e = refl
@@ -198,4 +198,4 @@ module _ (W : ℕ) (val len hop : ℕ → ℕ) (n : ℕ) (prefix : (i : ℕ) →
     pub mark-on : mark (subtrieAlong d (binaryTrieOf W val len hop n) (start W d a)) ≡ markAt W val len hop n d (start W d a)
     mark-on =
         ap mark along-start
-        ∙ mark-below S S′ M (closed W val len hop n (λ i h. prefix i h .short)) (some-or W val len hop n some-hop) (W - d) d (start W d a)
+        ∙ mark-binary-below S S′ M (closed W val len hop n (λ i h. prefix i h .short)) (some-or W val len hop n some-hop) (W - d) d (start W d a)

@@ -54,8 +54,8 @@ pub fn say_scratch(scratch: &[u64]) {
     put(cases::count64(scratch, 0, 7) as u64);
 }
 
-// The length of a match or a discard, and its reads.
-fn say_length(length: u8, reads: u32) {
+// The rest of a match or a discard: its length and its reads.
+fn say_rest(length: u8, reads: u32) {
     say(b" length");
     put(length as u64);
     say(b" reads");
@@ -68,11 +68,11 @@ pub fn say_answer(answer: Answer) {
         Answer::Match { hop, length, reads } => {
             say(b"match");
             put(hop as u64);
-            say_length(length, reads);
+            say_rest(length, reads);
         }
         Answer::Discard { length, reads } => {
             say(b"discard");
-            say_length(length, reads);
+            say_rest(length, reads);
         }
         Answer::NoRoute { reads } => {
             say(b"none reads");
@@ -85,8 +85,8 @@ pub fn say_answer(answer: Answer) {
     }
 }
 
-// The same, after a slash each.
-fn say_length_swept(length: u8, reads: u32) {
+// The rest of a match or a discard, after a slash each.
+fn say_rest_swept(length: u8, reads: u32) {
     say(b"/");
     say_number(length as u64);
     say(b"/");
@@ -98,11 +98,11 @@ pub fn say_swept(answer: Answer) {
     match answer {
         Answer::Match { hop, length, reads } => {
             put(hop as u64);
-            say_length_swept(length, reads);
+            say_rest_swept(length, reads);
         }
         Answer::Discard { length, reads } => {
             say(b" d");
-            say_length_swept(length, reads);
+            say_rest_swept(length, reads);
         }
         Answer::NoRoute { reads } => {
             say(b" 0/");

@@ -7,7 +7,7 @@ use native.Mathlib.Omega.{arith}
 use lib.Dec.{eqb}
 use mathlib.Core.List.{List, [], _∷_}
 use Rattle.table.specs.Longest.{newer}
-use Rattle.strides.specs.Trie.{Trie, none, node, kid, markOn, bit, AllMarks, markAlong, subAlong, depth, sumBy, nodesAt}
+use Rattle.strides.specs.Trie.{Trie, none, node, kid, markOn, bit, markAlong, subAlong, depth, sumBy, nodesAt}
 use Rattle.strides.specs.Choice.{Choice, onSide, Valid, cost, ValidFixed, costFixed}
 use Rattle.strides.specs.Cheapest.{Kind, fixed, variable, Cheapest}
 use Rattle.strides.specs.Entries.{withBit, nodeIf, trieBelow, wholeEntry, someStart, markAt, trieOf}
@@ -104,6 +104,10 @@ cheapest-same variable k t u s m c =
     }
 
 -- ---- what each mark has
+abbrev pub AllMarks : (ℕ → Type 0) → Trie → Type 0
+AllMarks P none = Unit {0}
+AllMarks P (node p a q b) = P p × AllMarks P a × P q × AllMarks P b
+
 module _ (P : ℕ → Type 0) (none-has : P 0) where
   below-marks : (S : ℕ → ℕ → Bool) (M : ℕ → ℕ → ℕ) → ((d q : ℕ) → P (M d q)) → (m d q : ℕ) → AllMarks P (trieBelow S M m d q)
   unfolding trieBelow nodeIf

@@ -16,5 +16,5 @@ corner-accepted = refl
 
 pub corner-matches : (map (longest 4 (at cornerValues) (at cornerLengths) (at cornerHops) 2) cornerAddresses ≡ cornerMatches)
     × (map (matched 4 (at cornerValues) (at cornerLengths) 2) cornerAddresses ≡ cornerMatched)
-unfolding longest winner matches best longer ofWinner startsWith start
+unfolding longest matched winner matches best longer ofWinner startsWith start
 corner-matches = (refl, refl)

@@ -62,7 +62,7 @@ fn length_in(mark: u32) -> u8
 // Writes element row i: hop and length are those of the mark.
 fn write(
     hop: &mut [u16],
-    len: &mut [u8],
+    lens: &mut [u8],
     link: &mut [u32],
     stride: &mut [u8],
     i: usize,
@@ -70,14 +70,14 @@ fn write(
     l: usize,
     s: usize,
 )
-    requires { ⌜ (i < shortest (lists (now hop) (now len) (now link) (now stride))) × (mark < MARKS) × (l < LINKS) × (s < BYTE) ⌝ }
+    requires { ⌜ (i < shortest (lists (now hop) (now lens) (now link) (now stride))) × (mark < MARKS) × (l < LINKS) × (s < BYTE) ⌝ }
     ensures hops { λ _. ⌜ now (hop .exit) ≡ set (now (hop .entry)) i (hopIn mark) ⌝ }
-    ensures lens { λ _. ⌜ now (len .exit) ≡ set (now (len .entry)) i (lengthIn mark) ⌝ }
+    ensures lengths { λ _. ⌜ now (lens .exit) ≡ set (now (lens .entry)) i (lengthIn mark) ⌝ }
     ensures links { λ _. ⌜ now (link .exit) ≡ set (now (link .entry)) i l ⌝ }
     ensures strides { λ _. ⌜ now (stride .exit) ≡ set (now (stride .entry)) i s ⌝ }
 {
     hop[i] = hop_in(mark);
-    len[i] = length_in(mark);
+    lens[i] = length_in(mark);
     link[i] = l as u32;
     stride[i] = s as u8;
 }
@@ -119,23 +119,23 @@ fn clear_link(link: &mut [u32], base: usize, end: usize)
 }
 
 // Writes the rows from `base` to before `end`, below which there is no node: all have hop and length of the mark `best` and no child. One
-// list after the other, so that the compiler takes `memset` for all but the hops: over four lists in one loop it does not.
+// list after the other, so that the compiler takes `memset` for all but the hops.
 fn bare(
     hop: &mut [u16],
-    len: &mut [u8],
+    lens: &mut [u8],
     link: &mut [u32],
     stride: &mut [u8],
     base: usize,
     end: usize,
     best: u32,
 )
-    requires { ⌜ (base ≤ end) × (end ≤ shortest (lists (now hop) (now len) (now link) (now stride))) × (best < MARKS) ⌝ }
+    requires { ⌜ (base ≤ end) × (end ≤ shortest (lists (now hop) (now lens) (now link) (now stride))) × (best < MARKS) ⌝ }
     ensures { λ _. ⌜
-        Bare base end best (lists (now (hop .entry)) (now (len .entry)) (now (link .entry)) (now (stride .entry)))
-        (lists (now (hop .exit)) (now (len .exit)) (now (link .exit)) (now (stride .exit))) ⌝ }
+        Bare base end best (lists (now (hop .entry)) (now (lens .entry)) (now (link .entry)) (now (stride .entry)))
+        (lists (now (hop .exit)) (now (lens .exit)) (now (link .exit)) (now (stride .exit))) ⌝ }
 {
     spread_hop(hop, base, end, hop_in(best));
-    spread_byte(len, base, end, length_in(best));
+    spread_byte(lens, base, end, length_in(best));
     clear_link(link, base, end);
     spread_byte(stride, base, end, 0);
 }
@@ -150,18 +150,18 @@ fn leaf(
     best: u32,
     free: usize,
     hop: &mut [u16],
-    len: &mut [u8],
+    lens: &mut [u8],
     link: &mut [u32],
     stride: &mut [u8],
 ) -> usize
-    requires { ⌜ (0 < k) × (best < MARKS) × CanFill (now rows) (now plan) k 0 r base free (lists (now hop) (now len) (now link) (now stride)) ⌝ }
+    requires { ⌜ (0 < k) × (best < MARKS) × CanFill (now rows) (now plan) k 0 r base free (lists (now hop) (now lens) (now link) (now stride)) ⌝ }
     ensures { λ f. ⌜
         Fills (now (rows .entry)) (now (plan .entry)) k 0 r base best free
-        (lists (now (hop .entry)) (now (len .entry)) (now (link .entry)) (now (stride .entry))) f
-        (lists (now (hop .exit)) (now (len .exit)) (now (link .exit)) (now (stride .exit))) ⌝ }
+        (lists (now (hop .entry)) (now (lens .entry)) (now (link .entry)) (now (stride .entry))) f
+        (lists (now (hop .exit)) (now (lens .exit)) (now (link .exit)) (now (stride .exit))) ⌝ }
 {
     let s = stride_at(rows, plan, k, r);
-    write(hop, len, link, stride, base, best, free, s);
+    write(hop, lens, link, stride, base, best, free, s);
     free + power(s)
 }
 
@@ -178,22 +178,22 @@ fn fill(
     best: u32,
     free: usize,
     hop: &mut [u16],
-    len: &mut [u8],
+    lens: &mut [u8],
     link: &mut [u32],
     stride: &mut [u8],
 ) -> usize
-    requires { ⌜ (best < MARKS) × CanFill (now rows) (now plan) k c r base free (lists (now hop) (now len) (now link) (now stride)) ⌝ }
+    requires { ⌜ (best < MARKS) × CanFill (now rows) (now plan) k c r base free (lists (now hop) (now lens) (now link) (now stride)) ⌝ }
     ensures { λ f. ⌜
         Fills (now (rows .entry)) (now (plan .entry)) k c r base best free
-        (lists (now (hop .entry)) (now (len .entry)) (now (link .entry)) (now (stride .entry))) f
-        (lists (now (hop .exit)) (now (len .exit)) (now (link .exit)) (now (stride .exit))) ⌝ }
+        (lists (now (hop .entry)) (now (lens .entry)) (now (link .entry)) (now (stride .entry))) f
+        (lists (now (hop .exit)) (now (lens .exit)) (now (link .exit)) (now (stride .exit))) ⌝ }
 {
     if k == 0 {
-        bare(hop, len, link, stride, base, base + power(c), best);
+        bare(hop, lens, link, stride, base, base + power(c), best);
         return free;
     }
     if c == 0 {
-        return leaf(rows, plan, k, r, base, best, free, hop, len, link, stride);
+        return leaf(rows, plan, k, r, base, best, free, hop, lens, link, stride);
     }
     let m0 = best_below(rows, k, 0, best);
     let m1 = best_below(rows, k, 1, best);
@@ -201,8 +201,21 @@ fn fill(
     let k1 = asked(rows, k, 1);
     let d = c - 1;
     let mid = base + power(d);
-    let f = fill(rows, plan, k0, d, r, base, m0, free, hop, len, link, stride);
-    fill(rows, plan, k1, d, r, mid, m1, f, hop, len, link, stride)
+    let f = fill(
+        rows,
+        plan,
+        k0,
+        d,
+        r,
+        base,
+        m0,
+        free,
+        hop,
+        lens,
+        link,
+        stride,
+    );
+    fill(rows, plan, k1, d, r, mid, m1, f, hop, lens, link, stride)
 }
 
 // Where the next block of a level lies, and where the next child block does.
@@ -219,21 +232,21 @@ fn block(
     r: usize,
     to: Front,
     hop: &mut [u16],
-    len: &mut [u8],
+    lens: &mut [u8],
     link: &mut [u32],
     stride: &mut [u8],
 ) -> Front
-    requires { ⌜ (0 < k) × CanBlock (now rows) (now plan) k r (to .base) (to .free) (lists (now hop) (now len) (now link) (now stride)) ⌝ }
+    requires { ⌜ (0 < k) × CanBlock (now rows) (now plan) k r (to .base) (to .free) (lists (now hop) (now lens) (now link) (now stride)) ⌝ }
     ensures { λ s. ⌜
         WritesBlock (now (rows .entry)) (now (plan .entry)) k r (to .base) (to .free)
-        (lists (now (hop .entry)) (now (len .entry)) (now (link .entry)) (now (stride .entry))) (s .base) (s .free)
-        (lists (now (hop .exit)) (now (len .exit)) (now (link .exit)) (now (stride .exit))) ⌝ }
+        (lists (now (hop .entry)) (now (lens .entry)) (now (link .entry)) (now (stride .entry))) (s .base) (s .free)
+        (lists (now (hop .exit)) (now (lens .exit)) (now (link .exit)) (now (stride .exit))) ⌝ }
 {
     let s = stride_at(rows, plan, k, r);
     let base = to.base;
     let free = to.free;
     let q = r - 1;
-    let f = fill(rows, plan, k, s, q, base, 0, free, hop, len, link, stride);
+    let f = fill(rows, plan, k, s, q, base, 0, free, hop, lens, link, stride);
     let end = base + power(s);
     Front { base: end, free: f }
 }
@@ -251,22 +264,22 @@ fn level(
     r: usize,
     to: Front,
     hop: &mut [u16],
-    len: &mut [u8],
+    lens: &mut [u8],
     link: &mut [u32],
     stride: &mut [u8],
 ) -> Front
-    requires { ⌜ CanLevel (now rows) (now plan) k w c n r (to .base) (to .free) (lists (now hop) (now len) (now link) (now stride)) ⌝ }
+    requires { ⌜ CanLevel (now rows) (now plan) k w c n r (to .base) (to .free) (lists (now hop) (now lens) (now link) (now stride)) ⌝ }
     ensures { λ s. ⌜
         WritesLevel (now (rows .entry)) (now (plan .entry)) k w c n r (to .base) (to .free)
-        (lists (now (hop .entry)) (now (len .entry)) (now (link .entry)) (now (stride .entry))) (s .base) (s .free)
-        (lists (now (hop .exit)) (now (len .exit)) (now (link .exit)) (now (stride .exit))) ⌝ }
+        (lists (now (hop .entry)) (now (lens .entry)) (now (link .entry)) (now (stride .entry))) (s .base) (s .free)
+        (lists (now (hop .exit)) (now (lens .exit)) (now (link .exit)) (now (stride .exit))) ⌝ }
 {
     if k == 0 {
         return to;
     }
     if c == 0 {
         if n == 0 {
-            return block(rows, plan, k, r, to, hop, len, link, stride);
+            return block(rows, plan, k, r, to, hop, lens, link, stride);
         }
         if asked(rows, k, DEPTH) <= n {
             return to;
@@ -274,20 +287,20 @@ fn level(
         let s = stride_at(rows, plan, k, r);
         let m = n - 1;
         let q = r - 1;
-        return level(rows, plan, k, w, s, m, q, to, hop, len, link, stride);
+        return level(rows, plan, k, w, s, m, q, to, hop, lens, link, stride);
     }
     let k0 = asked(rows, k, 0);
     let k1 = asked(rows, k, 1);
     let v = w - 1;
     let d = c - 1;
     if k0 == 0 {
-        return level(rows, plan, k1, v, d, n, r, to, hop, len, link, stride);
+        return level(rows, plan, k1, v, d, n, r, to, hop, lens, link, stride);
     }
-    let then = level(rows, plan, k0, v, d, n, r, to, hop, len, link, stride);
+    let then = level(rows, plan, k0, v, d, n, r, to, hop, lens, link, stride);
     if k1 == 0 {
         return then;
     }
-    level(rows, plan, k1, v, d, n, r, then, hop, len, link, stride)
+    level(rows, plan, k1, v, d, n, r, then, hop, lens, link, stride)
 }
 
 // Writes all rows of the trie at link `root`, level by level, and returns their number E. `width` is the number of address
@@ -299,14 +312,14 @@ pub(crate) fn lay(
     width: usize,
     levels: usize,
     hop: &mut [u16],
-    len: &mut [u8],
+    lens: &mut [u8],
     link: &mut [u32],
     stride: &mut [u8],
 ) -> usize
-    requires { ⌜ CanLay (now rows) (now plan) root width levels (lists (now hop) (now len) (now link) (now stride)) ⌝ }
+    requires { ⌜ CanLay (now rows) (now plan) root width levels (lists (now hop) (now lens) (now link) (now stride)) ⌝ }
     ensures { λ e. ⌜
-        Lays (now (rows .entry)) (now (plan .entry)) root width levels (lists (now (hop .entry)) (now (len .entry)) (now (link .entry)) (now (stride .entry))) e
-        (lists (now (hop .exit)) (now (len .exit)) (now (link .exit)) (now (stride .exit))) ⌝ }
+        Lays (now (rows .entry)) (now (plan .entry)) root width levels (lists (now (hop .entry)) (now (lens .entry)) (now (link .entry)) (now (stride .entry))) e
+        (lists (now (hop .exit)) (now (lens .exit)) (now (link .exit)) (now (stride .exit))) ⌝ }
 {
     let first = given(root, power(stride_at(rows, plan, root, levels)));
     let mut to = Front {
@@ -325,7 +338,7 @@ pub(crate) fn lay(
             levels,
             to,
             hop,
-            len,
+            lens,
             link,
             stride,
         );

@@ -56,17 +56,17 @@ fn is_crowded(e: u64, hops: usize, lens: usize, links: usize, strides: usize) ->
 }
 
 // The hop of the entry of length 0, which can only be a table's first; 0 where there is none.
-fn floor_hop(lens: &[u8], hops: &[u16]) -> u16
+fn floor_hop(length: &[u8], hop: &[u16]) -> u16
     ensures { λ r. ⌜
-        ((W : ℕ) (vs : List ℕ) → Table W vs (now (lens .entry)) (now (hops .entry)) → r ≡ tableFloor W vs (now (lens .entry)) (now (hops .entry))) ⌝ }
+        ((W : ℕ) (vs : List ℕ) → Table W vs (now (length .entry)) (now (hop .entry)) → r ≡ tableFloor W vs (now (length .entry)) (now (hop .entry))) ⌝ }
 {
-    if lens.len() == 0 {
+    if length.len() == 0 {
         return 0;
     }
-    if hops.len() == 0 {
+    if hop.len() == 0 {
         return 0;
     }
-    if lens[0] == 0 { hops[0] } else { 0 }
+    if length[0] == 0 { hop[0] } else { 0 }
 }
 
 // Past test 6, with the plan in scratch: refuses for room (7) or writes the rows.

@@ -38,7 +38,7 @@ use Rattle.visits.proofs.Unique.{on-way-unique}
 use Rattle.visits.proofs.Looked.{looked-bitmap, way-answer}
 use Rattle.visits.proofs.LaidRows.{numbered-root, numbered-lt}
 use Rattle.visits.proofs.PathNumbers.{OnNode, numbers-on}
-use Rattle.visits.proofs.LaidWay.{nodeOn, WinnerOf, nowhere, deepest, Steps, Here, goes}
+use Rattle.visits.proofs.LaidWay.{binaryOn, WinnerOf, nowhere, deepest, Steps, AtDepth, goes}
 use Rattle.visits.proofs.Reading.{way-numbers}
 
 -- no supernode in an empty trie
@@ -79,8 +79,8 @@ module _ {most : ℕ} {t : BinaryTrie} {rec : Bitmap} {rows : RowLists} {hops : 
     places = λ m h. absurd (omega arith);
   }
     where
-      none : (d : ℕ) → nodeOn W t a d ≡ empty
-      none d = ap (λ (u : BinaryTrie). nodeOn W u a d) e ∙ along-empty d _
+      none : (d : ℕ) → binaryOn W t a d ≡ empty
+      none d = ap (λ (u : BinaryTrie). binaryOn W u a d) e ∙ along-empty d _
 
   root-on : (e : isNode t ≡ true) → OnNode W t rows a (g .row) e flat 0 W 0
   unfolding subtrieAlong numberOn order nodesLeft
@@ -89,7 +89,7 @@ module _ {most : ℕ} {t : BinaryTrie} {rec : Bitmap} {rows : RowLists} {hops : 
   found-node : isNode t ≡ true → Found W t rec rows hops a
   unfolding subtrieAlong
   found-node e =
-      let first : Here W t rows hops a (g .row) (g .hop) e flat 0 0 W = record { whole = omega arith; number = numbered-root e; node = e } in
+      let first : AtDepth W t rows hops a (g .row) (g .hop) e flat 0 0 W = record { whole = omega arith; number = numbered-root e; node = e } in
       let r = goes W t rows hops a (g .row) (g .hop) e flat (W / STEP) {best = Missing} refl first (nowhere (λ d l h w. absurd (omega arith))) in
       let some : 0 < length (supernodesOf W t) = numbered-lt (numbered-root {W = W} e) in
       record {
@@ -145,7 +145,7 @@ module _ {most W : ℕ} {vs ls hs : List ℕ} {rec : Bitmap} {rows : RowLists} {
   winner-longest (nowhere f) = no-match (unmarked-none W (at vs) (at ls) (at hs) (length vs) prefixed hop-some a small (λ d h. f d zero-le (omega arith) h))
   winner-longest (deepest {left = left} d w s f h c) =
       let e : W - left ≡ d = omega arith in
-      rw (h, ne-eqb (mark (nodeOn W trie a d)) 0 (λ z. omega arith), e)
+      rw (h, ne-eqb (mark (binaryOn W trie a d)) 0 (λ z. omega arith), e)
       (deepest-longest W (at vs) (at ls) (at hs) (length vs) prefixed hop-some a small d (omega arith) s (λ k l i. f k l (omega arith) i))
 
   winner-counted : {b : Best} → WinnerOf W trie a hops (rec .hops) (suc W) b → InCount b (rec .hops)
@@ -188,7 +188,7 @@ module _ {most W : ℕ} {vs ls hs : List ℕ} {rec : Bitmap} {rows : RowLists} {
   steps : Steps W trie a 0 (pathNumbers rec rows a)
   steps = rw (way-numbers rec rows a (laid-found .way) .0) (laid-found .steps)
 
-  level-visited : (n : ℕ) → STEP * n ≤ W → ltb n (length (pathNumbers rec rows a)) ≡ isNode (nodeOn W trie a (STEP * n))
+  level-visited : (n : ℕ) → STEP * n ≤ W → ltb n (length (pathNumbers rec rows a)) ≡ isNode (binaryOn W trie a (STEP * n))
   level-visited n = rw (zero-add (STEP * n)) at (steps .levels n)
 
   -- one at each of the levels 0, 4, .. whose first node begins the address, and no other

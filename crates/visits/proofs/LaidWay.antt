@@ -39,11 +39,11 @@ no-node (knot m l r) e = cc
 
 module _ (W : ℕ) (t : BinaryTrie) (address : ℕ) where
   -- where the first d bits of the address lead
-  abbrev pub nodeOn : ℕ → BinaryTrie
-  nodeOn d = subtrieAlong d t (address / 2 ^ (W - d))
+  abbrev pub binaryOn : ℕ → BinaryTrie
+  binaryOn d = subtrieAlong d t (address / 2 ^ (W - d))
 
   -- d bits and then k more
-  node-split : (d k : ℕ) → d + k ≤ W → nodeOn (d + k) ≡ subtrieAlong k (nodeOn d) (address / 2 ^ (W - (d + k)))
+  node-split : (d k : ℕ) → d + k ≤ W → binaryOn (d + k) ≡ subtrieAlong k (binaryOn d) (address / 2 ^ (W - (d + k)))
   node-split d k h =
       let e : W - (d + k) + k ≡ W - d = omega arith in
       along-split d k t (address / 2 ^ (W - (d + k)))
@@ -52,13 +52,13 @@ module _ (W : ℕ) (t : BinaryTrie) (address : ℕ) where
   -- ---- the winner
   -- of the depths from c on and below n none has a mark
   abbrev pub Unmarked : (c n : ℕ) → Type 0
-  Unmarked c n = (d : ℕ) → c ≤ d → d < n → d ≤ W → mark (nodeOn d) ≡ 0
+  Unmarked c n = (d : ℕ) → c ≤ d → d < n → d ≤ W → mark (binaryOn d) ≡ 0
 
   -- the winner of the depths below n: none, where none there has a mark; else its hop is the mark of the deepest that has one, at which as
   -- many bits of the address are left as the winner says, and its number is below the count
   pub data WinnerOf (hops : List ℕ) (count n : ℕ) : Best → Type 0 where
     nowhere : Unmarked 0 n → WinnerOf hops count n Missing
-    deepest : {place left : ℕ} (d : ℕ) → d + left ≡ W → 0 < mark (nodeOn d) → Unmarked (suc d) n → at hops place ≡ mark (nodeOn d) → place < count
+    deepest : {place left : ℕ} (d : ℕ) → d + left ≡ W → 0 < mark (binaryOn d) → Unmarked (suc d) n → at hops place ≡ mark (binaryOn d) → place < count
         → WinnerOf hops count n (Won place left)
 
   more-unmarked : {c n m : ℕ} → Unmarked c n → Unmarked n m → Unmarked c m
@@ -71,8 +71,8 @@ module _ (W : ℕ) (t : BinaryTrie) (address : ℕ) where
   -- ---- the supernodes visited
   -- from depth m on: one at each of the depths m, m + 4, .. that has a node
   pub record Steps (m : ℕ) (is : List ℕ) : Type 0 where
-    pub levels : (n : ℕ) → m + STEP * n ≤ W → ltb n (length is) ≡ isNode (nodeOn (m + STEP * n))
-    pub tries : (n : ℕ) → n < length is → getD (supernodesOf W t) (getD is n 0) empty ≡ nodeOn (m + STEP * n)
+    pub levels : (n : ℕ) → m + STEP * n ≤ W → ltb n (length is) ≡ isNode (binaryOn (m + STEP * n))
+    pub tries : (n : ℕ) → n < length is → getD (supernodesOf W t) (getD is n 0) empty ≡ binaryOn (m + STEP * n)
     pub few : length is ≤ suc ((W - m) / STEP)
 
 module _ (W : ℕ) (t : BinaryTrie) (rows : RowLists) (hops : List ℕ) (address : ℕ) (held : HoldRows rows 0 (bitmapRows W t))
@@ -81,15 +81,15 @@ module _ (W : ℕ) (t : BinaryTrie) (rows : RowLists) (hops : List ℕ) (address
   count = length (bitmapHops W t)
 
   abbrev on-path : ℕ → BinaryTrie
-  on-path = nodeOn W t address
+  on-path = binaryOn W t address
 
   -- number i is the supernode at depth m on the path, where `left` bits are left
-  pub record Here (i m left : ℕ) : Type 0 where
+  pub record AtDepth (i m left : ℕ) : Type 0 where
     pub whole : m + left ≡ W
     pub number : AtNumber W t i (on-path m)
     pub node : isNode (on-path m) ≡ true
 
-  module _ {i m left : ℕ} (here : Here i m left) where
+  module _ {i m left : ℕ} (here : AtDepth i m left) where
     abbrev p : ℕ
     p = pathAt address left
 
@@ -192,7 +192,7 @@ module _ (W : ℕ) (t : BinaryTrie) (rows : RowLists) (hops : List ℕ) (address
     pub says : WinnerOf W t address hops count (suc W) winner
     pub steps : Steps W t address m numbers
 
-  module _ {i m left : ℕ} (here : Here i m left) {best : Best} (s : WinnerOf W t address hops count m best) where
+  module _ {i m left : ℕ} (here : AtDepth i m left) {best : Best} (s : WinnerOf W t address hops count m best) where
     abbrev now : Best
     now = bestAfter (supernodeAt rows i) (pathAt address left) left best
 
@@ -217,7 +217,7 @@ module _ (W : ℕ) (t : BinaryTrie) (rows : RowLists) (hops : List ℕ) (address
     }
 
     -- or goes on four levels lower
-    goes-on : isNode (lower here) ≡ true → (STEP ≤ left → Here next (m + STEP) (left - STEP) → Goes next (m + STEP) (left - STEP) now) → Goes i m left best
+    goes-on : isNode (lower here) ≡ true → (STEP ≤ left → AtDepth next (m + STEP) (left - STEP) → Goes next (m + STEP) (left - STEP) now) → Goes i m left best
     goes-on e f =
         let small = path-small address left in
         let bit = behind here ∙ e in
@@ -237,13 +237,13 @@ module _ (W : ℕ) (t : BinaryTrie) (rows : RowLists) (hops : List ℕ) (address
           steps = steps-on here l (g .steps);
         }
 
-    goes-by : (STEP ≤ left → Here next (m + STEP) (left - STEP) → Goes next (m + STEP) (left - STEP) now) → Goes i m left best
+    goes-by : (STEP ≤ left → AtDepth next (m + STEP) (left - STEP) → Goes next (m + STEP) (left - STEP) now) → Goes i m left best
     goes-by f = go (isNode (lower here)) refl
       where
         go : (b : Bool) → isNode (lower here) ≡ b → Goes i m left best
         go false e = goes-last e
         go true e = goes-on e f
 
-  pub goes : (k : ℕ) {i m left : ℕ} {best : Best} → k ≡ left / STEP → Here i m left → WinnerOf W t address hops count m best → Goes i m left best
+  pub goes : (k : ℕ) {i m left : ℕ} {best : Best} → k ≡ left / STEP → AtDepth i m left → WinnerOf W t address hops count m best → Goes i m left best
   goes zero z here s = goes-by here s (λ l there. absurd (omega arith))
   goes (suc k) z here s = goes-by here s (λ l there. goes k (omega arith) there (winner-now here s))

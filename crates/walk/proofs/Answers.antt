@@ -15,33 +15,36 @@ use Rattle.walk.specs.declared.walk.Answer.{Answer}
 use Rattle.walk.specs.declared.walk.Answer.the-variants.{Match, Discard, NoRoute, Refused}
 use Rattle.walk.specs.declared.numbers.AnswerNumbers.{AnswerNumbers}
 use Rattle.walk.specs.Rows.{Row}
-use Rattle.walk.specs.Answers.{numberOf, hopOf, lengthOf, readsOf, Case, Best, Named, rowBest, better, latest, answer, answerNumbers, answerOf}
+use Rattle.walk.specs.Answers.{numberOf, hopOf, lengthOf, readsOf, Case, HopLength, rowBest, newBest, latest, answer, answerNumbers, answerOf}
 
 -- ---- the best
 -- a row's hop and length make the new best
-pub better-is : (row : Row) (best : Best) {h l : ℕ} → h ≡ newer (row .hop) (best .hop) → l ≡ cond (eqb (row .hop) 0) (best .len) (row .len)
-    → _≡_ {A = Best} (record { hop = h; len = l }) (better row best)
-unfolding better
-better-is row best p q = rw (p, q) (go (eqb (row .hop) 0))
+pub new-best-is : (row : Row) (best : HopLength) {h l : ℕ} → h ≡ newer (row .hop) (best .hop) → l ≡ cond (eqb (row .hop) 0) (best .len) (row .len)
+    → _≡_ {A = HopLength} (record { hop = h; len = l }) (newBest row best)
+unfolding newBest
+new-best-is row best p q = rw (p, q) (go (eqb (row .hop) 0))
   where
-    go : (z : Bool) → _≡_ {A = Best} (record { hop = cond z (best .hop) (row .hop); len = cond z (best .len) (row .len) })
+    go : (z : Bool) → _≡_ {A = HopLength} (record { hop = cond z (best .hop) (row .hop); len = cond z (best .len) (row .len) })
         (cond z best (rowBest row))
     go true = refl
     go false = refl
 
--- with no hop there is no length
-better-named : (row : Row) (best : Best) → Named best → Named (better row best)
-unfolding better
-better-named row best n = go (eqb (row .hop) 0) refl
+-- a best with no hop has no length
+abbrev pub NoHopNoLength : HopLength → Type 0
+NoHopNoLength best = best .hop ≡ 0 → best .len ≡ 0
+
+new-best-no-hop : (row : Row) (best : HopLength) → NoHopNoLength best → NoHopNoLength (newBest row best)
+unfolding newBest
+new-best-no-hop row best n = go (eqb (row .hop) 0) refl
   where
-    go : (z : Bool) → eqb (row .hop) 0 ≡ z → Named (cond z best (rowBest row))
+    go : (z : Bool) → eqb (row .hop) 0 ≡ z → NoHopNoLength (cond z best (rowBest row))
     go true e h = n h
     go false e h = absurd (eqb-false (row .hop) 0 e h)
 
-pub latest-named : (at : ℕ → Row) (best : Best) (rs : List ℕ) → Named best → Named (latest at best rs)
+pub latest-no-hop : (at : ℕ → Row) (best : HopLength) (rs : List ℕ) → NoHopNoLength best → NoHopNoLength (latest at best rs)
 unfolding latest
-latest-named at best [] n = n
-latest-named at best (r ∷ rs) n = latest-named at (better (at r) best) rs (better-named (at r) best n)
+latest-no-hop at best [] n = n
+latest-no-hop at best (r ∷ rs) n = latest-no-hop at (newBest (at r) best) rs (new-best-no-hop (at r) best n)
 
 -- ---- the answer
 -- what `answer` makes is accepted, has the hop and the reads that it was made of, its length where there is a hop, and is of the right case
@@ -70,7 +73,7 @@ pub answer-case : (hop len reads : ℕ) → Case (answer hop len reads)
 answer-case hop len reads = answer-parts hop len reads .4
 
 -- and the length of a best that has none without a hop
-pub answer-length : (b : Best) (reads : ℕ) → Named b → lengthOf (answer (b .hop) (b .len) reads) ≡ b .len
+pub answer-length : (b : HopLength) (reads : ℕ) → NoHopNoLength b → lengthOf (answer (b .hop) (b .len) reads) ≡ b .len
 answer-length b reads n = answer-parts (b .hop) (b .len) reads .2 ∙ go (eqb (b .hop) 0) refl
   where
     go : (z : Bool) → eqb (b .hop) 0 ≡ z → cond z 0 (b .len) ≡ b .len

@@ -18,11 +18,11 @@ use Rattle.walk.specs.Refusals.{fails, passes}
 use Rattle.walk.specs.Rows.{Lists, shortest, rowAt, root}
 use Rattle.walk.specs.declared.numbers.AnswerNumbers.{AnswerNumbers}
 use Rattle.table.specs.Answers.{Told}
-use Rattle.walk.specs.Answers.{numberOf, Best, floorBest, latest, answer, Case, answerNumbers}
+use Rattle.walk.specs.Answers.{numberOf, HopLength, floorBest, latest, answer, Case, answerNumbers}
 use Rattle.walk.specs.Lookup.{ended, tell, fromRoot, pathOf, lookupOf}
 use Rattle.walk.specs.Meaning.{Passed, FromRoot, Damage, short, rootless, breaks, OnPath, empty, walked, Tested, Looked}
 use Rattle.walk.proofs.Tests.{within-not, refusal-cases}
-use Rattle.walk.proofs.Answers.{latest-named, answer-number, answer-hop, answer-length, answer-reads, answer-case}
+use Rattle.walk.proofs.Answers.{latest-no-hop, answer-number, answer-hop, answer-length, answer-reads, answer-case}
 use Rattle.walk.proofs.Unique.{path-unique, looked-unique}
 use Rattle.walk.proofs.Paths.{trail-path}
 
@@ -44,7 +44,7 @@ module _ (most : ℕ) (rec : Record) (ls : Lists) (address : ℕ) where
   refused-looked t h = record { tested = t; told = λ z. absurd (omega arith); case = h }
 
   -- the best after these rows, and the answer that it makes
-  abbrev bestOn : List ℕ → Best
+  abbrev bestOn : List ℕ → HopLength
   bestOn = latest (rowAt ls) (floorBest (rec .floor))
 
   abbrev answerOn : List ℕ → Answer
@@ -55,7 +55,7 @@ module _ (most : ℕ) (rec : Record) (ls : Lists) (address : ℕ) where
       let b = bestOn rs in
       rw e (record {
         tested = rw (answer-number (b .hop) (b .len) (length rs)) t;
-        told = λ z. (rs, o, (answer-hop (b .hop) (b .len) _, answer-length b _ (latest-named _ _ rs (λ h. refl)), answer-reads (b .hop) (b .len) _));
+        told = λ z. (rs, o, (answer-hop (b .hop) (b .len) _, answer-length b _ (latest-no-hop _ _ rs (λ h. refl)), answer-reads (b .hop) (b .len) _));
         case = answer-case (b .hop) (b .len) _;
       })
 

@@ -9,7 +9,7 @@ use lib.Dec.{eqb}
 use lib.ListN.{length}
 use borrow.Author.Tests.{eqb-true, eqb-false}
 use Rattle.walk.specs.Rows.{Row, rowOf}
-use Rattle.walk.specs.Answers.{Best, better, latest}
+use Rattle.walk.specs.Answers.{HopLength, newBest, latest}
 use Rattle.walk.specs.Lookup.{Trail, ended, broken, behind, trail}
 use Rattle.walk.specs.Meaning.{Readable, Path, spent, damaged, last, on}
 use Rattle.walk.proofs.Walks.{read-cases}
@@ -62,9 +62,9 @@ path-local (on h z p) same =
     on h (rw e at z) (rw e at (path-local p (λ r i. same r (List·Memᴰ·tail i))))
 
 -- and the same best after it
-pub latest-local : (at at′ : ℕ → Row) (best : Best) (rs : List ℕ) → ((r : ℕ) → List·Memᴰ r rs → at r ≡ at′ r)
+pub latest-local : (at at′ : ℕ → Row) (best : HopLength) (rs : List ℕ) → ((r : ℕ) → List·Memᴰ r rs → at r ≡ at′ r)
     → latest at best rs ≡ latest at′ best rs
 unfolding latest
 latest-local at at′ best [] same = refl
 latest-local at at′ best (r ∷ rs) same =
-    rw (same r (List·Memᴰ·head refl)) (latest-local at at′ (better (at′ r) best) rs (λ q i. same q (List·Memᴰ·tail i)))
+    rw (same r (List·Memᴰ·head refl)) (latest-local at at′ (newBest (at′ r) best) rs (λ q i. same q (List·Memᴰ·tail i)))

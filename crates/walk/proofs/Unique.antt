@@ -13,7 +13,7 @@ use Rattle.walk.specs.Refusals.{RefuseBy, fails, passes}
 use Rattle.walk.specs.Rows.{Row, Lists, rowAt, rowOf}
 use Rattle.walk.specs.declared.numbers.AnswerNumbers.{AnswerNumbers}
 use Rattle.table.specs.Answers.{Told}
-use Rattle.walk.specs.Answers.{numberOf, hopOf, lengthOf, readsOf, Best, floorBest, latest, answerNumbers}
+use Rattle.walk.specs.Answers.{numberOf, hopOf, lengthOf, readsOf, HopLength, floorBest, latest, answerNumbers}
 use Rattle.walk.specs.Meaning.{Readable, Damaged, no-stride, too-wide, past-end, Path, spent, damaged, last, on, OnPath, empty, walked, Tested, Looked}
 use Rattle.table.proofs.Unique.{told-unique}
 use Rattle.walk.proofs.Answers.{refused-none, answer-unique}
@@ -70,7 +70,7 @@ module _ {most : ℕ} {rec : Record} {ls : Lists} {address : ℕ} where
         let best = ap (latest (rowAt ls) (floorBest (rec .floor))) one in
         let s = p .2 in
         let t = q .2 in
-        (s .0 ∙ ap (λ (b : Best). b .hop) best ∙ sym (t .0), s .1 ∙ ap (λ (b : Best). b .len) best ∙ sym (t .1), s .2 ∙ ap length one ∙ sym (t .2))
+        (s .0 ∙ ap (λ (b : HopLength). b .hop) best ∙ sym (t .0), s .1 ∙ ap (λ (b : HopLength). b .len) best ∙ sym (t .1), s .2 ∙ ap length one ∙ sym (t .2))
     | no z ↦
         let p = refused-none a (omega arith) in
         let q = refused-none b (omega arith) in

@@ -9,7 +9,7 @@ use borrow.Author.Tests.{eq-eqb, ne-eqb, ltb-true, ltb-false, leb-true, leb-fals
 use Rattle.walk.specs.declared.record.Record.{Record}
 use Rattle.walk.specs.declared.walk.Answer.the-variants.{Refused}
 use Rattle.walk.specs.Rows.{Row, Lists, shortest, rowAt, root, rowOf}
-use Rattle.walk.specs.Answers.{Best, floorBest, better, latest, answer}
+use Rattle.walk.specs.Answers.{HopLength, floorBest, newBest, latest, answer}
 use Rattle.walk.specs.Lookup.{readable, Trail, ended, behind, trail, tell, walk, fromRoot, pathOf, refusalOf, lookupOf}
 use Rattle.walk.specs.Meaning.{Readable, Damaged, no-stride, too-wide, past-end}
 use Rattle.walk.proofs.Unique.{not-both}
@@ -34,14 +34,14 @@ module _ (e address base s left : ℕ) where
   readable-false d = read-cases (λ (t : Bool). t ≡ false) (λ h. absurd (not-both h d)) (λ g. refl)
 
 -- a row at the front is counted, and is the new best where its hop is not 0
-tell-behind : (at : ℕ → Row) (best : Best) (reads r : ℕ) (t : Trail)
-    → tell at best reads (behind r t) ≡ tell at (better (at r) best) (reads + 1) t
+tell-behind : (at : ℕ → Row) (best : HopLength) (reads r : ℕ) (t : Trail)
+    → tell at best reads (behind r t) ≡ tell at (newBest (at r) best) (reads + 1) t
 unfolding tell latest
 tell-behind at best reads r t =
-    let b = latest at (better (at r) best) (t .rows) in
+    let b = latest at (newBest (at r) best) (t .rows) in
     ap (λ (n : ℕ). cond (t .whole) (answer (b .hop) (b .len) n) (Refused 9)) (omega arith)
 
-module _ (e address : ℕ) (at : ℕ → Row) (k base s left : ℕ) (best : Best) (reads : ℕ) where
+module _ (e address : ℕ) (at : ℕ → Row) (k base s left : ℕ) (best : HopLength) (reads : ℕ) where
   pub walk-stops : Damaged e address base s left → walk e address at k base s left best reads ≡ Refused 9
   unfolding walk trail tell
   walk-stops d = elim k [ zero ↦ refl | suc j ↦ rw (readable-false e address base s left d) ]
@@ -50,8 +50,8 @@ module _ (e address : ℕ) (at : ℕ → Row) (k base s left : ℕ) (best : Best
   unfolding walk trail tell
   walk-spends z = rw z
 
-  module _ {j r : ℕ} {b : Best} (f : k ≡ suc j) (h : Readable e address base s left) (q : r ≡ rowOf address base s left)
-      (m : b ≡ better (at r) best) where
+  module _ {j r : ℕ} {b : HopLength} (f : k ≡ suc j) (h : Readable e address base s left) (q : r ≡ rowOf address base s left)
+      (m : b ≡ newBest (at r) best) where
     pub walk-ends : at r .link ≡ 0 → walk e address at k base s left best reads ≡ answer (b .hop) (b .len) (reads + 1)
     unfolding walk trail tell latest
     walk-ends z = rw (f, readable-true e address base s left h, ← q, eq-eqb _ _ z, m)

@@ -50,35 +50,31 @@ Case (Discard len reads) = Unit {0}
 Case (NoRoute reads) = Unit {0}
 Case (Refused number) = 0 < number
 
--- the best so far: a hop, and the length that stands beside it
-pub record Best : Type 0 where
+-- the best so far is a hop, and the length that stands beside it
+pub record HopLength : Type 0 where
   pub hop : ℕ
   pub len : ℕ
 
--- a best with no hop has no length
-abbrev pub Named : Best → Type 0
-Named best = best .hop ≡ 0 → best .len ≡ 0
-
 -- the answer carries this best, and so many reads
-abbrev pub Carries : Answer → Best → (reads : ℕ) → Type 0
+abbrev pub Carries : Answer → HopLength → (reads : ℕ) → Type 0
 Carries a best reads = (hopOf a ≡ best .hop) × (lengthOf a ≡ best .len) × (readsOf a ≡ reads)
 
 -- the floor, which is the first best: its length is 0
-abbrev pub floorBest : (floor : ℕ) → Best
+abbrev pub floorBest : (floor : ℕ) → HopLength
 floorBest floor = record { hop = floor; len = 0 }
 
 -- what a row says: its hop, and the length that is found there
-abbrev pub rowBest : Row → Best
+abbrev pub rowBest : Row → HopLength
 rowBest row = record { hop = row .hop; len = row .len }
 
 -- a row whose hop is not 0 is the new best
-unfoldable pub better : Row → Best → Best
-better row best = cond (eqb (row .hop) 0) best (rowBest row)
+unfoldable pub newBest : Row → HopLength → HopLength
+newBest row best = cond (eqb (row .hop) 0) best (rowBest row)
 
 -- the best after some rows, read in order
-unfoldable pub latest : (at : ℕ → Row) → Best → List ℕ → Best
+unfoldable pub latest : (at : ℕ → Row) → HopLength → List ℕ → HopLength
 latest at best [] = best
-latest at best (r ∷ rs) = latest at (better (at r) best) rs
+latest at best (r ∷ rs) = latest at (newBest (at r) best) rs
 
 -- hop 0 is no route, `discardHop` a discard, every other a match
 unfoldable pub answer : (hop len reads : ℕ) → Answer

@@ -10,7 +10,7 @@ use Rattle.walk.specs.declared.record.Record.{Record}
 use Rattle.walk.specs.Limits.{WIDTH, LEVELS}
 use Rattle.table.specs.Limits.{outside}
 use Rattle.walk.specs.Rows.{Lists, rowOf}
-use Rattle.walk.specs.Answers.{better, latest, answer}
+use Rattle.walk.specs.Answers.{newBest, latest, answer}
 use Rattle.walk.specs.Lookup.{readable, trail, tell, pathOf, pathRows, unfit, refusalOf, lookupOf}
 
 abbrev rec : Record
@@ -27,7 +27,7 @@ runRows = record {
 -- addresses 101, 111 and 011, with the path of the first, and 1000, which is not below 2 ^ 3
 run-lookups : (lookupOf WIDTH rec runRows 5 ≡ Match 2 3 2) × (pathRows rec runRows 5 ≡ 1 ∷ 3 ∷ []) × (lookupOf WIDTH rec runRows 7 ≡ Match 1 1 2)
     × (lookupOf WIDTH rec runRows 3 ≡ NoRoute 1) × (lookupOf WIDTH rec runRows 8 ≡ Refused 8)
-unfolding outside answer better rowOf readable trail latest tell pathOf unfit refusalOf lookupOf
+unfolding outside answer newBest rowOf readable trail latest tell pathOf unfit refusalOf lookupOf
 run-lookups = (refl, refl, refl, refl, refl)
 
 -- the corner: 10 to hop 1 and 1010 to hop 65,535 at width 4, with strides 2 and 2 (layout's ExampleRows.antt has its rows from the table)
@@ -49,7 +49,7 @@ cornerRows = record {
 corner-lookups : (lookupOf WIDTH (cornerRec 0) cornerRows 0b1010 ≡ Discard 4 2) × (lookupOf WIDTH (cornerRec 0) cornerRows 0b1011 ≡ Match 1 2 2)
     × (lookupOf WIDTH (cornerRec 0) cornerRows 0b0111 ≡ NoRoute 1) × (lookupOf WIDTH (cornerRec 65535) cornerRows 0b0111 ≡ Discard 0 1)
     × (lookupOf WIDTH floorOnly cornerRows 0b0111 ≡ Discard 0 0)
-unfolding outside answer better rowOf readable trail latest tell pathOf unfit refusalOf lookupOf
+unfolding outside answer newBest rowOf readable trail latest tell pathOf unfit refusalOf lookupOf
 corner-lookups = (refl, refl, refl, refl, refl)
 
 -- the same rows with other lengths: what stands beside the winning hop is answered, be it 0 or more than the width; what stands beside
@@ -64,7 +64,7 @@ strangeRows = record {
 
 strange-lookups : (lookupOf WIDTH (cornerRec 5) strangeRows 0b1010 ≡ Discard 255 2) × (lookupOf WIDTH (cornerRec 5) strangeRows 0b1011 ≡ Match 1 0 2)
     × (lookupOf WIDTH (cornerRec 5) strangeRows 0b0111 ≡ Match 5 0 1) × (lookupOf WIDTH (cornerRec 0) strangeRows 0b0111 ≡ NoRoute 1)
-unfolding outside answer better rowOf readable trail latest tell pathOf unfit refusalOf lookupOf
+unfolding outside answer newBest rowOf readable trail latest tell pathOf unfit refusalOf lookupOf
 strange-lookups = (refl, refl, refl, refl)
 
 -- the length list alone is too short: refusal 9
@@ -72,7 +72,7 @@ abbrev shortRows : Lists
 shortRows = record { hop = cornerRows .hop; len = 0 ∷ 0 ∷ 2 ∷ 0 ∷ 0 ∷ 0 ∷ 4 ∷ []; link = cornerRows .link; stride = cornerRows .stride }
 
 short-lengths : lookupOf WIDTH (cornerRec 0) shortRows 0b1010 ≡ Refused 9
-unfolding outside answer better rowOf readable trail latest tell pathOf unfit refusalOf lookupOf
+unfolding outside answer newBest rowOf readable trail latest tell pathOf unfit refusalOf lookupOf
 short-lengths = refl
 
 level-edges : (outside 0 LEVELS ≡ true) × (outside 1 LEVELS ≡ false) × (outside 32 LEVELS ≡ false) × (outside 33 LEVELS ≡ true)

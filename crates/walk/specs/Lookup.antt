@@ -12,7 +12,7 @@ use Rattle.walk.specs.declared.record.Record.{Record}
 use Rattle.walk.specs.Limits.{LEVELS}
 use Rattle.table.specs.Limits.{outside}
 use Rattle.walk.specs.Rows.{Row, Lists, shortest, rowAt, root, rowOf}
-use Rattle.walk.specs.Answers.{Best, floorBest, latest, answer}
+use Rattle.walk.specs.Answers.{HopLength, floorBest, latest, answer}
 
 -- a block can be read: its stride is not 0 and does not exceed the bits left, and its row is below E
 unfoldable pub readable : (e address base s left : ℕ) → Bool
@@ -42,12 +42,12 @@ trail e address at (suc k) base s left =
     broken
 
 -- what a trail says, after `reads` rows with that best
-unfoldable pub tell : (at : ℕ → Row) → Best → (reads : ℕ) → Trail → Answer
+unfoldable pub tell : (at : ℕ → Row) → HopLength → (reads : ℕ) → Trail → Answer
 tell at best reads t =
     let b = latest at best (t .rows) in cond (t .whole) (answer (b .hop) (b .len) (reads + length (t .rows))) (Refused 9)
 
 -- the walk from a block on, with k blocks left to read, the best so far and the reads so far
-unfoldable pub walk : (e address : ℕ) (at : ℕ → Row) (k base s left : ℕ) → Best → (reads : ℕ) → Answer
+unfoldable pub walk : (e address : ℕ) (at : ℕ → Row) (k base s left : ℕ) → HopLength → (reads : ℕ) → Answer
 walk e address at k base s left best reads = tell at best reads (trail e address at k base s left)
 
 -- the trail from the root's block, at row 0 and with all bits left

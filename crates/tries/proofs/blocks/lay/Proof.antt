@@ -12,13 +12,13 @@ use Rattle.tries.proofs.blocks.lay.Statement.{statement}
 use Rattle.tries.proofs.blocks.lay.Tie as tie
 
 abbrev Inv-loop : tie.InvT-loop
-Inv-loop rows plan root width levels hop₀ len₀ link₀ stride₀ first to₀ n₀ hop len link stride to n =
-    (n ≤ levels) × (length hop ≡ length hop₀) × (length len ≡ length len₀) × (length link ≡ length link₀) × (length stride ≡ length stride₀)
-    × ((σ : Strides) (t : Trie) → LayAsks σ t rows plan root width levels (lists hop₀ len₀ link₀ stride₀)
-    → Done σ t levels (lists hop₀ len₀ link₀ stride₀) (to .base) (to .free) n (lists hop len link stride))
+Inv-loop rows plan root width levels hop₀ lens₀ link₀ stride₀ first to₀ n₀ hop lens link stride to n =
+    (n ≤ levels) × (length hop ≡ length hop₀) × (length lens ≡ length lens₀) × (length link ≡ length link₀) × (length stride ≡ length stride₀)
+    × ((σ : Strides) (t : Trie) → LayAsks σ t rows plan root width levels (lists hop₀ lens₀ link₀ stride₀)
+    → Done σ t levels (lists hop₀ lens₀ link₀ stride₀) (to .base) (to .free) n (lists hop lens link stride))
 
 abbrev μ-loop : tie.MeasureT-loop
-μ-loop rows plan root width levels hop₀ len₀ link₀ stride₀ first to₀ n₀ hop len link stride to n = levels - n
+μ-loop rows plan root width levels hop₀ lens₀ link₀ stride₀ first to₀ n₀ hop lens link stride to n = levels - n
 
 stride-at-requires : tie.Need-stride-at-requires Inv-loop μ-loop
 stride-at-requires c κs =

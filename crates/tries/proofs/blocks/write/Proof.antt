@@ -16,8 +16,8 @@ slice-write-hop c = search needs
 length-in-requires : tie.Need-length-in-requires
 length-in-requires c κs = search needs
 
-slice-write-len : tie.Need-slice-write-len
-slice-write-len c = search needs
+slice-write-lens : tie.Need-slice-write-lens
+slice-write-lens c = search needs
 
 cast-link : tie.Need-cast-link
 cast-link c = search needs
@@ -49,7 +49,7 @@ same-length-4 c = search needs
 returns : tie.Need-returns
 returns c =
     let a = c .before .before .before .before .before .before .args in
-    (ap (set (a .hop .now) (a .i)) (c .before .hop-in .ensures), (ap (set (a .len .now) (a .i)) (c .length-in .ensures), (refl, refl)))
+    (ap (set (a .hop .now) (a .i)) (c .before .hop-in .ensures), (ap (set (a .lens .now) (a .i)) (c .length-in .ensures), (refl, refl)))
 
 pub write-spec : {M : Type 1} → statement M
 write-spec =
@@ -59,7 +59,7 @@ write-spec =
     mul-hop
     slice-write-hop
     length-in-requires
-    slice-write-len
+    slice-write-lens
     cast-link
     mul-link
     slice-write-link

@@ -1,7 +1,4 @@
-use Prim.Native.Nat.{ℕ}
-use mathlib.Core.Path.{_≡_, _∙_, ap}
 use borrow.Author.Needs.{needs}
-use Rattle.walk.specs.declared.numbers.AnswerNumbers.{AnswerNumbers}
 use Rattle.walk.proofs.Answers.{answer-has-numbers}
 use Rattle.walk.proofs.numbers.hop_numbers.Statement.{statement}
 use Rattle.walk.proofs.numbers.hop_numbers.Tie as tie

@@ -5,10 +5,10 @@ use native.Mathlib.Omega.{arith}
 use borrow.Author.Needs.{needs}
 use Rattle.walk.specs.Limits.{WIDTH}
 use Rattle.walk.specs.Rows.{lists, rowAt, rowOf}
-use Rattle.walk.specs.Answers.{Best, floorBest, better, answerNumbers}
+use Rattle.walk.specs.Answers.{HopLength, floorBest, newBest, answerNumbers}
 use Rattle.walk.specs.Lookup.{walk}
 use Rattle.walk.specs.Meaning.{Readable, no-stride, too-wide, past-end}
-use Rattle.walk.proofs.Answers.{better-is}
+use Rattle.walk.proofs.Answers.{new-best-is}
 use Rattle.walk.proofs.Bits.{cut-le}
 use Rattle.walk.proofs.Walks.{walk-stops, walk-spends, walk-ends, walk-goes}
 use Rattle.walk.proofs.walk.follow.Statement.{statement}
@@ -109,8 +109,8 @@ new-best : (c : tie.After-newer-length Inv-loop μ-loop) →
     let l = c .before .before .before .before .before .before .before .before .before .loop in
     let a = c .before .before .before .before .before .before .before .before .before .before .before .before .before .before .args in
     let row = rowAt (lists (a .hop .now) (a .lens .now) (a .link .now) (a .stride .now)) (l .base + c .before .before .before .before .before .cut .result) in
-    _≡_ {A = Best} (record { hop = c .before .before .newer .result; len = c .newer-length .result }) (better row (record { hop = l .best; len = l .len }))
-new-best c = better-is _ _ (c .before .before .newer .ensures) (c .newer-length .ensures)
+    _≡_ {A = HopLength} (record { hop = c .before .before .newer .result; len = c .newer-length .result }) (newBest row (record { hop = l .best; len = l .len }))
+new-best c = new-best-is _ _ (c .before .before .newer .ensures) (c .newer-length .ensures)
 
 returns-4 : tie.Need-returns-4 Inv-loop μ-loop
 returns-4 c =
