@@ -23,8 +23,9 @@
  * it is the longest that begins an address, the answer, with number 0. Test for it before sending: it is no link. Nor is it hop 0, which
  * says that no entry begins the address.
  *
- * With the hop a lookup answers the length of the entry that won: how many bits it has. Beside a hop that is not 0, length 0 is that of
- * the entry of length 0; beside hop 0 the length is 0.
+ * With the hop a lookup answers the length of the entry that won: how many bits it has. Over what one accepted build left, length 0
+ * beside a hop that is not 0 is that of the entry of length 0; beside hop 0 the length is always 0. Programs that were compiled with a
+ * header without row_length must be compiled again: the calls have kept their names.
  *
  * A table can be laid out in two ways: in elements, as few as a level limit allows, or as a tree bitmap, in supernodes of four
  * levels and hops. Both give every address the same hop and the same length.

@@ -101,6 +101,10 @@ static void damage(hongsamuk_bitmap record)
     first_child[0] = SUPERNODES;
     expect(hongsamuk_lookup_bitmap(record, BITMAP, 97).number == 9, "a child that is not there");
     expect(hongsamuk_lookup_bitmap(record, BITMAP, 0).number == 0, "another path");
+    first_child[0] = 1;
+    hop_row[6] = 0;
+    hongsamuk_answer answer = hongsamuk_lookup_bitmap(record, BITMAP, 97);
+    expect(answer.number == 0 && answer.hop == 0 && answer.length == 0 && answer.reads == 2, "a winning hop 0 has no length");
 }
 
 int main(void)

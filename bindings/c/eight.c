@@ -56,6 +56,9 @@ static void look(hongsamuk_record record)
         expect(answer.number == 0 && answer.hop == expected[i] && answer.length == matched[i], "a lookup");
     }
     expect(hongsamuk_lookup(record, ROWS, 128).number == 8, "address 128");
+    hongsamuk_answer answer =
+        hongsamuk_lookup(record, LIST(row_hop), row_length, ELEMENTS - 1, LIST(row_link), LIST(row_stride), 97);
+    expect(answer.number == 9 && answer.hop == 0 && answer.length == 0 && answer.reads == 0, "a length list too short");
 }
 
 static void look_in_a_batch(hongsamuk_record record)
@@ -160,6 +163,9 @@ static void lend_nothing(void)
     expect(built.number == 0 && built.record.elements == 0 && built.record.width == WIDTH, "the variable build of nothing");
     hongsamuk_answer answer = hongsamuk_lookup(built.record, NO_ROWS, 5);
     expect(answer.number == 0 && answer.hop == 0 && answer.length == 0 && answer.reads == 0, "the lookup in nothing");
+    built.record.floor = 9;
+    answer = hongsamuk_lookup(built.record, NO_ROWS, 5);
+    expect(answer.number == 0 && answer.hop == 9 && answer.length == 0 && answer.reads == 0, "a floor alone");
     expect(hongsamuk_lookup_batch(built.record, NO_ROWS, NONE, NONE, NONE, NONE, NONE) == 0, "the batch of nothing");
     expect(hongsamuk_check(WIDTH, LIST(value), NONE, NONE).number == 3, "unequal lists");
     built = hongsamuk_build_variable(WIDTH, LEVELS, TABLE, NONE, NO_ROWS);

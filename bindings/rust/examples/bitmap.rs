@@ -94,16 +94,6 @@ fn elements() -> (Record, Elements) {
     (built.record, Elements { hop, length, link, stride })
 }
 
-/// The hop and the length of the prefix that won.
-fn won(answer: Answer) -> (u16, u8) {
-    match answer {
-        Answer::Match { hop, length, .. } => (hop, length),
-        Answer::Discard { length, .. } => (DISCARD, length),
-        Answer::NoRoute { .. } => (0, 0),
-        Answer::Refused { number } => panic!("refused by {number}"),
-    }
-}
-
 fn main() {
     let (record, lists) = bitmap();
     for i in 0..record.supernodes as usize {
@@ -119,7 +109,8 @@ fn main() {
         println!("address={address:07b} hop={hop} length={length} reads={reads}");
     }
     let same = (0..1 << TABLE.width).filter(|&address| {
-        won(lookup_bitmap(&record, lists.rows(), address)) == won(lookup(&other, elements.rows(), address))
+        let won = lookup_bitmap(&record, lists.rows(), address).won();
+        won.is_some() && won == lookup(&other, elements.rows(), address).won()
     });
     let same = same.count();
     println!("the same hop and length as from elements: {same} of {} addresses", 1 << TABLE.width);

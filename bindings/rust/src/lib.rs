@@ -84,6 +84,17 @@ pub enum Answer {
     },
 }
 
+impl Answer {
+    /// The hop of the prefix that won, `DISCARD` for a discard, and its length; none where there is no route, or the lookup was refused.
+    pub fn won(self) -> Option<(u16, u8)> {
+        match self {
+            Answer::Match { hop, length, .. } => Some((hop, length)),
+            Answer::Discard { length, .. } => Some((DISCARD, length)),
+            Answer::NoRoute { .. } | Answer::Refused { .. } => None,
+        }
+    }
+}
+
 /// What a build hands back beside its element rows; all of it is lent to each lookup. Any numbers may stand in it.
 #[repr(C)]
 #[derive(Clone, Copy, PartialEq, Eq, Debug, Default)]
@@ -139,6 +150,7 @@ pub struct Rows<'a> {
 #[derive(PartialEq, Eq, Debug)]
 pub struct RowsMut<'a> {
     pub hop: &'a mut [u16],
+    /// The length of the entry whose hop the row has, 0 where that is 0.
     pub length: &'a mut [u8],
     pub link: &'a mut [u32],
     pub stride: &'a mut [u8],
@@ -420,7 +432,7 @@ pub fn build_bitmap(table: Table, scratch: &mut [u64], rows: BitmapRowsMut) -> B
 /// One lookup in a tree bitmap: tests 1, 8, 9. Over a record and rows that one accepted build left together: a match with the hop
 /// and the length of the table's longest prefix that begins the address, a discard with its length where that prefix discards, or no
 /// route where there is none. Over any other: by the hop, as it is found there, and the length of the longest entry that the internal
-/// maps on the address's path have; no route where that hop is 0. Reads are the supernodes read.
+/// maps on the address's path have; no route where that hop is 0 or there is no such entry. Reads are the supernodes read.
 #[inline]
 pub fn lookup_bitmap(record: &Bitmap, rows: BitmapRows, address: u32) -> Answer {
     // SAFETY: pointers and lengths are those of slices, which the call only reads.

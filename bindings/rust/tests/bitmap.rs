@@ -1,65 +1,17 @@
 //! The tree bitmap of 01's eight-prefix table, each refusal once, and damaged records and rows.
 
+mod common;
+
+use common::{Made, MadeBitmap, EIGHT};
 use hongsamuk::*;
 
-const EIGHT: Table = Table {
-    width: 7,
-    value: &[0, 64, 68, 80, 96, 96, 96, 96],
-    length: &[1, 1, 5, 3, 2, 4, 6, 7],
-    hop: &[1, 2, 5, 4, 3, 6, 7, 8],
-};
-const NODES: usize = 14;
-const WORDS: usize = NODES * NODE_ROW;
+/// The words of scratch that the table takes as a bitmap: it has 14 nodes.
+const WORDS: usize = 14 * NODE_ROW;
 const SUPERNODES: usize = 3;
 const HOPS: usize = 8;
 
-#[derive(Clone)]
-struct Made {
-    built: BuiltBitmap,
-    scratch: Vec<u64>,
-    internal: Vec<u16>,
-    external: Vec<u16>,
-    first_child: Vec<u32>,
-    first_hop: Vec<u32>,
-    hop_row: Vec<u16>,
-}
-
-impl Made {
-    fn lookup(&self, address: u32) -> Answer {
-        let rows = BitmapRows {
-            internal: &self.internal,
-            external: &self.external,
-            first_child: &self.first_child,
-            first_hop: &self.first_hop,
-            hop_row: &self.hop_row,
-        };
-        lookup_bitmap(&self.built.record, rows, address)
-    }
-
-    /// Whether every row and hop still has its mark.
-    fn is_untouched(&self) -> bool {
-        let maps = self.internal.iter().chain(&self.external).chain(&self.hop_row);
-        maps.map(|x| u32::from(*x)).chain(self.first_child.iter().chain(&self.first_hop).copied()).all(|x| x == 9)
-    }
-}
-
-fn make(table: Table, words: usize, supernodes: usize, hops: usize) -> Made {
-    let (mut scratch, mut hop_row) = (vec![7; words], vec![9; hops]);
-    let (mut internal, mut external) = (vec![9; supernodes], vec![9; supernodes]);
-    let (mut first_child, mut first_hop) = (vec![9; supernodes], vec![9; supernodes]);
-    let rows = BitmapRowsMut {
-        internal: &mut internal,
-        external: &mut external,
-        first_child: &mut first_child,
-        first_hop: &mut first_hop,
-        hop_row: &mut hop_row,
-    };
-    let built = build_bitmap(table, &mut scratch, rows);
-    Made { built, scratch, internal, external, first_child, first_hop, hop_row }
-}
-
-fn eight() -> Made {
-    make(EIGHT, WORDS, SUPERNODES, HOPS)
+fn eight() -> MadeBitmap {
+    MadeBitmap::of(EIGHT, WORDS, SUPERNODES, HOPS)
 }
 
 fn refused(number: u32, detail: u64) -> BuiltBitmap {
@@ -68,7 +20,7 @@ fn refused(number: u32, detail: u64) -> BuiltBitmap {
 
 #[test]
 fn rows_of_the_eight_prefix_table() {
-    let made = make(EIGHT, WORDS + 3, SUPERNODES + 1, HOPS + 2);
+    let made = MadeBitmap::of(EIGHT, WORDS + 3, SUPERNODES + 1, HOPS + 2);
     let record = Bitmap { width: 7, supernodes: 3, hops: 8 };
     assert_eq!(made.built, BuiltBitmap { outcome: Outcome::Accepted, record });
     assert_eq!(made.internal, [4166, 4, 137, 9]);
@@ -92,25 +44,16 @@ fn longest_match() {
 
 #[test]
 fn the_same_hops_and_lengths_as_from_elements() {
-    let made = eight();
-    let (mut hop, mut length, mut link, mut stride) = ([0; 26], [0; 26], [0; 26], [0; 26]);
-    let room = RowsMut { hop: &mut hop, length: &mut length, link: &mut link, stride: &mut stride };
-    let built = build(Kind::Variable, 2, EIGHT, &mut [0; 10 * SCRATCH_ROW], room);
-    let rows = Rows { hop: &hop, length: &length, link: &link, stride: &stride };
-    let won = |answer| match answer {
-        Answer::Match { hop, length, .. } => (hop, length),
-        Answer::Discard { length, .. } => (DISCARD, length),
-        Answer::NoRoute { .. } => (0, 0),
-        Answer::Refused { number } => panic!("refused by {number}"),
-    };
+    let (bitmap, elements) = (eight(), Made::of(Kind::Variable, 2, EIGHT, common::WORDS, 26));
     for address in 0..128 {
-        assert_eq!(won(made.lookup(address)), won(lookup(&built.record, rows, address)), "{address}");
+        let won = bitmap.lookup(address).won();
+        assert!(won.is_some() && won == elements.lookup(address).won(), "{address}");
     }
 }
 
 #[test]
 fn refusals_of_a_build() {
-    let built = |table, words, supernodes, hops| make(table, words, supernodes, hops).built;
+    let built = |table, words, supernodes, hops| MadeBitmap::of(table, words, supernodes, hops).built;
     assert_eq!(built(Table { width: 33, ..EIGHT }, WORDS, 3, 8), refused(1, 0));
     assert_eq!(built(Table { hop: &EIGHT.hop[1..], ..EIGHT }, WORDS, 3, 8), refused(3, 0));
     assert_eq!(built(Table { hop: &[1, 2, 5, 4, 3, 0, 7, 8], ..EIGHT }, WORDS, 3, 8), refused(4, 5));
@@ -123,28 +66,28 @@ fn refusals_of_a_build() {
 #[test]
 fn what_refused_builds_leave() {
     for (supernodes, hops) in [(2, 8), (3, 7)] {
-        let scarce = make(EIGHT, WORDS + 1, supernodes, hops);
+        let scarce = MadeBitmap::of(EIGHT, WORDS + 1, supernodes, hops);
         assert!(scarce.scratch.iter().all(|x| *x == 0) && scarce.is_untouched());
     }
-    let early = make(EIGHT, WORDS - 1, 3, 8);
+    let early = MadeBitmap::of(EIGHT, WORDS - 1, 3, 8);
     assert!(early.scratch.iter().all(|x| *x == 7) && early.is_untouched());
 }
 
 #[test]
 fn little_in_the_table() {
     let none = Table { width: 7, value: &[], length: &[], hop: &[] };
-    let made = make(none, 0, 0, 0);
+    let made = MadeBitmap::of(none, 0, 0, 0);
     assert_eq!(made.built.record, Bitmap { width: 7, supernodes: 0, hops: 0 });
     assert_eq!(made.lookup(5), Answer::NoRoute { reads: 0 });
     let every = Table { width: 7, value: &[0], length: &[0], hop: &[9] };
-    assert_eq!(make(every, NODE_ROW, 1, 1).lookup(5), Answer::Match { hop: 9, length: 0, reads: 1 });
-    assert_eq!(make(every, 0, 1, 1).built, refused(6, 1));
+    assert_eq!(MadeBitmap::of(every, NODE_ROW, 1, 1).lookup(5), Answer::Match { hop: 9, length: 0, reads: 1 });
+    assert_eq!(MadeBitmap::of(every, 0, 1, 1).built, refused(6, 1));
 }
 
 #[test]
 fn bits_past_the_width() {
     let last = Table { width: 4, value: &[15], length: &[4], hop: &[5] };
-    let mut made = make(last, 5 * NODE_ROW, 2, 1);
+    let mut made = MadeBitmap::of(last, 5 * NODE_ROW, 2, 1);
     assert_eq!(made.lookup(15), Answer::Match { hop: 5, length: 4, reads: 2 });
     made.internal[1] = 2;
     assert_eq!(made.lookup(15), Answer::NoRoute { reads: 2 });
@@ -154,7 +97,7 @@ fn bits_past_the_width() {
 
 #[test]
 fn damaged_rows() {
-    let change = |change: fn(&mut Made)| {
+    let change = |change: fn(&mut MadeBitmap)| {
         let mut made = eight();
         change(&mut made);
         (made.lookup(97), made.lookup(0))

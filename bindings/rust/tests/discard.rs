@@ -1,44 +1,26 @@
 //! Routes that discard packets (02, [4]): 02's own example in elements of both kinds and as a tree bitmap, and the hop of a discard
 //! wherever else a lookup finds it.
 
+mod common;
+
+use common::{Made, MadeBitmap};
 use hongsamuk::*;
 
 /// 10 to hop 1, and 1010 discarded.
 const CORNER: Table = Table { width: 4, value: &[0b1000, 0b1010], length: &[2, 4], hop: &[1, DISCARD] };
-const ROOM: usize = 16;
 
-struct Made {
-    record: Record,
-    hop: Vec<u16>,
-    length: Vec<u8>,
-    link: Vec<u32>,
-    stride: Vec<u8>,
-}
-
-impl Made {
-    fn of(kind: Kind, levels: u32, table: Table) -> Made {
-        let (mut hop, mut length) = (vec![9; ROOM], vec![9; ROOM]);
-        let (mut link, mut stride) = (vec![9; ROOM], vec![9; ROOM]);
-        let rows = RowsMut { hop: &mut hop, length: &mut length, link: &mut link, stride: &mut stride };
-        let built = build(kind, levels, table, &mut [7; 4 * SCRATCH_ROW], rows);
-        assert_eq!(built.outcome, Outcome::Accepted);
-        Made { record: built.record, hop, length, link, stride }
-    }
-
-    fn rows(&self) -> Rows<'_> {
-        Rows { hop: &self.hop, length: &self.length, link: &self.link, stride: &self.stride }
-    }
-
-    fn lookup(&self, address: u32) -> Answer {
-        lookup(&self.record, self.rows(), address)
-    }
+/// An accepted build.
+fn made(kind: Kind, levels: u32, table: Table) -> Made {
+    let made = Made::of(kind, levels, table, 4 * SCRATCH_ROW, 16);
+    assert_eq!(made.built.outcome, Outcome::Accepted);
+    made
 }
 
 #[test]
 fn a_discarded_corner_in_elements() {
     for kind in [Kind::Fixed, Kind::Variable] {
         for levels in 1..=LEVELS as u32 {
-            let made = Made::of(kind, levels, CORNER);
+            let made = made(kind, levels, CORNER);
             assert!(
                 matches!(made.lookup(0b1010), Answer::Discard { length: 4, reads } if (1..=levels).contains(&reads))
             );
@@ -52,8 +34,8 @@ fn a_discarded_corner_in_elements() {
 
 #[test]
 fn rows_of_the_corner() {
-    let made = Made::of(Kind::Variable, 2, CORNER);
-    assert_eq!((made.record.elements, made.record.strides[0]), (8, 2));
+    let made = made(Kind::Variable, 2, CORNER);
+    assert_eq!((made.built.record.elements, made.built.record.strides[0]), (8, 2));
     assert_eq!(made.hop[..8], [0, 0, 1, 0, 0, 0, DISCARD, 0]);
     assert_eq!(made.length[..8], [0, 0, 2, 0, 0, 0, 4, 0]);
     assert_eq!(made.lookup(0b1010), Answer::Discard { length: 4, reads: 2 });
@@ -62,36 +44,20 @@ fn rows_of_the_corner() {
 
 #[test]
 fn a_discarded_corner_in_a_bitmap() {
-    let (mut internal, mut external) = ([9; 2], [9; 2]);
-    let (mut first_child, mut first_hop, mut hop_row) = ([9; 2], [9; 2], [9; 2]);
-    let room = BitmapRowsMut {
-        internal: &mut internal,
-        external: &mut external,
-        first_child: &mut first_child,
-        first_hop: &mut first_hop,
-        hop_row: &mut hop_row,
-    };
-    let built = build_bitmap(CORNER, &mut [7; 5 * NODE_ROW], room);
-    assert_eq!((built.outcome, hop_row), (Outcome::Accepted, [1, DISCARD]));
-    let rows = BitmapRows {
-        internal: &internal,
-        external: &external,
-        first_child: &first_child,
-        first_hop: &first_hop,
-        hop_row: &hop_row,
-    };
-    assert_eq!(lookup_bitmap(&built.record, rows, 0b1010), Answer::Discard { length: 4, reads: 2 });
-    assert_eq!(lookup_bitmap(&built.record, rows, 0b1011), Answer::Match { hop: 1, length: 2, reads: 1 });
-    assert_eq!(lookup_bitmap(&built.record, rows, 0b0111), Answer::NoRoute { reads: 1 });
+    let made = MadeBitmap::of(CORNER, 5 * NODE_ROW, 2, 2);
+    assert_eq!((made.built.outcome, &made.hop_row[..]), (Outcome::Accepted, &[1, DISCARD][..]));
+    assert_eq!(made.lookup(0b1010), Answer::Discard { length: 4, reads: 2 });
+    assert_eq!(made.lookup(0b1011), Answer::Match { hop: 1, length: 2, reads: 1 });
+    assert_eq!(made.lookup(0b0111), Answer::NoRoute { reads: 1 });
 }
 
 /// A batch tells them by number and hop.
 #[test]
 fn a_batch() {
-    let made = Made::of(Kind::Fixed, 2, CORNER);
+    let made = made(Kind::Fixed, 2, CORNER);
     let (mut number, mut hop, mut length, mut reads) = ([9; 4], [9; 4], [9; 4], [9; 4]);
     let room = AnswersMut { number: &mut number, hop: &mut hop, length: &mut length, reads: &mut reads };
-    assert_eq!(lookup_batch(&made.record, made.rows(), &[0b1010, 0b1011, 0b0111, 16], room), 4);
+    assert_eq!(lookup_batch(&made.built.record, made.rows(), &[0b1010, 0b1011, 0b0111, 16], room), 4);
     assert_eq!((number, hop), ([0, 0, 0, 8], [DISCARD, 1, 0, 0]));
     assert_eq!((length, reads), ([4, 2, 0, 0], [2, 2, 1, 0]));
 }
@@ -100,9 +66,9 @@ fn a_batch() {
 #[test]
 fn wherever_it_is_found() {
     let floor = Table { width: 4, value: &[0], length: &[0], hop: &[DISCARD] };
-    assert_eq!(Made::of(Kind::Variable, 1, floor).lookup(5), Answer::Discard { length: 0, reads: 0 });
-    let mut made = Made::of(Kind::Variable, 2, CORNER);
-    made.record.floor = DISCARD;
+    assert_eq!(made(Kind::Variable, 1, floor).lookup(5), Answer::Discard { length: 0, reads: 0 });
+    let mut made = made(Kind::Variable, 2, CORNER);
+    made.built.record.floor = DISCARD;
     assert_eq!(made.lookup(0b0111), Answer::Discard { length: 0, reads: 1 });
     made.hop[1] = DISCARD - 1;
     assert_eq!(made.lookup(0b0111), Answer::Match { hop: DISCARD - 1, length: 0, reads: 1 });

@@ -1,42 +1,9 @@
 //! The values that 01 gives for its eight-prefix table and for its small one, and each refusal once; shared lengths at the edges.
 
+mod common;
+
+use common::{Made, EIGHT, WORDS};
 use hongsamuk::*;
-
-const EIGHT: Table = Table {
-    width: 7,
-    value: &[0, 64, 68, 80, 96, 96, 96, 96],
-    length: &[1, 1, 5, 3, 2, 4, 6, 7],
-    hop: &[1, 2, 5, 4, 3, 6, 7, 8],
-};
-const NODES: usize = 10;
-const WORDS: usize = NODES * SCRATCH_ROW;
-
-struct Made {
-    built: Built,
-    scratch: Vec<u64>,
-    hop: Vec<u16>,
-    length: Vec<u8>,
-    link: Vec<u32>,
-    stride: Vec<u8>,
-}
-
-impl Made {
-    fn rows(&self) -> Rows<'_> {
-        Rows { hop: &self.hop, length: &self.length, link: &self.link, stride: &self.stride }
-    }
-
-    fn lookup(&self, address: u32) -> Answer {
-        lookup(&self.built.record, self.rows(), address)
-    }
-}
-
-fn make(kind: Kind, levels: u32, table: Table, words: usize, room: usize) -> Made {
-    let (mut scratch, mut hop, mut length) = (vec![7; words], vec![9; room], vec![9; room]);
-    let (mut link, mut stride) = (vec![9; room], vec![9; room]);
-    let rows = RowsMut { hop: &mut hop, length: &mut length, link: &mut link, stride: &mut stride };
-    let built = build(kind, levels, table, &mut scratch, rows);
-    Made { built, scratch, hop, length, link, stride }
-}
 
 fn refused(number: u32, detail: u64) -> Outcome {
     Outcome::Refused { number, detail }
@@ -68,7 +35,7 @@ fn longest_match_with_every_limit() {
     let answers = [(97, 7), (96, 8), (103, 6), (104, 3), (71, 5), (79, 2), (127, 3), (0, 1)];
     for kind in [Kind::Fixed, Kind::Variable] {
         for levels in 1..=LEVELS as u32 {
-            let made = make(kind, levels, EIGHT, WORDS, 128);
+            let made = Made::of(kind, levels, EIGHT, WORDS, 128);
             assert_eq!(made.built.outcome, Outcome::Accepted);
             for (address, best) in answers {
                 match made.lookup(address) {
@@ -82,7 +49,7 @@ fn longest_match_with_every_limit() {
 
 #[test]
 fn variable_with_two_levels() {
-    let made = make(Kind::Variable, 2, EIGHT, WORDS + 5, 30);
+    let made = Made::of(Kind::Variable, 2, EIGHT, WORDS + 5, 30);
     let record = Record { width: 7, levels: 2, elements: 26, floor: 0, strides: strides(&[4]) };
     assert_eq!(made.built, Built { outcome: Outcome::Accepted, record });
     assert!(made.scratch.iter().all(|x| *x == 0));
@@ -97,7 +64,7 @@ fn variable_with_two_levels() {
 #[test]
 fn rows_of_the_small_table() {
     let table = Table { width: 3, value: &[4, 5], length: &[1, 3], hop: &[1, 2] };
-    let made = make(Kind::Variable, 2, table, 3 * SCRATCH_ROW, 6);
+    let made = Made::of(Kind::Variable, 2, table, 3 * SCRATCH_ROW, 6);
     assert_eq!(made.hop, [0, 1, 0, 2, 0, 0]);
     assert_eq!(made.length, [0, 1, 0, 3, 0, 0]);
     assert_eq!(made.link, [0, 2, 0, 0, 0, 0]);
@@ -109,7 +76,7 @@ fn rows_of_the_small_table() {
 
 #[test]
 fn refusals_of_a_build() {
-    let outcome = |table, levels, words, room| make(Kind::Variable, levels, table, words, room).built.outcome;
+    let outcome = |table, levels, words, room| Made::of(Kind::Variable, levels, table, words, room).built.outcome;
     assert_eq!(outcome(Table { width: 33, ..EIGHT }, 2, WORDS, 26), refused(1, 0));
     assert_eq!(outcome(EIGHT, 33, WORDS, 26), refused(2, 0));
     assert_eq!(outcome(Table { hop: &EIGHT.hop[1..], ..EIGHT }, 2, WORDS, 26), refused(3, 0));
@@ -124,13 +91,13 @@ fn refusals_of_a_build() {
 
 #[test]
 fn what_refused_builds_leave() {
-    let scarce = make(Kind::Fixed, 2, EIGHT, WORDS, 31);
+    let scarce = Made::of(Kind::Fixed, 2, EIGHT, WORDS, 31);
     assert_eq!((scarce.built.outcome, scarce.built.record), (refused(7, 32), Record::default()));
     assert!(scarce.scratch.iter().all(|x| *x == 0));
-    assert!(scarce.hop == [9; 31] && scarce.length == [9; 31] && scarce.link == [9; 31] && scarce.stride == [9; 31]);
-    let early = make(Kind::Fixed, 2, EIGHT, WORDS - 1, 32);
+    assert!(scarce.is_untouched());
+    let early = Made::of(Kind::Fixed, 2, EIGHT, WORDS - 1, 32);
     assert_eq!((early.built.outcome, early.built.record), (refused(6, 10), Record::default()));
-    assert!(early.scratch.iter().all(|x| *x == 7) && early.hop == [9; 32] && early.length == [9; 32]);
+    assert!(early.scratch.iter().all(|x| *x == 7) && early.is_untouched());
 }
 
 #[test]
@@ -146,12 +113,12 @@ fn check_and_choose_refuse() {
 #[test]
 fn empty_lists() {
     let none = Table { width: 7, value: &[], length: &[], hop: &[] };
-    let made = make(Kind::Fixed, 1, none, 0, 0);
+    let made = Made::of(Kind::Fixed, 1, none, 0, 0);
     assert_eq!(made.built.outcome, Outcome::Accepted);
     assert_eq!(made.lookup(5), Answer::NoRoute { reads: 0 });
     assert_eq!(zone(none, Prefix { value: 64, bits: 1 }), []);
     let floor = Table { width: 7, value: &[0], length: &[0], hop: &[9] };
-    assert_eq!(make(Kind::Variable, 1, floor, 0, 0).lookup(5), Answer::Match { hop: 9, length: 0, reads: 0 });
+    assert_eq!(Made::of(Kind::Variable, 1, floor, 0, 0).lookup(5), Answer::Match { hop: 9, length: 0, reads: 0 });
 }
 
 #[test]
@@ -189,7 +156,7 @@ fn shared_lengths_at_the_edges() {
 
 #[test]
 fn batches() {
-    let made = make(Kind::Variable, 2, EIGHT, WORDS, 26);
+    let made = Made::of(Kind::Variable, 2, EIGHT, WORDS, 26);
     let (mut number, mut hop, mut length, mut reads) = ([77; 4], [77; 5], [77; 4], [77; 6]);
     let room = AnswersMut { number: &mut number, hop: &mut hop, length: &mut length, reads: &mut reads };
     assert_eq!(lookup_batch(&made.built.record, made.rows(), &[97, 128, 0], room), 3);
@@ -201,7 +168,7 @@ fn batches() {
 
 #[test]
 fn damaged_rows() {
-    let mut made = make(Kind::Variable, 2, EIGHT, WORDS, 26);
+    let mut made = Made::of(Kind::Variable, 2, EIGHT, WORDS, 26);
     made.link[12] = 25;
     assert_eq!(made.lookup(97), Answer::Refused { number: 9 });
     assert_eq!(made.lookup(0), Answer::Match { hop: 1, length: 1, reads: 1 });

@@ -1,56 +1,20 @@
 //! The length of the prefix that won (02, [5]): the matched lengths of 01's eight-prefix table in elements of both kinds and as a
 //! tree bitmap, a list of lengths that is too short, and lengths that no build wrote.
 
+mod common;
+
+use common::{Made, MadeBitmap, EIGHT, WORDS};
 use hongsamuk::*;
 
-const EIGHT: Table = Table {
-    width: 7,
-    value: &[0, 64, 68, 80, 96, 96, 96, 96],
-    length: &[1, 1, 5, 3, 2, 4, 6, 7],
-    hop: &[1, 2, 5, 4, 3, 6, 7, 8],
-};
 /// 01's six addresses with the hop and the length of the entry that wins.
 const WINNERS: [(u32, u16, u8); 6] =
     [(0b1100001, 7, 6), (0b1100000, 8, 7), (0b1100111, 6, 4), (0b1101000, 3, 2), (0b1000111, 5, 5), (0b1001111, 2, 1)];
 /// The entry of length 0 to hop 9, 1 discarded, and 101 to hop 2.
 const FLOOR: Table = Table { width: 3, value: &[0, 4, 5], length: &[0, 1, 3], hop: &[9, DISCARD, 2] };
-const NODES: usize = 10;
-
-struct Made {
-    built: Built,
-    hop: Vec<u16>,
-    length: Vec<u8>,
-    link: Vec<u32>,
-    stride: Vec<u8>,
-}
-
-impl Made {
-    fn rows(&self) -> Rows<'_> {
-        Rows { hop: &self.hop, length: &self.length, link: &self.link, stride: &self.stride }
-    }
-
-    fn lookup(&self, address: u32) -> Answer {
-        lookup(&self.built.record, self.rows(), address)
-    }
-}
 
 /// A build with so many lengths, and so much room in the other three lists.
 fn make(kind: Kind, levels: u32, table: Table, lengths: usize, room: usize) -> Made {
-    let (mut hop, mut length) = (vec![9; room], vec![5; lengths]);
-    let (mut link, mut stride) = (vec![9; room], vec![9; room]);
-    let rows = RowsMut { hop: &mut hop, length: &mut length, link: &mut link, stride: &mut stride };
-    let built = build(kind, levels, table, &mut [7; NODES * SCRATCH_ROW], rows);
-    Made { built, hop, length, link, stride }
-}
-
-/// The hop and the length of the prefix that won.
-fn won(answer: Answer) -> (u16, u8) {
-    match answer {
-        Answer::Match { hop, length, .. } => (hop, length),
-        Answer::Discard { length, .. } => (DISCARD, length),
-        Answer::NoRoute { .. } => (0, 0),
-        Answer::Refused { number } => panic!("refused by {number}"),
-    }
+    Made::in_lists(kind, levels, table, WORDS, [room, lengths, room, room])
 }
 
 #[test]
@@ -60,7 +24,7 @@ fn winners_in_elements() {
             let made = make(kind, levels, EIGHT, 128, 128);
             assert_eq!(made.built.outcome, Outcome::Accepted);
             for (address, hop, length) in WINNERS {
-                assert_eq!(won(made.lookup(address)), (hop, length), "{address} with {levels} levels");
+                assert_eq!(made.lookup(address).won(), Some((hop, length)), "{address} with {levels} levels");
             }
         }
     }
@@ -71,31 +35,14 @@ fn rows_of_the_eight_prefix_table() {
     let made = make(Kind::Variable, 2, EIGHT, 28, 26);
     let own = |hop: &u16| EIGHT.hop.iter().position(|x| x == hop).map_or(0, |i| EIGHT.length[i]);
     assert_eq!(made.length[..26], made.hop.iter().map(own).collect::<Vec<_>>());
-    assert_eq!(made.length[26..], [5, 5]);
+    assert_eq!(made.length[26..], [9, 9]);
 }
 
 #[test]
 fn winners_in_a_bitmap() {
-    let (mut internal, mut external, mut hop_row) = ([0; 3], [0; 3], [0; 8]);
-    let (mut first_child, mut first_hop) = ([0; 3], [0; 3]);
-    let room = BitmapRowsMut {
-        internal: &mut internal,
-        external: &mut external,
-        first_child: &mut first_child,
-        first_hop: &mut first_hop,
-        hop_row: &mut hop_row,
-    };
-    let built = build_bitmap(EIGHT, &mut [7; 14 * NODE_ROW], room);
-    assert_eq!(built.outcome, Outcome::Accepted);
-    let rows = BitmapRows {
-        internal: &internal,
-        external: &external,
-        first_child: &first_child,
-        first_hop: &first_hop,
-        hop_row: &hop_row,
-    };
+    let made = MadeBitmap::of(EIGHT, 14 * NODE_ROW, 3, 8);
     for (address, hop, length) in WINNERS {
-        assert_eq!(won(lookup_bitmap(&built.record, rows, address)), (hop, length), "{address}");
+        assert_eq!(made.lookup(address).won(), Some((hop, length)), "{address}");
     }
 }
 
@@ -110,18 +57,8 @@ fn the_floor() {
         let alone = Table { width: 3, value: &[0], length: &[0], hop: &[DISCARD] };
         assert_eq!(make(kind, 2, alone, 0, 0).lookup(5), Answer::Discard { length: 0, reads: 0 });
     }
-    let (mut map, mut none, mut child, mut first, mut hop) = ([0], [0], [9], [9], [0]);
     let every = Table { width: 3, value: &[0], length: &[0], hop: &[9] };
-    let room = BitmapRowsMut {
-        internal: &mut map,
-        external: &mut none,
-        first_child: &mut child,
-        first_hop: &mut first,
-        hop_row: &mut hop,
-    };
-    let built = build_bitmap(every, &mut [7; NODE_ROW], room);
-    let rows = BitmapRows { internal: &map, external: &none, first_child: &child, first_hop: &first, hop_row: &hop };
-    assert_eq!(lookup_bitmap(&built.record, rows, 5), Answer::Match { hop: 9, length: 0, reads: 1 });
+    assert_eq!(MadeBitmap::of(every, NODE_ROW, 1, 1).lookup(5), Answer::Match { hop: 9, length: 0, reads: 1 });
 }
 
 /// Lengths are taken as found, as hops are; beside hop 0 they say nothing.
@@ -144,9 +81,9 @@ fn the_length_list_alone_too_short() {
     for (kind, elements) in [(Kind::Fixed, 32), (Kind::Variable, 26)] {
         let scarce = make(kind, 2, EIGHT, elements - 1, elements);
         assert_eq!(scarce.built.outcome, Outcome::Refused { number: 7, detail: elements as u64 });
-        assert!(scarce.hop.iter().all(|x| *x == 9) && scarce.length.iter().all(|x| *x == 5));
+        assert!(scarce.scratch.iter().all(|x| *x == 0) && scarce.is_untouched());
         let mut made = make(kind, 2, EIGHT, elements, elements);
-        assert_eq!(won(made.lookup(97)), (7, 6));
+        assert_eq!(made.lookup(97).won(), Some((7, 6)));
         made.length.pop();
         assert_eq!(made.lookup(97), Answer::Refused { number: 9 });
         made.length.clear();
