@@ -34,6 +34,11 @@ impl Elements {
     pub fn shortest(&self) -> usize {
         self.hop.len().min(self.length.len()).min(self.link.len()).min(self.stride.len())
     }
+
+    /// The shortest of the other three: where it has E rows and `shortest` has not, the length list alone is too short.
+    pub fn shortest_but_lengths(&self) -> usize {
+        self.hop.len().min(self.link.len()).min(self.stride.len())
+    }
 }
 
 /// Test 2: k is 0 or above 32 (02).

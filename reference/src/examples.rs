@@ -55,7 +55,10 @@ fn number(bits: &str) -> u32 {
 #[test]
 fn whole_run() {
     let input = "width=3\nkind=vst\nlevels=2\nentries=2\nbits=1\nhop=1\nbits=101\nhop=2\nqueries=3\naddress=101\naddress=111\naddress=011\n";
-    let output = "refusal=0\ndetail=0\nelements=6\nroot=1\naddress=101\nhop=2\nlength=3\nreads=2\naddress=111\nhop=1\nlength=1\nreads=2\naddress=011\nhop=0\nlength=0\nreads=1\n";
+    let output = concat!(
+        "refusal=0\ndetail=0\nelements=6\nroot=1\naddress=101\nhop=2\nlength=3\nreads=2\n",
+        "address=111\nhop=1\nlength=1\nreads=2\naddress=011\nhop=0\nlength=0\nreads=1\n"
+    );
     assert_eq!(tablet::run(input.as_bytes()), output);
     let small = table(3, &[("1", 1), ("101", 2)]);
     let trie = Trie::of(&small);

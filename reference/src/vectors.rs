@@ -88,6 +88,11 @@ fn table_line(table: &Table) -> String {
     line
 }
 
+/// How often a mark stands in a list from a row on.
+fn marks<T: Copy + Into<u32>>(list: &[T], from: u32, mark: u32) -> usize {
+    list.iter().skip(from as usize).filter(|x| (**x).into() == mark).count()
+}
+
 /// The programs' table lists have no more places.
 const PLACES: usize = 65_600;
 

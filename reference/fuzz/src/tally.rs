@@ -46,9 +46,10 @@ pub struct Tally {
     bitmap_damages: BTreeMap<bitmap::Damage, u64>,
     pub no_routes: u64,
     pub discards: u64,
-    /// Answers with a length that no prefix of the width has; and refusals by 9 for which the length list alone is too short.
+    /// Answers with a length that no prefix of the width has; and refusals by 7 and by 9 for which the length list alone is too short.
     pub damaged_lengths: u64,
-    pub short_lengths: u64,
+    pub short_for_builds: u64,
+    pub short_for_lookups: u64,
     pub batches: u64,
     pub longest: u64,
     /// The most reads of a lookup in elements.
@@ -126,8 +127,9 @@ impl Tally {
         }
         println!("lookups without a route: {}; that discard: {}", self.no_routes, self.discards);
         println!("refusal 9 by clause: {}", by_clause(&self.damages));
-        let (above, short) = (self.damaged_lengths, self.short_lengths);
-        println!("lengths above the width: {above}; refused for the length list alone: {short}");
+        let (builds, lookups) = (self.short_for_builds, self.short_for_lookups);
+        println!("lengths above the width: {}", self.damaged_lengths);
+        println!("refused for the length list alone: {builds} builds, {lookups} lookups");
         println!("batches: {}; answers held to longest match besides: {}", self.batches, self.longest);
         println!("tables of {ENTRIES} entries checked: {}; of more: {}", self.most_entries, self.more_entries);
         let (many, most, strides) = (self.many_levels, self.most_levels, self.most_strides);

@@ -69,10 +69,9 @@ pub fn c_answer(found: Result<Found, Refusal>) -> raw::Answer {
     }
 }
 
-/// Whether the length list alone is too short for the record.
-fn is_short_of_lengths(record: &Record, rows: &Elements) -> bool {
-    let elements = record.elements as usize;
-    rows.length.len() < elements && elements <= rows.hop.len().min(rows.link.len()).min(rows.stride.len())
+/// Whether the length list alone is too short for so many elements.
+fn is_short_of_lengths(elements: u64, rows: &Elements) -> bool {
+    (rows.length.len() as u64) < elements && elements <= rows.shortest_but_lengths() as u64
 }
 
 pub struct Trial<'a> {
@@ -266,6 +265,7 @@ impl Trial<'_> {
         let (number, detail) = numbers(outcome);
         let answer = self.lists.build(kind, table.width, levels);
         self.tally.count(if kind == Kind::Fixed { Call::BuildFixed } else { Call::BuildVariable }, number);
+        self.tally.short_for_builds += (number == 7 && is_short_of_lengths(detail, &rows)) as u64;
         same("build", answer, raw::Built { number, detail, record: c_record(&record) })?;
         same_list("scratch after the build", self.lists.scratch.held(), &scratch)?;
         if !self.lists.rows_are(&rows) {
@@ -353,7 +353,7 @@ impl Trial<'_> {
             }
             Err(refusal) if refusal.number == 9 => {
                 self.tally.damage(walk(record, rows, address).expect_err("refused by 9"));
-                self.tally.short_lengths += is_short_of_lengths(record, rows) as u64;
+                self.tally.short_for_lookups += is_short_of_lengths(record.elements.into(), rows) as u64;
             }
             Err(_) => (),
         }

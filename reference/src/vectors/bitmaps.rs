@@ -11,7 +11,7 @@ mod harmed;
 
 use super::choosers::SCRATCH;
 use super::tables::{damaged, width, FAULTS};
-use super::{answered, discards, eight, of, outcome, swept, table_line, Rising, Vectors, PLACES};
+use super::{answered, discards, eight, marks, of, outcome, swept, table_line, Rising, Vectors, PLACES};
 use crate::bitmap::{build, lookup, nodes, walk, Bitmap, Damage, Supernodes, NODE_ROW, STRIDE};
 use crate::lookup::Found;
 use crate::random::Random;
@@ -82,10 +82,6 @@ fn risen(vectors: &mut Vectors, rising: Rising) -> Table {
     rising.table()
 }
 
-fn nines<T: Copy + Into<u32>>(list: &[T], from: u32) -> usize {
-    list.iter().skip(from as usize).filter(|x| (**x).into() == 9).count()
-}
-
 /// The rows that a good table needs, and its words of scratch.
 fn needed(table: &Table) -> Lent {
     let nodes = nodes(table);
@@ -118,11 +114,11 @@ fn built(vectors: &mut Vectors, table: &Table, lent: Lent) -> Left {
             "{} width {width} supernodes {supernodes} hops {hops} zeros {zeros} sevens {} nines {} {} {} {} {}",
             outcome(answer),
             words - zeros,
-            nines(&rows.internal, supernodes),
-            nines(&rows.external, supernodes),
-            nines(&rows.first_child, supernodes),
-            nines(&rows.first_hop, supernodes),
-            nines(&rows.hop_row, hops)
+            marks(&rows.internal, supernodes, 9),
+            marks(&rows.external, supernodes, 9),
+            marks(&rows.first_child, supernodes, 9),
+            marks(&rows.first_hop, supernodes, 9),
+            marks(&rows.hop_row, hops, 9)
         ),
     );
     Left { record, rows }

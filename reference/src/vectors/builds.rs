@@ -1,20 +1,19 @@
 //! The cases of build and lookup. A `table` line sets the table of the builds below it, a `rising` line has
 //! one made. A `fixed` or `variable` line gives the level limit, the length of scratch (filled with sevens) and of
 //! the four element lists hop, length, link and stride (the lengths filled with fives, the others with nines); its
-//! answer is the outcome, the record, scratch's zeros and sevens, how many nines stand in the hop, link and stride
-//! list past row E, and how many fives in the length list. `print` prints rows 0 to E-1 as hop/length/link/stride.
-//! `look` asks one address of the last record and lists, `sweep` all addresses below a number, as hop/length/reads (d
-//! for the hop of a discard, 0/reads for no route), or r with the refusal. A `record` line sets a record and lists of
-//! its own, the rows as link/stride>hop and behind them a length for each; of its strides all but the first are the
-//! number called others. A line with another word, or with a list longer than the program's room or than the rows that
-//! it gives, is a bad line and changes nothing.
+//! answer is the outcome, the record, scratch's zeros and sevens, and how many of its marks each element list has kept
+//! past row E. `print` prints rows 0 to E-1 as hop/length/link/stride. `look` asks one address of the last record and
+//! lists, `sweep` all addresses below a number, as hop/length/reads (d for the hop of a discard, 0/reads for no route),
+//! or r with the refusal. A `record` line sets a record and lists of its own, the rows as they are printed; of its
+//! strides all but the first are the number called others. A line with another word, or with a list longer than the
+//! program's room or than the rows that it gives, is a bad line and changes nothing.
 
 mod lengths;
 
 use super::choosers::{name, KINDS, SCRATCH};
 use super::tables::{damaged, width, FAULTS};
 use super::{
-    answered, any_levels, chain, deep, discards, eight, of, outcome, swept, table_line, Rising, Vectors, PLACES,
+    answered, any_levels, chain, deep, discards, eight, marks, of, outcome, swept, table_line, Rising, Vectors, PLACES,
 };
 use crate::build::{build, Elements, Record, SCRATCH_ROW};
 use crate::choices::{Kind, LEVELS};
@@ -87,11 +86,6 @@ fn risen(vectors: &mut Vectors, rising: Rising) -> Table {
     rising.table()
 }
 
-/// How often a mark stands in a list from a row on.
-fn marks<T: Copy + Into<u32>>(list: &[T], from: u32, mark: u32) -> usize {
-    list.iter().skip(from as usize).filter(|x| (**x).into() == mark).count()
-}
-
 /// Lengths of scratch, and of the hop, length, link and stride list.
 type Lent = (usize, [usize; 4]);
 
@@ -124,8 +118,8 @@ fn built(vectors: &mut Vectors, table: &Table, kind: Kind, levels: u32, lent: Le
 
 /// The marks that stand in the lists past row E.
 fn kept(rows: &Elements, e: u32) -> String {
-    let (hops, links, strides) = (marks(&rows.hop, e, 9), marks(&rows.link, e, 9), marks(&rows.stride, e, 9));
-    format!("nines {hops} {links} {strides} fives {}", marks(&rows.length, e, 5))
+    let (hops, lengths) = (marks(&rows.hop, e, 9), marks(&rows.length, e, 5));
+    format!("kept {hops} {lengths} {} {}", marks(&rows.link, e, 9), marks(&rows.stride, e, 9))
 }
 
 fn rows(vectors: &mut Vectors, left: &Left) {
@@ -191,13 +185,13 @@ fn record(vectors: &mut Vectors, left: &mut Left, others: u8) {
         r.width, r.levels, r.elements, r.floor, r.strides[0],
     );
     for i in 0..n {
+        let hop = e.hop.get(i).copied().unwrap_or(0);
+        let length = e.length.get(i).copied().unwrap_or(0);
         let link = e.link.get(i).copied().unwrap_or(0);
         let stride = e.stride.get(i).copied().unwrap_or(0);
-        let hop = e.hop.get(i).copied().unwrap_or(0);
-        line += &format!(" {link}/{stride}>{hop}");
+        line += &format!(" {hop}/{length}/{link}/{stride}");
     }
-    let lengths: String = (0..n).map(|i| format!(" {}", e.length.get(i).copied().unwrap_or(0))).collect();
-    vectors.case(format!("{line} lengths {n}:{lengths}"), "record".to_string());
+    vectors.case(line, "record".to_string());
 }
 
 fn nodes(table: &Table) -> usize {
@@ -617,12 +611,12 @@ fn bad(vectors: &mut Vectors) {
         "risings width 7 entries 8 length 7".to_string(),
         "table width 7 lists 2 1 1 entries 1: 0/1>1".to_string(),
         "table width 7 lists 1 1 2 entries 1: 0/1>1".to_string(),
-        format!("{record} 0 0 0 0 rows {0}: lengths {0}:", ROOM + 1),
-        format!("{record} 1 0 0 0 rows 0: lengths 0:"),
-        format!("{record} 0 1 0 0 rows 0: lengths 0:"),
-        format!("{record} 0 0 1 0 rows 0: lengths 0:"),
-        format!("{record} 0 0 0 1 rows 0: lengths 0:"),
-        format!("{record} 1 2 1 1 rows 1: 0/0>5 lengths 1: 3"),
+        format!("{record} 0 0 0 0 rows {}:", ROOM + 1),
+        format!("{record} 1 0 0 0 rows 0:"),
+        format!("{record} 0 1 0 0 rows 0:"),
+        format!("{record} 0 0 1 0 rows 0:"),
+        format!("{record} 0 0 0 1 rows 0:"),
+        format!("{record} 1 2 1 1 rows 1: 5/3/0/0"),
     ];
     let eight = eight();
     table(vectors, &eight);

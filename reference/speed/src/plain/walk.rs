@@ -3,8 +3,7 @@
 use super::{LEVELS, WIDTH};
 use hongsamuk::{raw, Record};
 
-/// Number, hop, length and reads, as the header's calls tell them. By reference and in a tree bitmap that is faster than an enum of four cases,
-/// behind the header's call it is slower for random addresses: docs/SPEED.md has both.
+/// Number, hop, length and reads, as the header's calls tell them.
 #[derive(Clone, Copy, PartialEq, Eq, Debug)]
 pub struct Numbers {
     pub number: u32,

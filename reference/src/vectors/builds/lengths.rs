@@ -8,14 +8,9 @@ use crate::lookup::{lookup, walk, Damage, Path};
 use crate::table::{Refusal, DISCARD};
 use crate::vectors::{eight, Vectors};
 
-/// The shortest of the other three lists.
-fn others(rows: &Elements) -> usize {
-    rows.hop.len().min(rows.link.len()).min(rows.stride.len())
-}
-
 /// Counts builds that the length list alone decides.
 pub fn count_build(vectors: &mut Vectors, kind: Kind, answer: Result<(), Refusal>, rows: &Elements) {
-    let enough = |needed: u64| others(rows) as u64 >= needed;
+    let enough = |needed: u64| rows.shortest_but_lengths() as u64 >= needed;
     if answer.is_err_and(|refusal| refusal.number == 7 && enough(refusal.detail)) {
         vectors.hit(&format!("{} refused for the length list alone", name(kind)));
     }
@@ -30,7 +25,7 @@ pub fn count_lookup(vectors: &mut Vectors, left: &Left, address: u32) {
         Ok(_) => count_path(vectors, left, &walk(&left.record, &left.rows, address).expect("accepted")),
         Err(refusal) if refusal.number == 9 => {
             let short = walk(&left.record, &left.rows, address) == Err(Damage::ListsTooShort);
-            if short && others(&left.rows) >= left.record.elements as usize {
+            if short && left.rows.shortest_but_lengths() >= left.record.elements as usize {
                 vectors.hit("damage in the length list alone");
             }
         }
