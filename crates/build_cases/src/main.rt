@@ -211,7 +211,8 @@ fn word_at(text: &[u8], at: usize) -> Word {
 }
 
 // Says that the line is bad, and passes it over.
-fn bad_line(text: &[u8], at: usize, state: State) -> State {
+fn bad_line(text: &[u8], state: State) -> State {
+    let at = state.at;
     say(b"bad line");
     let mut next = state;
     next.at = cases::seek(text, at, b'\n', b'\n');
@@ -221,7 +222,6 @@ fn bad_line(text: &[u8], at: usize, state: State) -> State {
 // Lends as many places of scratch and of the element lists as the line says.
 fn build_line(
     text: &[u8],
-    at: usize,
     kind: Kind,
     state: State,
     values: &[u32],
@@ -233,15 +233,16 @@ fn build_line(
     row_links: &mut [u32],
     row_strides: &mut [u8],
 ) -> State {
+    let at = state.at;
     let held = state.held;
     let levels = cases::number(text, at);
     let places = cases::number(text, levels.next);
     let lists = lists_at(text, places.next);
     if scratch.len() < places.value as usize {
-        return bad_line(text, at, state);
+        return bad_line(text, state);
     }
     if is_longer(lists, row_hops.len()) {
-        return bad_line(text, at, state);
+        return bad_line(text, state);
     }
     let n = cases::least(places.value as usize, scratch.len());
     let a = cases::least(lists.hops, row_hops.len());
@@ -353,7 +354,6 @@ fn print(
 // A question about the last record and its lists: `print`, `look` or `sweep`.
 fn ask(
     text: &[u8],
-    at: usize,
     word: Word,
     state: State,
     row_hops: &[u16],
@@ -361,6 +361,7 @@ fn ask(
     row_links: &[u32],
     row_strides: &[u8],
 ) -> State {
+    let at = state.at;
     let record = state.record;
     let lists = state.lists;
     let mut next = state;
@@ -386,16 +387,16 @@ fn ask(
 // A record and rows of its own.
 fn record_line(
     text: &[u8],
-    at: usize,
     state: State,
     row_hops: &mut [u16],
     row_lengths: &mut [u8],
     row_links: &mut [u32],
     row_strides: &mut [u8],
 ) -> State {
+    let at = state.at;
     let mut next = record_at(text, at, state.held);
     if is_unfit(text, next.lists, row_hops.len()) {
-        return bad_line(text, at, state);
+        return bad_line(text, state);
     }
     next.at = read_rows(text, next.at, row_hops, row_lengths, row_links, row_strides);
     say(b"record");
@@ -405,14 +406,14 @@ fn record_line(
 // Another table for the builds below; the record and its rows stay.
 fn table_line(
     text: &[u8],
-    at: usize,
     state: State,
     values: &mut [u32],
     lengths: &mut [u8],
     hops: &mut [u16],
 ) -> State {
+    let at = state.at;
     if cases::is_bad_table(text, at, values.len()) {
-        return bad_line(text, at, state);
+        return bad_line(text, state);
     }
     say(b"table");
     let held = cases::table_line(text, at, values, lengths, hops);
@@ -425,14 +426,14 @@ fn table_line(
 // The same of a table that the line has made.
 fn rising_line(
     text: &[u8],
-    at: usize,
     state: State,
     values: &mut [u32],
     lengths: &mut [u8],
     hops: &mut [u16],
 ) -> State {
+    let at = state.at;
     if cases::is_bad_rising(text, at, values.len()) {
-        return bad_line(text, at, state);
+        return bad_line(text, state);
     }
     say(b"rising");
     let held = cases::rising_line(text, at, values, lengths, hops);
@@ -445,7 +446,7 @@ fn rising_line(
 // One case: the first word of the next line says which.
 fn line(
     text: &[u8],
-    state: State,
+    before: State,
     values: &mut [u32],
     lengths: &mut [u8],
     hops: &mut [u16],
@@ -455,15 +456,15 @@ fn line(
     row_links: &mut [u32],
     row_strides: &mut [u8],
 ) -> State {
-    let end = cases::seek(text, state.at, b'\n', b'\n');
-    let at = cases::seek(text, end, b'!', b'~');
-    let word = word_at(text, at);
+    let end = cases::seek(text, before.at, b'\n', b'\n');
+    let mut state = before;
+    state.at = cases::seek(text, end, b'!', b'~');
+    let word = word_at(text, state.at);
     match word {
-        Word::Table => table_line(text, at, state, values, lengths, hops),
-        Word::Rising => rising_line(text, at, state, values, lengths, hops),
+        Word::Table => table_line(text, state, values, lengths, hops),
+        Word::Rising => rising_line(text, state, values, lengths, hops),
         Word::Build(kind) => build_line(
             text,
-            at,
             kind,
             state,
             values,
@@ -475,19 +476,10 @@ fn line(
             row_links,
             row_strides,
         ),
-        Word::Record => record_line(
-            text,
-            at,
-            state,
-            row_hops,
-            row_lengths,
-            row_links,
-            row_strides,
-        ),
-        Word::Other => bad_line(text, at, state),
+        Word::Record => record_line(text, state, row_hops, row_lengths, row_links, row_strides),
+        Word::Other => bad_line(text, state),
         _ => ask(
             text,
-            at,
             word,
             state,
             row_hops,

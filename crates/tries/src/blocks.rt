@@ -318,7 +318,8 @@ pub(crate) fn lay(
 ) -> usize
     requires { ⌜ CanLay (now rows) (now plan) root width levels (lists (now hop) (now lens) (now link) (now stride)) ⌝ }
     ensures { λ e. ⌜
-        Lays (now (rows .entry)) (now (plan .entry)) root width levels (lists (now (hop .entry)) (now (lens .entry)) (now (link .entry)) (now (stride .entry))) e
+        Lays (now (rows .entry)) (now (plan .entry)) root width levels
+        (lists (now (hop .entry)) (now (lens .entry)) (now (link .entry)) (now (stride .entry))) e
         (lists (now (hop .exit)) (now (lens .exit)) (now (link .exit)) (now (stride .exit))) ⌝ }
 {
     let first = given(root, power(stride_at(rows, plan, root, levels)));
