@@ -19,10 +19,11 @@ use Rattle.walk.specs.declared.walk.Answer.the-variants.{NoRoute}
 use Rattle.walk.specs.Rows.{Lists, shortest, rowAt}
 use Rattle.walk.specs.Answers.{hopOf, lengthOf, readsOf, NotRefused, HopLength, floorBest, rowBest, answer}
 use Rattle.walk.specs.Lookup.{pathRows, lookupOf}
+use Rattle.walk.specs.Packed.{NoHopNoLength}
 use Rattle.layout.specs.Blocks.{Strides, blocksAlong, blockCount, rowsAlong}
 use Rattle.layout.specs.Marks.{entryMarks}
 use Rattle.layout.specs.Laid.{tableTrie, Laid}
-use Rattle.walk.proofs.Answers.{NoHopNoLength, answer-number, answer-hop, answer-length, answer-reads}
+use Rattle.walk.proofs.Answers.{answer-number, answer-hop, answer-length, answer-reads}
 use Rattle.walk.proofs.Reading.{reads-most, lookup-local}
 use Rattle.layout.proofs.Cost.{count-cost}
 use Rattle.layout.proofs.Marks.{markBest, some-mark, table-marks, winner-says, floor-says}

@@ -1,6 +1,6 @@
 -- An answer is its number, hop, length and reads, and the case that they make.
-use Prim.Native.Nat.{ℕ, _<_}
-use mathlib.Core.Path.{_≡_, refl, sym, ap, _∙_}
+use Prim.Native.Nat.{ℕ, _*_, _/_, _%_, _<_}
+use mathlib.Core.Path.{_≡_, refl, sym, ap, subst, _∙_}
 use mathlib.Core.Bool.{Bool, true, false, cond}
 use mathlib.Core.List.{List, [], _∷_}
 use mathlib.Core.Logic.{_↔_}
@@ -10,29 +10,15 @@ use native.Mathlib.Decide.{decLe}
 use lib.Dec.{eqb}
 use borrow.Author.Tests.{eqb-true, eqb-false, ne-eqb}
 use Rattle.table.specs.Limits.{discardHop}
-use Rattle.table.specs.Longest.{newer}
 use Rattle.walk.specs.declared.walk.Answer.{Answer}
 use Rattle.walk.specs.declared.walk.Answer.the-variants.{Match, Discard, NoRoute, Refused}
 use Rattle.walk.specs.declared.numbers.AnswerNumbers.{AnswerNumbers}
 use Rattle.walk.specs.Rows.{Row}
-use Rattle.walk.specs.Answers.{numberOf, hopOf, lengthOf, readsOf, Case, HopLength, rowBest, newBest, latest, answer, answerNumbers, answerOf}
+use Rattle.walk.specs.Answers.{numberOf, hopOf, lengthOf, readsOf, Case, HopLength, floorBest, rowBest, newBest, latest, answer, answerNumbers, answerOf}
+use Rattle.walk.specs.Packed.{HOPS, packed, unpacked, NoHopNoLength, IsPacked}
 
 -- ---- the best
--- a row's hop and length make the new best
-pub new-best-is : (row : Row) (best : HopLength) {h l : ℕ} → h ≡ newer (row .hop) (best .hop) → l ≡ cond (eqb (row .hop) 0) (best .len) (row .len)
-    → _≡_ {A = HopLength} (record { hop = h; len = l }) (newBest row best)
-unfolding newBest
-new-best-is row best p q = rw (p, q) (go (eqb (row .hop) 0))
-  where
-    go : (z : Bool) → _≡_ {A = HopLength} (record { hop = cond z (best .hop) (row .hop); len = cond z (best .len) (row .len) })
-        (cond z best (rowBest row))
-    go true = refl
-    go false = refl
-
--- a best with no hop has no length
-abbrev pub NoHopNoLength : HopLength → Type 0
-NoHopNoLength best = best .hop ≡ 0 → best .len ≡ 0
-
+-- with no hop there is no length
 new-best-no-hop : (row : Row) (best : HopLength) → NoHopNoLength best → NoHopNoLength (newBest row best)
 unfolding newBest
 new-best-no-hop row best n = go (eqb (row .hop) 0) refl
@@ -40,6 +26,27 @@ new-best-no-hop row best n = go (eqb (row .hop) 0) refl
     go : (z : Bool) → eqb (row .hop) 0 ≡ z → NoHopNoLength (cond z best (rowBest row))
     go true e h = n h
     go false e h = absurd (eqb-false (row .hop) 0 e h)
+
+-- the best that the code keeps after a row is the rule's
+pub packed-best : (row : Row) (best : ℕ) {b : ℕ} → row .hop < HOPS → b ≡ cond (eqb (row .hop) 0) best (packed (row .hop) (row .len))
+    → unpacked b ≡ newBest row (unpacked best)
+unfolding newBest
+packed-best row best {b} h e = rw e (go (eqb (row .hop) 0))
+  where
+    go : (z : Bool) → unpacked (cond z best (packed (row .hop) (row .len))) ≡ cond z (unpacked best) (rowBest row)
+    go true = refl
+    go false = let p : packed (row .hop) (row .len) % HOPS ≡ row .hop = omega arith in let q : packed (row .hop) (row .len) / HOPS ≡ row .len = omega arith in rw (p, q) refl
+
+pub packed-floor : (floor : ℕ) → floor < HOPS → unpacked floor ≡ floorBest floor
+packed-floor floor h = let p : floor % HOPS ≡ floor = omega arith in let q : floor / HOPS ≡ 0 = omega arith in rw (p, q) refl
+
+pub still-packed : (row : Row) (best : ℕ) {b : ℕ} → row .hop < HOPS → row .len < 256 → b ≡ cond (eqb (row .hop) 0) best (packed (row .hop) (row .len))
+    → IsPacked best → IsPacked b
+still-packed row best {b} h l e p = (rw e (go (eqb (row .hop) 0)), subst NoHopNoLength (sym (packed-best row best h e)) (new-best-no-hop row (unpacked best) (p .1)))
+  where
+    go : (z : Bool) → cond z best (packed (row .hop) (row .len)) < HOPS * 256
+    go true = p .0
+    go false = omega arith
 
 pub latest-no-hop : (at : ℕ → Row) (best : HopLength) (rs : List ℕ) → NoHopNoLength best → NoHopNoLength (latest at best rs)
 unfolding latest
@@ -84,6 +91,11 @@ answer-length b reads n = answer-parts (b .hop) (b .len) reads .2 ∙ go (eqb (b
 pub answer-has-numbers : (hop len reads : ℕ)
     → _≡_ {A = AnswerNumbers} (record { number = 0; hop = hop; length = cond (eqb hop 0) 0 len; reads = reads }) (answerNumbers (answer hop len reads))
 answer-has-numbers hop len reads = let p = answer-parts hop len reads in rw (p .0, p .1, p .2, p .3)
+
+-- and of a best that has no length without a hop they are as it has them
+pub best-has-numbers : (b : HopLength) (reads : ℕ) → NoHopNoLength b
+    → _≡_ {A = AnswerNumbers} (record { number = 0; hop = b .hop; length = b .len; reads = reads }) (answerNumbers (answer (b .hop) (b .len) reads))
+best-has-numbers b reads n = let p = answer-parts (b .hop) (b .len) reads in rw (p .0, p .1, answer-length b reads n, p .3)
 
 -- a refused lookup has no hop, no length and 0 reads
 pub refused-none : (a : Answer) → 0 < numberOf a → (hopOf a ≡ 0) × (lengthOf a ≡ 0) × (readsOf a ≡ 0)

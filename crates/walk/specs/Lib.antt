@@ -6,5 +6,6 @@ pub mod Answers
 pub mod Refusals
 pub mod Meaning
 pub mod Examples
--- The rule as a function (exact), which the meaning does without.
+-- The rule as a function (exact), which the meaning does without; and how the code keeps the best so far.
 pub mod Lookup
+pub mod Packed

@@ -2,3 +2,6 @@
 // address is the table's.
 
 pub const LEVELS: u32 = 32;
+
+// Every hop is below this (`specs/Packed.antt` has the same).
+pub(crate) const HOPS: u32 = 65536;

@@ -5,6 +5,8 @@ ghost use mathlib.Core.Bool.{cond};
 ghost use lib.Dec.{eqb};
 ghost use Rattle.walk.specs.declared.walk.Answer.the-variants.{Refused};
 ghost use Rattle.walk.specs.Answers.{answer, answerNumbers};
+ghost use Rattle.walk.specs.Packed.{unpacked, IsPacked};
+use crate::limits::HOPS;
 
 #[repr(C)]
 pub struct AnswerNumbers {
@@ -29,6 +31,19 @@ pub fn hop_numbers(hop: u16, len: u8, reads: u32) -> AnswerNumbers
         number: 0,
         hop,
         length: told_length(hop, len),
+        reads,
+    }
+}
+
+// The same of a best that is kept in one number.
+pub(crate) fn packed_numbers(best: u32, reads: u32) -> AnswerNumbers
+    requires { ⌜ IsPacked best ⌝ }
+    ensures { λ r. ⌜ r ≡ answerNumbers (answer (unpacked best .hop) (unpacked best .len) reads) ⌝ }
+{
+    AnswerNumbers {
+        number: 0,
+        hop: (best % HOPS) as u16,
+        length: (best / HOPS) as u8,
         reads,
     }
 }

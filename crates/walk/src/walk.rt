@@ -5,18 +5,20 @@ ghost use mathlib.Core.Path.{_≡_};
 ghost use mathlib.Core.Bool.{cond};
 ghost use Prim.Native.Nat.{_≤_};
 ghost use lib.Dec.{eqb};
-ghost use Rattle.table.specs.Longest.{newer};
 ghost use Rattle.walk.specs.Limits.{WIDTH};
 ghost use Rattle.walk.specs.Rows.{lists, shortest, rowAt};
 ghost use Rattle.table.specs.Answers.{Told};
 ghost use Rattle.walk.specs.Answers.{floorBest, answerNumbers, answerOf};
 ghost use Rattle.walk.specs.Lookup.{walk, unfit, refusalOf, lookupOf};
 ghost use Rattle.walk.specs.Meaning.{Looked};
+ghost use Rattle.walk.specs.Packed.{packed};
 use crate::address::cut;
 use crate::address::is_beyond;
+use crate::limits::HOPS;
 use crate::limits::LEVELS;
 use crate::numbers::AnswerNumbers;
 use crate::numbers::hop_numbers;
+use crate::numbers::packed_numbers;
 use crate::numbers::refusal_numbers;
 use crate::record::Record;
 use table::DISCARD;
@@ -31,18 +33,15 @@ pub enum Answer {
     Refused { number: u32 },
 }
 
-// A nonzero hop is the new best.
-fn newer(hop: u16, best: u16) -> u16
-    ensures { λ r. ⌜ r ≡ newer hop best ⌝ }
+// A nonzero hop is the new best, with the length beside it.
+fn best_after(hop: u16, len: u8, best: u32) -> u32
+    ensures { λ r. ⌜ r ≡ cond (eqb hop 0) best (packed hop len) ⌝ }
 {
-    if hop == 0 { best } else { hop }
-}
-
-// And the length beside it is the new length.
-fn newer_length(hop: u16, found: u8, len: u8) -> u8
-    ensures { λ r. ⌜ r ≡ cond (eqb hop 0) len found ⌝ }
-{
-    if hop == 0 { len } else { found }
+    if hop == 0 {
+        best
+    } else {
+        hop as u32 + len as u32 * HOPS
+    }
 }
 
 // The answer that numbers say: hop 0 is no route, DISCARD a discard.
@@ -95,8 +94,7 @@ fn follow(
     let mut base: usize = 0;
     let mut s: u32 = root;
     let mut left: u32 = width;
-    let mut best: u16 = floor;
-    let mut len: u8 = 0;
+    let mut best: u32 = floor as u32;
     let mut reads: u32 = 0;
     while reads < levels {
         if s == 0 {
@@ -110,13 +108,11 @@ fn follow(
         if elements <= row {
             return refusal_numbers(9);
         }
-        let h = hop[row];
-        best = newer(h, best);
-        len = newer_length(h, lens[row], len);
+        best = best_after(hop[row], lens[row], best);
         reads += 1;
         let next = link[row];
         if next == 0 {
-            return hop_numbers(best, len, reads);
+            return packed_numbers(best, reads);
         }
         base = next as usize;
         s = stride[row] as u32;

@@ -4,11 +4,12 @@ use native.Mathlib.Nat.{sub-zero}
 use native.Mathlib.Omega.{arith}
 use borrow.Author.Needs.{needs}
 use Rattle.walk.specs.Limits.{WIDTH}
-use Rattle.walk.specs.Rows.{lists, rowAt, rowOf}
+use Rattle.walk.specs.Rows.{Row, lists, rowAt, rowOf}
 use Rattle.walk.specs.Answers.{HopLength, floorBest, newBest, answerNumbers}
 use Rattle.walk.specs.Lookup.{walk}
 use Rattle.walk.specs.Meaning.{Readable, no-stride, too-wide, past-end}
-use Rattle.walk.proofs.Answers.{new-best-is}
+use Rattle.walk.specs.Packed.{HOPS, unpacked, IsPacked}
+use Rattle.walk.proofs.Answers.{packed-best, still-packed, packed-floor}
 use Rattle.walk.proofs.Bits.{cut-le}
 use Rattle.walk.proofs.Walks.{walk-stops, walk-spends, walk-ends, walk-goes}
 use Rattle.walk.proofs.walk.follow.Statement.{statement}
@@ -16,37 +17,44 @@ use Rattle.walk.proofs.walk.follow.Tie as tie
 
 -- the walk from here on is the walk from the root's block (a link has 32 bits)
 abbrev Inv-loop : tie.InvT-loop
-Inv-loop elements address hop lens link stride levels root width floor base₀ s₀ left₀ best₀ len₀ reads₀ base s left best len reads =
-    (reads ≤ levels) × (left ≤ WIDTH) × (base < 2 ^ 32)
-    × (walk elements address (rowAt (lists hop lens link stride)) (levels - reads) base s left (record { hop = best; len = len }) reads
+Inv-loop elements address hop lens link stride levels root width floor base₀ s₀ left₀ best₀ reads₀ base s left best reads =
+    (reads ≤ levels) × (left ≤ WIDTH) × (base < 2 ^ 32) × IsPacked best
+    × (walk elements address (rowAt (lists hop lens link stride)) (levels - reads) base s left (unpacked best) reads
     ≡ walk elements address (rowAt (lists hop lens link stride)) levels 0 root width (floorBest floor) 0)
 
 abbrev μ-loop : tie.MeasureT-loop
-μ-loop elements address hop lens link stride levels root width floor base₀ s₀ left₀ best₀ len₀ reads₀ base s left best len reads =
+μ-loop elements address hop lens link stride levels root width floor base₀ s₀ left₀ best₀ reads₀ base s left best reads =
     levels - reads
+
+-- the floor has 16 bits
+floor-small : (c : tie.After-shared-slice-known4 Inv-loop μ-loop) → c .before .before .before .before .args .floor < HOPS
+floor-small c = omega arith
 
 loop-holds : tie.Need-loop-holds Inv-loop μ-loop
 loop-holds c =
     let a = c .before .before .before .before .args in
-    let at = rowAt (lists (a .hop .now) (a .lens .now) (a .link .now) (a .stride .now)) in (
+    let at = rowAt (lists (a .hop .now) (a .lens .now) (a .link .now) (a .stride .now)) in
+    let few = floor-small c in (
       omega arith,
       omega arith,
       omega arith,
-      ap (λ (k : ℕ). walk (a .elements) (a .address) at k 0 (a .root) (a .width) (floorBest (a .floor)) 0) (sub-zero (a .levels)),
+      (omega (arith, few), λ e. omega (arith, few)),
+      ap (λ (k : ℕ). walk (a .elements) (a .address) at k 0 (a .root) (a .width) (unpacked (a .floor)) 0) (sub-zero (a .levels))
+          ∙ ap (λ (b : HopLength). walk (a .elements) (a .address) at (a .levels) 0 (a .root) (a .width) b 0) (packed-floor (a .floor) few),
     )
 
 refusal-numbers-requires : tie.Need-refusal-numbers-requires Inv-loop μ-loop
 refusal-numbers-requires c κs = search needs
 
 returns : tie.Need-returns Inv-loop μ-loop
-returns c = c .refusal-numbers .ensures ∙ ap answerNumbers (sym (walk-stops _ _ _ _ _ _ _ _ _ (no-stride (c .before .if1 .taken))) ∙ c .before .before .before .loop .inv .3)
+returns c = c .refusal-numbers .ensures ∙ ap answerNumbers (sym (walk-stops _ _ _ _ _ _ _ _ _ (no-stride (c .before .if1 .taken))) ∙ c .before .before .before .loop .inv .4)
 
 refusal-numbers-requires-2 : tie.Need-refusal-numbers-requires-2 Inv-loop μ-loop
 refusal-numbers-requires-2 c κs = search needs
 
 returns-2 : tie.Need-returns-2 Inv-loop μ-loop
 returns-2 c =
-    c .refusal-numbers2 .ensures ∙ ap answerNumbers (sym (walk-stops _ _ _ _ _ _ _ _ _ (too-wide (c .before .if2 .taken))) ∙ c .before .before .before .before .loop .inv .3)
+    c .refusal-numbers2 .ensures ∙ ap answerNumbers (sym (walk-stops _ _ _ _ _ _ _ _ _ (too-wide (c .before .if2 .taken))) ∙ c .before .before .before .before .loop .inv .4)
 
 cut-requires : tie.Need-cut-requires Inv-loop μ-loop
 cut-requires c κs = omega arith
@@ -69,7 +77,7 @@ refusal-numbers-requires-3 c κs = search needs
 returns-3 : tie.Need-returns-3 Inv-loop μ-loop
 returns-3 c =
     let stopped = walk-stops _ _ _ _ _ _ _ _ _ (past-end (rw (row-is (c .before .before)) at (c .before .if3 .taken))) in
-    c .refusal-numbers3 .ensures ∙ ap answerNumbers (sym stopped ∙ c .before .before .before .before .before .before .loop .inv .3)
+    c .refusal-numbers3 .ensures ∙ ap answerNumbers (sym stopped ∙ c .before .before .before .before .before .before .loop .inv .4)
 
 can-read : (c : tie.Else3 Inv-loop μ-loop) →
     let l = c .before .before .before .before .before .loop in
@@ -77,20 +85,17 @@ can-read : (c : tie.Else3 Inv-loop μ-loop) →
     Readable (a .elements) (a .address) (l .base) (l .s) (l .left)
 can-read c = record { stride = omega arith; fits = c .before .before .if2 .left; within = rw (row-is (c .before)) at (c .if3 .left) }
 
-mul-h : tie.Need-mul-h Inv-loop μ-loop
-mul-h c = search needs
+mul-best-after : tie.Need-mul-best-after Inv-loop μ-loop
+mul-best-after c = search needs
 
-shared-slice-read-h : tie.Need-shared-slice-read-h Inv-loop μ-loop
-shared-slice-read-h c = omega arith
+shared-slice-read-best-after : tie.Need-shared-slice-read-best-after Inv-loop μ-loop
+shared-slice-read-best-after c = omega arith
 
-newer-requires : tie.Need-newer-requires Inv-loop μ-loop
-newer-requires c κs = search needs
+shared-slice-read-best-after-2 : tie.Need-shared-slice-read-best-after-2 Inv-loop μ-loop
+shared-slice-read-best-after-2 c = omega arith
 
-shared-slice-read-newer-length : tie.Need-shared-slice-read-newer-length Inv-loop μ-loop
-shared-slice-read-newer-length c = omega arith
-
-newer-length-requires : tie.Need-newer-length-requires Inv-loop μ-loop
-newer-length-requires c κs = search needs
+best-after-requires : tie.Need-best-after-requires Inv-loop μ-loop
+best-after-requires c κs = search needs
 
 add-reads : tie.Need-add-reads Inv-loop μ-loop
 add-reads c = omega arith
@@ -101,63 +106,71 @@ mul-next c = search needs
 shared-slice-read-next : tie.Need-shared-slice-read-next Inv-loop μ-loop
 shared-slice-read-next c = omega arith
 
-hop-numbers-requires : tie.Need-hop-numbers-requires Inv-loop μ-loop
-hop-numbers-requires c κs = search needs
+-- the best that the code keeps is the rule's, in one number
+module _ (c : tie.After-best-after Inv-loop μ-loop) where
+  abbrev row : Row
+  row =
+      let a = c .before .before .before .before .before .before .before .before .before .before .before .before .before .args in
+      rowAt (lists (a .hop .now) (a .lens .now) (a .link .now) (a .stride .now)) (c .before .before .before .before .before .before .before .before .loop .base + c .before .before .before .before .cut .result)
 
--- the best that the code keeps is the rule's
-new-best : (c : tie.After-newer-length Inv-loop μ-loop) →
-    let l = c .before .before .before .before .before .before .before .before .before .loop in
-    let a = c .before .before .before .before .before .before .before .before .before .before .before .before .before .before .args in
-    let row = rowAt (lists (a .hop .now) (a .lens .now) (a .link .now) (a .stride .now)) (l .base + c .before .before .before .before .before .cut .result) in
-    _≡_ {A = HopLength} (record { hop = c .before .before .newer .result; len = c .newer-length .result }) (newBest row (record { hop = l .best; len = l .len }))
-new-best c = new-best-is _ _ (c .before .before .newer .ensures) (c .newer-length .ensures)
+  hop-small : row .hop < HOPS
+  hop-small = omega (arith, c .before .before .shared-slice-known5 .given (c .before .before .before .before .before .before .before .before .loop .base + c .before .before .before .before .cut .result))
+
+  length-small : row .len < 256
+  length-small = omega (arith, c .before .shared-slice-known6 .given (c .before .before .before .before .before .before .before .before .loop .base + c .before .before .before .before .cut .result))
+
+  new-best : unpacked (c .best-after .result) ≡ newBest row (unpacked (c .before .before .before .before .before .before .before .before .loop .best))
+  new-best = packed-best row (c .before .before .before .before .before .before .before .before .loop .best) hop-small (c .best-after .ensures)
+
+  kept : IsPacked (c .best-after .result)
+  kept = still-packed row (c .before .before .before .before .before .before .before .before .loop .best) hop-small length-small (c .best-after .ensures) (c .before .before .before .before .before .before .before .before .loop .inv .3)
+
+packed-numbers-requires : tie.Need-packed-numbers-requires Inv-loop μ-loop
+packed-numbers-requires c κs = kept (c .before .before)
 
 returns-4 : tie.Need-returns-4 Inv-loop μ-loop
 returns-4 c =
-    let kept = c .before .before .before in
-    let free = kept .before .before .before .before in
-    let l = free .before .before .before .before .before .loop in
-    let a = free .before .before .before .before .before .before .before .before .before .before .args in
-    c .hop-numbers .ensures
+    let done = c .before .before .before in
+    let free = done .before .before .before in
+    let l = done .before .before .before .before .before .before .before .before .loop in
+    let a = done .before .before .before .before .before .before .before .before .before .before .before .before .before .args in
+    c .packed-numbers .ensures
     ∙ ap answerNumbers
     (sym (walk-ends _ _ (rowAt (lists (a .hop .now) (a .lens .now) (a .link .now) (a .stride .now))) _ _ _ _ _ _ {j = a .levels - (l .reads + 1)} (omega arith)
-    (can-read free) (row-is (free .before)) (new-best kept) (c .before .if4 .taken))
-    ∙ l .inv .3)
+    (can-read free) (row-is (free .before)) (new-best done) (c .before .if4 .taken))
+    ∙ l .inv .4)
 
 cast-base : tie.Need-cast-base Inv-loop μ-loop
-cast-base c =
-    let free = c .before .before .before .before .before .before in
-    omega (arith, c .before .shared-slice-known7 .given (free .before .before .before .before .before .loop .base + free .before .cut .result))
+cast-base c = omega (arith, c .before .shared-slice-known7 .given (c .before .before .before .before .before .before .before .before .before .before .loop .base + c .before .before .before .before .before .before .cut .result))
 
 shared-slice-read-s : tie.Need-shared-slice-read-s Inv-loop μ-loop
 shared-slice-read-s c = omega arith
 
 cast-s : tie.Need-cast-s Inv-loop μ-loop
-cast-s c =
-    let free = c .before .before .before .before .before .before .before in
-    omega (arith, c .shared-slice-known8 .given (free .before .before .before .before .before .loop .base + free .before .cut .result))
+cast-s c = omega (arith, c .shared-slice-known8 .given (c .before .before .before .before .before .before .before .before .before .before .before .loop .base + c .before .before .before .before .before .before .before .cut .result))
 
 loop-less : tie.Need-loop-less Inv-loop μ-loop
 loop-less c = omega arith
 
 loop-again : tie.Need-loop-again Inv-loop μ-loop
 loop-again c =
-    let kept = c .before .before .before in
-    let free = kept .before .before .before .before in
-    let l = free .before .before .before .before .before .loop in
-    let a = free .before .before .before .before .before .before .before .before .before .before .args in (
+    let done = c .before .before .before in
+    let free = done .before .before .before in
+    let l = done .before .before .before .before .before .before .before .before .loop in
+    let a = done .before .before .before .before .before .before .before .before .before .before .before .before .before .args in (
       omega arith,
       omega arith,
-      omega (arith, c .before .before .shared-slice-known7 .given (l .base + free .before .cut .result)),
+      omega (arith, c .before .before .shared-slice-known7 .given (l .base + done .before .before .before .before .cut .result)),
+      kept done,
       sym (walk-goes _ _ (rowAt (lists (a .hop .now) (a .lens .now) (a .link .now) (a .stride .now))) _ _ _ _ _ _ (omega arith)
-          (can-read free) (row-is (free .before)) (new-best kept) (c .before .if4 .left)) ∙ l .inv .3,
+          (can-read free) (row-is (free .before)) (new-best done) (c .before .if4 .left)) ∙ l .inv .4,
     )
 
 refusal-numbers-requires-4 : tie.Need-refusal-numbers-requires-4 Inv-loop μ-loop
 refusal-numbers-requires-4 c κs = search needs
 
 returns-5 : tie.Need-returns-5 Inv-loop μ-loop
-returns-5 c = c .refusal-numbers4 .ensures ∙ ap answerNumbers (sym (walk-spends _ _ _ _ _ _ _ _ _ (omega arith)) ∙ c .before .before .loop .inv .3)
+returns-5 c = c .refusal-numbers4 .ensures ∙ ap answerNumbers (sym (walk-spends _ _ _ _ _ _ _ _ _ (omega arith)) ∙ c .before .before .loop .inv .4)
 
 pub follow-spec : {M : Type 1} → statement M
 follow-spec =
@@ -174,15 +187,14 @@ follow-spec =
     add-row
     refusal-numbers-requires-3
     returns-3
-    mul-h
-    shared-slice-read-h
-    newer-requires
-    shared-slice-read-newer-length
-    newer-length-requires
+    mul-best-after
+    shared-slice-read-best-after
+    shared-slice-read-best-after-2
+    best-after-requires
     add-reads
     mul-next
     shared-slice-read-next
-    hop-numbers-requires
+    packed-numbers-requires
     returns-4
     cast-base
     shared-slice-read-s
