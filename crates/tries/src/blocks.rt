@@ -195,27 +195,14 @@ fn fill(
     if c == 0 {
         return leaf(rows, plan, k, r, base, best, free, hop, lens, link, stride);
     }
-    let m0 = best_below(rows, k, 0, best);
-    let m1 = best_below(rows, k, 1, best);
+    let p = best_below(rows, k, 0, best);
+    let q = best_below(rows, k, 1, best);
     let k0 = asked(rows, k, 0);
     let k1 = asked(rows, k, 1);
     let d = c - 1;
     let mid = base + power(d);
-    let f = fill(
-        rows,
-        plan,
-        k0,
-        d,
-        r,
-        base,
-        m0,
-        free,
-        hop,
-        lens,
-        link,
-        stride,
-    );
-    fill(rows, plan, k1, d, r, mid, m1, f, hop, lens, link, stride)
+    let f = fill(rows, plan, k0, d, r, base, p, free, hop, lens, link, stride);
+    fill(rows, plan, k1, d, r, mid, q, f, hop, lens, link, stride)
 }
 
 // Where the next block of a level lies, and where the next child block does.

@@ -1,5 +1,5 @@
 // A lookup's answer in numbers, as C is told it. A walk ends with these and not with an `Answer`: whether there is a route, and whether it
-// discards, is hard to foresee, and so there is no jump on it; of two values the length is one, compiled to a choice between them.
+// discards, is hard to foresee, and so there is no jump on it.
 ghost use mathlib.Core.Path.{_≡_};
 ghost use mathlib.Core.Bool.{cond};
 ghost use lib.Dec.{eqb};

@@ -108,22 +108,29 @@ shared-slice-read-next c = omega arith
 
 -- the best that the code keeps is the rule's, in one number
 module _ (c : tie.After-best-after Inv-loop μ-loop) where
+  abbrev free : tie.Else3 Inv-loop μ-loop
+  free = c .before .before .before
+
+  abbrev place : ℕ
+  place = free .before .before .before .before .before .loop .base + free .before .cut .result
+
+  abbrev best : ℕ
+  best = free .before .before .before .before .before .loop .best
+
   abbrev row : Row
-  row =
-      let a = c .before .before .before .before .before .before .before .before .before .before .before .before .before .args in
-      rowAt (lists (a .hop .now) (a .lens .now) (a .link .now) (a .stride .now)) (c .before .before .before .before .before .before .before .before .loop .base + c .before .before .before .before .cut .result)
+  row = let a = free .before .before .before .before .before .before .before .before .before .before .args in rowAt (lists (a .hop .now) (a .lens .now) (a .link .now) (a .stride .now)) place
 
   hop-small : row .hop < HOPS
-  hop-small = omega (arith, c .before .before .shared-slice-known5 .given (c .before .before .before .before .before .before .before .before .loop .base + c .before .before .before .before .cut .result))
+  hop-small = omega (arith, c .before .before .shared-slice-known5 .given place)
 
   length-small : row .len < 256
-  length-small = omega (arith, c .before .shared-slice-known6 .given (c .before .before .before .before .before .before .before .before .loop .base + c .before .before .before .before .cut .result))
+  length-small = omega (arith, c .before .shared-slice-known6 .given place)
 
-  new-best : unpacked (c .best-after .result) ≡ newBest row (unpacked (c .before .before .before .before .before .before .before .before .loop .best))
-  new-best = packed-best row (c .before .before .before .before .before .before .before .before .loop .best) hop-small (c .best-after .ensures)
+  new-best : unpacked (c .best-after .result) ≡ newBest row (unpacked best)
+  new-best = packed-best row best hop-small (c .best-after .ensures)
 
   kept : IsPacked (c .best-after .result)
-  kept = still-packed row (c .before .before .before .before .before .before .before .before .loop .best) hop-small length-small (c .best-after .ensures) (c .before .before .before .before .before .before .before .before .loop .inv .3)
+  kept = still-packed row best hop-small length-small (c .best-after .ensures) (free .before .before .before .before .before .loop .inv .3)
 
 packed-numbers-requires : tie.Need-packed-numbers-requires Inv-loop μ-loop
 packed-numbers-requires c κs = kept (c .before .before)
@@ -131,23 +138,23 @@ packed-numbers-requires c κs = kept (c .before .before)
 returns-4 : tie.Need-returns-4 Inv-loop μ-loop
 returns-4 c =
     let done = c .before .before .before in
-    let free = done .before .before .before in
-    let l = done .before .before .before .before .before .before .before .before .loop in
-    let a = done .before .before .before .before .before .before .before .before .before .before .before .before .before .args in
+    let f = free done in
+    let l = f .before .before .before .before .before .loop in
+    let a = f .before .before .before .before .before .before .before .before .before .before .args in
     c .packed-numbers .ensures
     ∙ ap answerNumbers
     (sym (walk-ends _ _ (rowAt (lists (a .hop .now) (a .lens .now) (a .link .now) (a .stride .now))) _ _ _ _ _ _ {j = a .levels - (l .reads + 1)} (omega arith)
-    (can-read free) (row-is (free .before)) (new-best done) (c .before .if4 .taken))
+    (can-read f) (row-is (f .before)) (new-best done) (c .before .if4 .taken))
     ∙ l .inv .4)
 
 cast-base : tie.Need-cast-base Inv-loop μ-loop
-cast-base c = omega (arith, c .before .shared-slice-known7 .given (c .before .before .before .before .before .before .before .before .before .before .loop .base + c .before .before .before .before .before .before .cut .result))
+cast-base c = omega (arith, c .before .shared-slice-known7 .given (place (c .before .before)))
 
 shared-slice-read-s : tie.Need-shared-slice-read-s Inv-loop μ-loop
 shared-slice-read-s c = omega arith
 
 cast-s : tie.Need-cast-s Inv-loop μ-loop
-cast-s c = omega (arith, c .shared-slice-known8 .given (c .before .before .before .before .before .before .before .before .before .before .before .loop .base + c .before .before .before .before .before .before .before .cut .result))
+cast-s c = omega (arith, c .shared-slice-known8 .given (place (c .before .before .before)))
 
 loop-less : tie.Need-loop-less Inv-loop μ-loop
 loop-less c = omega arith
@@ -155,15 +162,15 @@ loop-less c = omega arith
 loop-again : tie.Need-loop-again Inv-loop μ-loop
 loop-again c =
     let done = c .before .before .before in
-    let free = done .before .before .before in
-    let l = done .before .before .before .before .before .before .before .before .loop in
-    let a = done .before .before .before .before .before .before .before .before .before .before .before .before .before .args in (
+    let f = free done in
+    let l = f .before .before .before .before .before .loop in
+    let a = f .before .before .before .before .before .before .before .before .before .before .args in (
       omega arith,
       omega arith,
-      omega (arith, c .before .before .shared-slice-known7 .given (l .base + done .before .before .before .before .cut .result)),
+      omega (arith, c .before .before .shared-slice-known7 .given (place done)),
       kept done,
       sym (walk-goes _ _ (rowAt (lists (a .hop .now) (a .lens .now) (a .link .now) (a .stride .now))) _ _ _ _ _ _ (omega arith)
-          (can-read free) (row-is (free .before)) (new-best done) (c .before .if4 .left)) ∙ l .inv .4,
+          (can-read f) (row-is (f .before)) (new-best done) (c .before .if4 .left)) ∙ l .inv .4,
     )
 
 refusal-numbers-requires-4 : tie.Need-refusal-numbers-requires-4 Inv-loop μ-loop
