@@ -1,16 +1,16 @@
 -- What the tests before the first row say: the facts behind each refusal, and those that are left where none is given.
 use Prim.Native.Nat.{ℕ, _^_, _≤_, _<_}
-use mathlib.Core.Path.{_≡_, refl}
+use mathlib.Core.Path.{_≡_, refl, _∙_}
 use mathlib.Core.Bool.{Bool, true, false, cond, not, _&&_, _||_, true≢false}
 use mathlib.Core.Logic.{_⊎_, inl, inr}
 use native.Mathlib.Omega.{arith}
 use lib.Dec.{leb, ltb, eqb}
-use borrow.Author.Tests.{le-ltb, ltb-true, ltb-false, leb-true, leb-false, eqb-true, eqb-false}
+use borrow.Author.Tests.{ne-eqb, le-ltb, ltb-true, ltb-false, leb-true, leb-false, eqb-true, eqb-false}
 use Rattle.walk.specs.declared.record.Record.{Record}
 use Rattle.walk.specs.Limits.{LEVELS, Outside, Within}
 use Rattle.table.specs.Limits.{outside}
 use Rattle.walk.specs.Rows.{root}
-use Rattle.walk.specs.Lookup.{unfit, refusalOf}
+use Rattle.walk.specs.Lookup.{unfit, refusalOf, firstRefusal}
 use Rattle.walk.specs.Meaning.{Passed}
 
 -- a number is 0 or above its limit, or it is within
@@ -45,6 +45,10 @@ unfit-cases e n r P f g = go (ltb n e) refl (eqb e 0) refl (eqb r 0) refl
     go false a false b true c = f (inr (eqb-true _ _ c, omega (arith, eqb-false e 0 b)))
     go false a false b false c = g (ltb-false _ _ a) (λ z. absurd (eqb-false _ _ c z))
 
+-- the number of the first of the four tests that fails
+abbrev firstOf : (w k a s : Bool) → ℕ
+firstOf w k a s = cond w 1 (cond k 2 (cond a 8 (cond s 9 0)))
+
 module _ (most : ℕ) (rec : Record) (n address : ℕ) where
   -- what holds of the first test that fails, and of none
   pub refusal-cases : (P : ℕ → Type 0)
@@ -69,6 +73,36 @@ module _ (most : ℕ) (rec : Record) (n address : ℕ) where
   tests-passed =
       refusal-cases (λ (m : ℕ). m ≡ 0 → Passed most rec n address) (λ o e. absurd (omega arith)) (λ w o e. absurd (omega arith))
       (λ w k o e. absurd (omega arith)) (λ w k a d e. absurd (omega arith)) (λ p e. p)
+
+  -- the tests that come before the root's stride: where one fails, it is the first of all; where none does, the root's is left
+  pub first-fails : (firstRefusal most rec n address ≡ 0 → ⊥) → firstRefusal most rec n address ≡ refusalOf most rec n address
+  unfolding firstRefusal refusalOf unfit
+  first-fails = go (outside (rec .width) most) (outside (rec .levels) LEVELS) (leb (2 ^ rec .width) address) (ltb n (rec .elements)) _
+    where
+      go : (w k a s r : Bool) → (firstOf w k a s ≡ 0 → ⊥) → firstOf w k a s ≡ firstOf w k a (s || r)
+      go true k a s r h = refl
+      go false true a s r h = refl
+      go false false true s r h = refl
+      go false false false true r h = refl
+      go false false false false r h = absurd (h refl)
+
+  pub first-passes : firstRefusal most rec n address ≡ 0 → refusalOf most rec n address ≡ cond (not (eqb (rec .elements) 0) && eqb (root rec) 0) 9 0
+  unfolding firstRefusal refusalOf unfit
+  first-passes = go (outside (rec .width) most) (outside (rec .levels) LEVELS) (leb (2 ^ rec .width) address) (ltb n (rec .elements)) _
+    where
+      go : (w k a s r : Bool) → firstOf w k a s ≡ 0 → firstOf w k a (s || r) ≡ cond r 9 0
+      go true k a s r e = absurd (omega arith)
+      go false true a s r e = absurd (omega arith)
+      go false false true s r e = absurd (omega arith)
+      go false false false true r e = absurd (omega arith)
+      go false false false false r e = refl
+
+  pub rooted-passes : firstRefusal most rec n address ≡ 0 → (root rec ≡ 0 → ⊥) → refusalOf most rec n address ≡ 0
+  rooted-passes e z = first-passes e ∙ rw (ne-eqb _ _ z) (go (eqb (rec .elements) 0))
+    where
+      go : (t : Bool) → _≡_ {A = ℕ} (cond (not t && false) 9 0) 0
+      go true = refl
+      go false = refl
 
 -- lists that have E rows pass the tests alike
 pub tests-same : (most : ℕ) (rec : Record) (n m address : ℕ) → rec .elements ≤ n → rec .elements ≤ m

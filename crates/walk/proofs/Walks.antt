@@ -1,18 +1,19 @@
 -- How a walk goes on from a block, one law for each way that the block can end, in the terms in which a loop has them; and
 -- how a lookup goes on from its tests.
 use Prim.Native.Nat.{ℕ, zero, suc, _+_, _-_}
-use mathlib.Core.Path.{_≡_, refl, ap}
-use mathlib.Core.Bool.{Bool, true, false, cond, _&&_}
+use mathlib.Core.Path.{_≡_, refl, sym, ap, _∙_}
+use mathlib.Core.Bool.{Bool, true, false, cond, not, _&&_}
 use native.Mathlib.Omega.{arith}
-use lib.Dec.{leb, ltb}
+use lib.Dec.{leb, ltb, eqb}
 use borrow.Author.Tests.{eq-eqb, ne-eqb, ltb-true, ltb-false, leb-true, leb-false}
 use Rattle.walk.specs.declared.record.Record.{Record}
 use Rattle.walk.specs.declared.walk.Answer.the-variants.{Refused}
 use Rattle.walk.specs.Rows.{Row, Lists, shortest, rowAt, root, rowOf}
 use Rattle.walk.specs.Answers.{HopLength, floorBest, newBest, latest, answer}
-use Rattle.walk.specs.Lookup.{readable, Trail, ended, behind, trail, tell, walk, fromRoot, pathOf, refusalOf, lookupOf}
+use Rattle.walk.specs.Lookup.{readable, Trail, ended, behind, trail, tell, walk, fromRoot, pathOf, refusalOf, firstRefusal, lookupOf}
 use Rattle.walk.specs.Meaning.{Readable, Damaged, no-stride, too-wide, past-end}
 use Rattle.walk.proofs.Unique.{not-both}
+use Rattle.walk.proofs.Tests.{first-passes}
 
 module _ (e address base s left : ℕ) where
   -- the test says which of the two a block is
@@ -84,3 +85,13 @@ module _ (most : ℕ) (rec : Record) (ls : Lists) (address : ℕ) where
         ≡ walk (rec .elements) address (rowAt ls) (rec .levels) 0 (root rec) (rec .width) (floorBest (rec .floor)) 0
     unfolding lookupOf walk
     lookup-walks z = rw (eq-eqb _ _ e, path-root rec ls address z)
+
+  -- where the root's stride is 0: the empty trie, or damage
+  pub lookup-rootless : firstRefusal most rec (shortest ls) address ≡ 0 → root rec ≡ 0
+      → lookupOf most rec ls address ≡ cond (eqb (rec .elements) 0) (answer (rec .floor) 0 0) (Refused 9)
+  lookup-rootless e z = go (eqb (rec .elements) 0) (first-passes most rec (shortest ls) address e ∙ rw (eq-eqb _ _ z) refl)
+    where
+      go : (t : Bool) → refusalOf most rec (shortest ls) address ≡ cond (not t && true) 9 0
+          → lookupOf most rec ls address ≡ cond t (answer (rec .floor) 0 0) (Refused 9)
+      go true p = lookup-empty p z
+      go false p = lookup-early (sym p) (λ h. omega arith)

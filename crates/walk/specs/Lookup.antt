@@ -74,6 +74,14 @@ refusalOf most rec n address =
     (cond (leb (2 ^ rec .width) address) 8
     (cond (unfit (rec .elements) n (root rec)) 9 0)))
 
+-- the same as far as it does not take the root's stride
+unfoldable pub firstRefusal : (most : ℕ) → Record → (n address : ℕ) → ℕ
+firstRefusal most rec n address =
+    cond (outside (rec .width) most) 1
+    (cond (outside (rec .levels) LEVELS) 2
+    (cond (leb (2 ^ rec .width) address) 8
+    (cond (ltb n (rec .elements)) 9 0)))
+
 unfoldable pub lookupOf : (most : ℕ) → Record → Lists → (address : ℕ) → Answer
 lookupOf most rec ls address =
     let n = refusalOf most rec (shortest ls) address in

@@ -8,8 +8,9 @@ ghost use lib.Dec.{eqb};
 ghost use Rattle.walk.specs.Limits.{WIDTH};
 ghost use Rattle.walk.specs.Rows.{lists, shortest, rowAt};
 ghost use Rattle.table.specs.Answers.{Told};
-ghost use Rattle.walk.specs.Answers.{floorBest, answerNumbers, answerOf};
-ghost use Rattle.walk.specs.Lookup.{walk, unfit, refusalOf, lookupOf};
+ghost use Rattle.walk.specs.Answers.{floorBest, answer, answerNumbers, answerOf};
+ghost use Rattle.walk.specs.declared.walk.Answer.the-variants.{Refused};
+ghost use Rattle.walk.specs.Lookup.{walk, firstRefusal, lookupOf};
 ghost use Rattle.walk.specs.Meaning.{Looked};
 ghost use Rattle.walk.specs.Packed.{packed};
 use crate::address::cut;
@@ -120,16 +121,9 @@ fn follow(
     refusal_numbers(9)
 }
 
-// Refusal 9 before a row is read: E exceeds the rows of the lists, or the root's stride is 0 while E is not.
-fn is_unfit(elements: usize, rows: usize, root: u8) -> bool
-    ensures { λ r. ⌜ r ≡ unfit elements rows root ⌝ }
-{
-    rows < elements || elements != 0 && root == 0
-}
-
-// The number of the first test that fails before a row is read, in the order 1, 2, 8, 9; 0 for none.
+// The number of the first test that fails before the root's stride is looked at, in the order 1, 2, 8, 9; 0 for none.
 fn first_refusal(rec: Record, rows: usize, address: u32) -> u32
-    ensures { λ r. ⌜ r ≡ refusalOf WIDTH rec rows address ⌝ }
+    ensures { λ r. ⌜ r ≡ firstRefusal WIDTH rec rows address ⌝ }
 {
     if is_outside(rec.width, WIDTH) {
         return 1;
@@ -140,10 +134,20 @@ fn first_refusal(rec: Record, rows: usize, address: u32) -> u32
     if is_beyond(address, rec.width) {
         return 8;
     }
-    if is_unfit(rec.elements as usize, rows, rec.strides[0]) {
+    if rows < rec.elements as usize {
         return 9;
     }
     0
+}
+
+// Where the root's stride is 0: the empty trie, or refusal 9 while E is not 0. A case of its own, so that no other lookup works it out.
+fn rootless(elements: u32, floor: u16) -> AnswerNumbers
+    ensures { λ r. ⌜ r ≡ answerNumbers (cond (eqb elements 0) (answer floor 0 0) (Refused 9)) ⌝ }
+{
+    if elements == 0 {
+        return hop_numbers(floor, 0, 0);
+    }
+    refusal_numbers(9)
 }
 
 // One lookup, over any record and any lists, in numbers: 0, hop, length and reads; or the number of a refusal, 1 (width), 2 (levels), 8
@@ -171,7 +175,7 @@ pub fn lookup_numbers(
     }
     let root = rec.strides[0] as u32;
     if root == 0 {
-        return hop_numbers(rec.floor, 0, 0);
+        return rootless(rec.elements, rec.floor);
     }
     follow(
         rec.elements as usize,

@@ -3,21 +3,21 @@ use borrow.Author.Needs.{needs}
 use Rattle.walk.specs.Limits.{WIDTH}
 use Rattle.walk.specs.Rows.{lists, shortest}
 use Rattle.walk.specs.Answers.{answerNumbers}
-use Rattle.walk.specs.Lookup.{refusalOf}
-use Rattle.walk.proofs.Tests.{tests-passed}
-use Rattle.walk.proofs.Walks.{lookup-early, lookup-empty, lookup-walks}
+use Rattle.walk.specs.Lookup.{firstRefusal}
+use Rattle.walk.proofs.Tests.{tests-passed, first-fails, rooted-passes}
+use Rattle.walk.proofs.Walks.{lookup-early, lookup-rootless, lookup-walks}
 use Rattle.walk.proofs.Looked.{promised-numbers}
 use Rattle.walk.proofs.walk.lookup_numbers.Statement.{statement}
 use Rattle.walk.proofs.walk.lookup_numbers.Tie as tie
 
 -- the number that the tests gave is that of the shortest list
 number : (c : tie.After-first-refusal) → let a = c .before .before .before .before .before .before .before .before .args in
-    c .first-refusal .result ≡ refusalOf WIDTH (a .t1) (shortest (lists (a .hop .now) (a .lens .now) (a .link .now) (a .stride .now))) (a .address)
+    c .first-refusal .result ≡ firstRefusal WIDTH (a .t1) (shortest (lists (a .hop .now) (a .lens .now) (a .link .now) (a .stride .now))) (a .address)
 number c = rw (c .before .smaller3 .ensures, c .before .before .smaller2 .ensures, c .before .before .before .smaller .ensures) at (c .first-refusal .ensures)
 
 -- no test failed
 zero-number : (c : tie.Else1) → let a = c .before .before .before .before .before .before .before .before .before .args in
-    refusalOf WIDTH (a .t1) (shortest (lists (a .hop .now) (a .lens .now) (a .link .now) (a .stride .now))) (a .address) ≡ 0
+    firstRefusal WIDTH (a .t1) (shortest (lists (a .hop .now) (a .lens .now) (a .link .now) (a .stride .now))) (a .address) ≡ 0
 zero-number c = sym (number (c .before)) ∙ c .if1 .left
 
 smaller-requires : tie.Need-smaller-requires
@@ -36,7 +36,10 @@ refusal-numbers-requires : tie.Need-refusal-numbers-requires
 refusal-numbers-requires c κs = search needs
 
 returns : tie.Need-returns
-returns c = promised-numbers _ _ _ _ (c .refusal-numbers .ensures ∙ ap answerNumbers (sym (lookup-early _ _ _ _ (number (c .before .before)) (c .before .if1 .taken))))
+returns c =
+    let n = number (c .before .before) in
+    let first = first-fails _ _ _ _ (λ z. c .before .if1 .taken (n ∙ z)) in
+    promised-numbers _ _ _ _ (c .refusal-numbers .ensures ∙ ap answerNumbers (sym (lookup-early _ _ _ _ (n ∙ first) (c .before .if1 .taken))))
 
 element-copy-out-root : tie.Need-element-copy-out-root
 element-copy-out-root c = search needs
@@ -44,24 +47,26 @@ element-copy-out-root c = search needs
 cast-root : tie.Need-cast-root
 cast-root c = search needs
 
-hop-numbers-requires : tie.Need-hop-numbers-requires
-hop-numbers-requires c κs = search needs
+rootless-requires : tie.Need-rootless-requires
+rootless-requires c κs = search needs
 
 returns-2 : tie.Need-returns-2
 returns-2 c =
     promised-numbers _ _ _ _
-    (c .hop-numbers .ensures ∙ ap answerNumbers (sym (lookup-empty _ _ _ _ (zero-number (c .before .before .before)) (c .before .if2 .taken))))
+    (c .rootless .ensures ∙ ap answerNumbers (sym (lookup-rootless _ _ _ _ (zero-number (c .before .before .before)) (c .before .if2 .taken))))
 
 cast-follow : tie.Need-cast-follow
 cast-follow c = search needs
 
 follow-requires : tie.Need-follow-requires
-follow-requires c κs = let p = tests-passed _ _ _ _ (zero-number (c .before .before)) in (p .enough, p .width .1)
+follow-requires c κs =
+    let p = tests-passed _ _ _ _ (rooted-passes _ _ _ _ (zero-number (c .before .before)) (c .if2 .left)) in (p .enough, p .width .1)
 
 returns-3 : tie.Need-returns-3
 returns-3 c =
-    promised-numbers _ _ _ _
-    (c .follow .ensures ∙ ap answerNumbers (sym (lookup-walks _ _ _ _ (zero-number (c .before .before .before)) (c .before .if2 .left))))
+    let left = c .before .if2 .left in
+    let passed = rooted-passes _ _ _ _ (zero-number (c .before .before .before)) left in
+    promised-numbers _ _ _ _ (c .follow .ensures ∙ ap answerNumbers (sym (lookup-walks _ _ _ _ passed left)))
 
 pub lookup-numbers-spec : {M : Type 1} → statement M
 lookup-numbers-spec =
@@ -75,7 +80,7 @@ lookup-numbers-spec =
     returns
     element-copy-out-root
     cast-root
-    hop-numbers-requires
+    rootless-requires
     returns-2
     cast-follow
     follow-requires
