@@ -13,7 +13,7 @@ use Rattle.tries.specs.Limits.{ELEMENTS}
 use Rattle.walk.specs.Rows.{Row, Lists, shortest, rowAt}
 use Rattle.choosers.specs.Scratch.{ROW, DEPTH, ask, strideAt}
 use Rattle.layout.specs.Blocks.{Strides, wide, rowBelow, listOf, blockRows, levelRows, firstRow, levelsRows, rowsOf, rowCount, Hold}
-use Rattle.tries.specs.Filling.{FillAsks, FillGives, LevelAsks, LevelGives, LayAsks, LayGives}
+use Rattle.tries.specs.Filling.{FillAsks, FillGives, LevelAsks, LevelGives, LayAsks, LayGives, CanPass, Passes, begun, between}
 use Rattle.layout.proofs.Blocks.{hold-append, hold-all, hold-kept, level-length, wide-sides, level-sides, wide-own, level-own, wide-below, level-below}
 use Rattle.layout.proofs.Blocks.{wide-deep, level-deep, first-next, first-le, levels-length}
 use Rattle.tries.proofs.Standing.{zero?, trunk-fits, trunk-deep, trunk-none, trunk-some, trunk-width, trunk-left, trunk-right, trunk-child, trunk-level, trunk-stride, trunk-below}
@@ -151,6 +151,25 @@ module _ {σ : Strides} {t : Trie} {rows plan : List ℕ} {k w n r base free : �
       before = o .before;
       after = o .after;
     })
+
+-- ---- from a node to its children: a block that begins at it is passed
+module _ {σ : Strides} {t : Trie} {rows plan : List ℕ} {k w c n r base free : ℕ} {ls : Lists}
+    (g : LevelAsks σ t rows plan k w c n r base free ls) (some : 0 < k) where
+  pub can-pass : (c ≡ 0 → 0 < n) → c ≡ 0 → CanPass rows plan k n r
+  can-pass more z =
+      let h = at-block z g in
+      let b = block-bounds h some in
+      let e : r ≡ suc (r - 1) = omega (arith, b .level) in
+      record { fits = b .fits; blocks = more z; level = b .level; levels = b .levels; planned = b .planned; stride = stride-positive h some refl e }
+
+  pub pass-asks : {gap blocks levels : ℕ} → Passes rows plan k c n r gap blocks levels → LevelAsks σ t rows plan k w (suc gap) blocks levels base free ls
+  pass-asks (begun z s en er) = below-asks (at-block z g) some s er en
+  pass-asks (between e en er) = rw (e, en, er) at g
+
+  pub pass-gives : {gap blocks levels base′ f : ℕ} {ls′ : Lists} → Passes rows plan k c n r gap blocks levels
+      → LevelGives σ t (suc gap) blocks levels base free ls base′ f ls′ → LevelGives σ t c n r base free ls base′ f ls′
+  pass-gives (begun z s en er) o = from-block z (below-gives (at-block z g) some s er en o)
+  pass-gives (between e en er) o = rw (e, en, er) o
 
 -- ---- a node between blocks: its two sides
 module _ {σ : Strides} {t : Trie} {rows plan : List ℕ} {k w c n r base free : ℕ} {ls : Lists}

@@ -1,7 +1,7 @@
 -- What the functions that write element rows ask and give: the rows below a node (fill), the blocks of a level (level), all
 -- levels (lay). Each asks for some trie and strides that stand in the scratch rows, and gives the rows of every such trie and
 -- strides, so that nobody has to show that two of them are one. The rows before and after those it writes it keeps.
-use Prim.Native.Nat.{ℕ, suc, _+_, _^_, _≤_, _<_}
+use Prim.Native.Nat.{ℕ, suc, _+_, _*_, _^_, _≤_, _<_}
 use mathlib.Core.Path.{_≡_}
 use mathlib.Core.List.{List}
 use lib.ListN.{length, getD}
@@ -10,7 +10,7 @@ use Rattle.strides.specs.Strides.{Good}
 use Rattle.walk.specs.Limits.{WIDTH, LEVELS}
 use Rattle.tries.specs.Limits.{ELEMENTS}
 use Rattle.walk.specs.Rows.{Lists, shortest, rowAt}
-use Rattle.choosers.specs.Scratch.{Stands}
+use Rattle.choosers.specs.Scratch.{ROW, Stands, strideAt}
 use Rattle.layout.specs.Marks.{hopIn, lengthIn}
 use Rattle.layout.specs.Blocks.{Strides, wide, rowBelow, levelRows, rowsOf, rowCount, Hold}
 
@@ -63,6 +63,23 @@ CanFill rows plan k c r base free ls = (σ : Strides) × (t : Trie) × FillAsks 
 abbrev pub Fills : (rows plan : List ℕ) (k c r base best free : ℕ) → Lists → (free′ : ℕ) → Lists → Type 0
 Fills rows plan k c r base best free ls free′ ls′ =
     (σ : Strides) (t : Trie) → FillAsks σ t rows plan k c r base free ls → FillGives σ t c r base best free ls free′ ls′
+
+-- ---- from a node to its children, where the next block begins c levels below the node, n blocks are passed before those of the level, and
+-- r levels are left
+
+-- a block begins at link k and is passed
+pub record CanPass (rows plan : List ℕ) (k n r : ℕ) : Type 0 where
+  pub fits : k * ROW ≤ length rows
+  pub blocks : 0 < n
+  pub level : 0 < r
+  pub levels : r ≤ length plan
+  pub planned : length plan ≤ LEVELS
+  pub stride : 0 < strideAt rows plan k r
+
+-- the next block begins `gap` levels below the children
+pub data Passes (rows plan : List ℕ) (k c n r gap blocks levels : ℕ) : Type 0 where
+  begun : c ≡ 0 → suc gap ≡ strideAt rows plan k r → n ≡ suc blocks → r ≡ suc levels → Passes rows plan k c n r gap blocks levels
+  between : c ≡ suc gap → n ≡ blocks → r ≡ levels → Passes rows plan k c n r gap blocks levels
 
 -- ---- the blocks of level n below the trie at link k, from row `base` on
 pub record LevelAsks (σ : Strides) (t : Trie) (rows plan : List ℕ) (k w c n r base free : ℕ) (ls : Lists) : Type 0 where

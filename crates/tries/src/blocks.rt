@@ -2,16 +2,18 @@
 // one walk of the trie that goes left to right and carries the row of the next block and the row of the next child block.
 // The scratch rows are only read. One builder serves every kind of stride choice (proved for any that can be built).
 ghost use mathlib.Core.Path.{_≡_};
+ghost use mathlib.Core.Bool.{_&&_};
 ghost use Prim.Native.Nat.{_+_, _*_, _^_, _<_, _≤_};
+ghost use lib.Dec.{eqb, leb};
 ghost use lib.ListN.{length, set};
 ghost use Rattle.table.specs.Longest.{newer};
 ghost use Rattle.walk.specs.Limits.{WIDTH};
 ghost use Rattle.choosers.specs.Limits.{BYTE};
 ghost use Rattle.tries.specs.Limits.{LINKS};
 ghost use Rattle.walk.specs.Rows.{lists, shortest};
-ghost use Rattle.choosers.specs.Scratch.{ROW, MARKS, ask};
+ghost use Rattle.choosers.specs.Scratch.{ROW, MARKS, DEPTH, ask};
 ghost use Rattle.layout.specs.Marks.{hopIn, lengthIn};
-ghost use Rattle.tries.specs.Filling.{Spread, Bare, CanFill, Fills, CanBlock, WritesBlock, CanLevel, WritesLevel, CanLay, Lays};
+ghost use Rattle.tries.specs.Filling.{Spread, Bare, CanFill, Fills, CanBlock, WritesBlock, CanPass, Passes, CanLevel, WritesLevel, CanLay, Lays};
 use crate::scratch::asked;
 use crate::scratch::stride_at;
 use choosers::DEPTH;
@@ -238,9 +240,55 @@ fn block(
     Front { base: end, free: f }
 }
 
+// Whether the block that is asked for begins here: none is to be passed, nor a level.
+fn is_own(c: usize, n: usize) -> bool
+    ensures { λ r. ⌜ r ≡ (eqb c 0 && eqb n 0) ⌝ }
+{
+    c == 0 && n == 0
+}
+
+// Whether a block begins at link k whose subtrie is too shallow for n further ones.
+fn is_shallow(rows: &[u64], k: usize, c: usize, n: usize) -> bool
+    requires { ⌜ k * ROW ≤ length (now rows) ⌝ }
+    ensures { λ r. ⌜ r ≡ (eqb c 0 && leb (ask (now (rows .entry)) k DEPTH) n) ⌝ }
+{
+    if c != 0 {
+        return false;
+    }
+    asked(rows, k, DEPTH) <= n
+}
+
+// From a node's children on: the levels to the next block, the blocks to pass after it, and the levels left with it.
+struct Ahead {
+    gap: usize,
+    blocks: usize,
+    levels: usize,
+}
+
+// What lies ahead of the children of link k, where c, n and r are the same for the node itself: a block that begins at it is passed.
+fn pass(rows: &[u64], plan: &[u8], k: usize, c: usize, n: usize, r: usize) -> Ahead
+    requires { ⌜ (c ≡ 0 → CanPass (now rows) (now plan) k n r) ⌝ }
+    ensures { λ a. ⌜ Passes (now (rows .entry)) (now (plan .entry)) k c n r (a .gap) (a .blocks) (a .levels) ⌝ }
+{
+    if c != 0 {
+        return Ahead {
+            gap: c - 1,
+            blocks: n,
+            levels: r,
+        };
+    }
+    let s = stride_at(rows, plan, k, r);
+    Ahead {
+        gap: s - 1,
+        blocks: n - 1,
+        levels: r - 1,
+    }
+}
+
 // Writes the blocks of level n below the trie at link k, left to right, from row `to.base` on. The next block on a path begins c
 // levels lower, with r levels left; w address bits are left. The n-th block after one begins at least n levels lower, so a subtrie
-// that is too shallow for it is left. Where one side alone has a node, the other is not called for: a call hands six lists down.
+// that is too shallow for it is left. A call hands six lists down, so there are few: one a node, in which a block that begins there is
+// passed too, and none for a side without a node where the other has one.
 fn level(
     rows: &[u64],
     plan: &[u8],
@@ -264,30 +312,27 @@ fn level(
     if k == 0 {
         return to;
     }
-    if c == 0 {
-        if n == 0 {
-            return block(rows, plan, k, r, to, hop, lens, link, stride);
-        }
-        if asked(rows, k, DEPTH) <= n {
-            return to;
-        }
-        let s = stride_at(rows, plan, k, r);
-        let m = n - 1;
-        let q = r - 1;
-        return level(rows, plan, k, w, s, m, q, to, hop, lens, link, stride);
+    if is_own(c, n) {
+        return block(rows, plan, k, r, to, hop, lens, link, stride);
     }
+    if is_shallow(rows, k, c, n) {
+        return to;
+    }
+    let a = pass(rows, plan, k, c, n, r);
+    let d = a.gap;
+    let m = a.blocks;
+    let q = a.levels;
     let k0 = asked(rows, k, 0);
     let k1 = asked(rows, k, 1);
     let v = w - 1;
-    let d = c - 1;
     if k0 == 0 {
-        return level(rows, plan, k1, v, d, n, r, to, hop, lens, link, stride);
+        return level(rows, plan, k1, v, d, m, q, to, hop, lens, link, stride);
     }
-    let then = level(rows, plan, k0, v, d, n, r, to, hop, lens, link, stride);
+    let then = level(rows, plan, k0, v, d, m, q, to, hop, lens, link, stride);
     if k1 == 0 {
         return then;
     }
-    level(rows, plan, k1, v, d, n, r, then, hop, lens, link, stride)
+    level(rows, plan, k1, v, d, m, q, then, hop, lens, link, stride)
 }
 
 // Writes all rows of the trie at link `root`, level by level, and returns their number E. `width` is the number of address
