@@ -32,10 +32,24 @@ abbrev level-below : ℕ → In 6 level-kinds.ps
 level-below t = and 6 level-kinds.ps (falls 6 level-kinds.ps _<_ μ-level t) level.Pre
 
 abbrev cs : ℕ → level-lts.Claims
-cs t = (is-own-reads.Asked, is-own-reads.Learnt, block-reads.Asked, block-reads.Learnt, is-shallow-reads.Asked, is-shallow-reads.Learnt, pass-reads.Asked, pass-reads.Learnt, asked-reads.Asked, asked-reads.Learnt, level-below t, level.Post)
+cs t = (
+  is-own-reads.Asked,
+  is-own-reads.Learnt,
+  block-reads.Asked,
+  block-reads.Learnt,
+  is-shallow-reads.Asked,
+  is-shallow-reads.Learnt,
+  pass-reads.Asked,
+  pass-reads.Learnt,
+  asked-reads.Asked,
+  asked-reads.Learnt,
+  level-below t,
+  level.Post,
+)
 
 -- the block asked for begins here
-own : {t : ℕ} (c : level-lts.Then2 (cs t) (level-at t) level.Post) → (c .before .before .before .before .before .before .before .before .before .args .c ≡ 0) × (c .before .before .before .before .before .before .before .before .before .args .n ≡ 0)
+own : {t : ℕ} (c : level-lts.Then2 (cs t) (level-at t) level.Post)
+    → let a = c .before .before .before .before .before .before .before .before .before .args in (a .c ≡ 0) × (a .n ≡ 0)
 own c = let z = and-true _ _ (sym (c .before .is-own .ensures) ∙ c .if2 .taken) in (eqb-true _ _ (z .0), eqb-true _ _ (z .1))
 
 -- it does not: where a block begins, others are to be passed
@@ -47,7 +61,8 @@ not-own c n e z = go (eqb n 0) refl (rw (eq-eqb c 0 z) at e)
     go false f e = omega (arith, eqb-false n 0 f)
 
 -- past these tests a node stands here
-some : {t : ℕ} (c : level-lts.After-asked2 (cs t) (level-at t) level.Post) → 0 < c .before .before .before .before .before .before .before .before .before .before .before .before .before .before .args .k
+some : {t : ℕ} (c : level-lts.After-asked2 (cs t) (level-at t) level.Post)
+    → 0 < c .before .before .before .before .before .before .before .before .before .before .before .before .before .before .args .k
 some c = omega (arith, c .before .before .before .before .before .before .before .if1 .left)
 
 level-returns : (t : ℕ) → level-lts.Need-returns (cs t) (level-at t) level.Post
@@ -76,9 +91,10 @@ level-same-length-4 t c = search needs
 
 level-returns-2 : (t : ℕ) → level-lts.Need-returns-2 (cs t) (level-at t) level.Post
 level-returns-2 t c =
-    let S = c .before .before .before .before .before .before .before .before .before .before .before .before .before .before .before .before .before .before .before .before .before .before in
-    let z = own (c .before .before .before .before .before .before .before .before .before .before .before .before .before) in
-    λ σ u g. from-block (z .0) (from-own (z .1) (c .before .before .before .before .before .before .before .before .block .ensures (S .args .w) σ u (at-own (z .1) (at-block (z .0) g))))
+    let c8 = c .before .before .before .before .before .before .before .before in
+    let c13 = c8 .before .before .before .before .before in
+    let z = own c13 in
+    λ σ u g. from-block (z .0) (from-own (z .1) (c8 .block .ensures (c13 .before .before .before .before .before .before .before .before .before .args .w) σ u (at-own (z .1) (at-block (z .0) g))))
 
 level-is-shallow-requires : (t : ℕ) → level-lts.Need-is-shallow-requires (cs t) (level-at t) level.Post
 level-is-shallow-requires t c κs = side-bounds (c .before .before .before .before .before .before .before .before .before .pre .1 .2) (omega (arith, c .before .before .if1 .left)) .0
@@ -92,16 +108,23 @@ level-returns-3 t c =
 level-pass-requires : (t : ℕ) → level-lts.Need-pass-requires (cs t) (level-at t) level.Post
 level-pass-requires t c κs =
     let S = c .before .before .before .before .before .before .before .before .before .before .before in
-    can-pass (S .pre .1 .2) (omega (arith, c .before .before .before .before .if1 .left)) (not-own (S .args .c) (S .args .n) (sym (c .before .before .before .is-own .ensures) ∙ c .before .before .if2 .left))
+    let e = sym (c .before .before .before .is-own .ensures) ∙ c .before .before .if2 .left in
+    can-pass (S .pre .1 .2) (omega (arith, c .before .before .before .before .if1 .left)) (not-own (S .args .c) (S .args .n) e)
 
 level-asked-requires : (t : ℕ) → level-lts.Need-asked-requires (cs t) (level-at t) level.Post
-level-asked-requires t c κs = omega (arith, side-bounds (c .before .before .before .before .before .before .before .before .before .before .before .before .pre .1 .2) (omega (arith, c .before .before .before .before .before .if1 .left)))
+level-asked-requires t c κs =
+    let e = c .before .before .before .before .before in
+    omega (arith, side-bounds (e .before .before .before .before .before .before .before .pre .1 .2) (omega (arith, e .if1 .left)))
 
 level-asked-requires-2 : (t : ℕ) → level-lts.Need-asked-requires-2 (cs t) (level-at t) level.Post
-level-asked-requires-2 t c κs = omega (arith, side-bounds (c .before .before .before .before .before .before .before .before .before .before .before .before .before .pre .1 .2) (omega (arith, c .before .before .before .before .before .before .if1 .left)))
+level-asked-requires-2 t c κs =
+    let e = c .before .before .before .before .before .before in
+    omega (arith, side-bounds (e .before .before .before .before .before .before .before .pre .1 .2) (omega (arith, e .if1 .left)))
 
 level-sub-v : (t : ℕ) → level-lts.Need-sub-v (cs t) (level-at t) level.Post
-level-sub-v t c = omega (arith, side-bounds (c .before .before .before .before .before .before .before .before .before .before .before .before .before .before .pre .1 .2) (omega (arith, c .before .before .before .before .before .before .before .if1 .left)))
+level-sub-v t c =
+    let e = c .before .before .before .before .before .before .before in
+    omega (arith, side-bounds (e .before .before .before .before .before .before .before .pre .1 .2) (omega (arith, e .if1 .left)))
 
 level-level-requires : (t : ℕ) → level-lts.Need-level-requires (cs t) (level-at t) level.Post
 level-level-requires t c κs =
@@ -127,13 +150,15 @@ level-same-length-8 t c = search needs
 
 level-returns-4 : (t : ℕ) → level-lts.Need-returns-4 (cs t) (level-at t) level.Post
 level-returns-4 t c =
-    let a = c .before .before .before .before .before .before .before .before .before .before .before .before .before .before in
+    let c8 = c .before .before .before .before .before .before .before .before in
+    let c13 = c8 .before .before .before .before .before in
+    let a = c13 .before in
     let p = a .before .before .pass .ensures in
-    let z = c .before .before .before .before .before .before .before .before .before .before .before .before .before .if4 .taken in
+    let z = c13 .if4 .taken in
     let q = a .before .asked .ensures in
     λ σ u g.
     let h = pass-asks g (some a) p in
-    pass-gives g (some a) p (only-second-gives h refl z q (c .before .before .before .before .before .before .before .before .level .ensures σ (right u) (only-second-asks h refl z q (a .asked2 .ensures))))
+    pass-gives g (some a) p (only-second-gives h refl z q (c8 .level .ensures σ (right u) (only-second-asks h refl z q (a .asked2 .ensures))))
 
 level-level-requires-2 : (t : ℕ) → level-lts.Need-level-requires-2 (cs t) (level-at t) level.Post
 level-level-requires-2 t c κs =
@@ -157,9 +182,10 @@ level-same-length-12 t c = search needs
 
 level-returns-5 : (t : ℕ) → level-lts.Need-returns-5 (cs t) (level-at t) level.Post
 level-returns-5 t c =
-    let a = c .before .before .before .before .before .before .before .before .before .before .before .before .before .before .before in
+    let c9 = c .before .before .before .before .before .before .before .before .before in
+    let a = c9 .before .before .before .before .before .before in
     let p = a .before .before .pass .ensures in
-    let F = c .before .before .before .before .before .before .before .before .before .level2 in
+    let F = c9 .level2 in
     λ σ u g.
     let h = pass-asks g (some a) p in
     let o = F .ensures σ (left u) (first-asks h refl (a .before .asked .ensures)) in
@@ -167,9 +193,10 @@ level-returns-5 t c =
 
 level-level-requires-3 : (t : ℕ) → level-lts.Need-level-requires-3 (cs t) (level-at t) level.Post
 level-level-requires-3 t c κs =
-    let a = c .before .before .before .before .before .before .before .before .before .before .before .before .before .before .before .before .before .before .before in
+    let c13 = c .before .before .before .before .before .before .before .before .before .before .before .before .before in
+    let a = c13 .before .before .before .before .before .before in
     let S = a .before .before .before .before .before .before .before .before .before .before .before .before .before .before in
-    let F = c .before .before .before .before .before .before .before .before .before .before .before .before .before .level2 in
+    let F = c13 .level2 in
     let g = S .pre .1 .2 in
     let h = pass-asks g (some a) (a .before .before .pass .ensures) in
     let o = F .ensures (S .pre .1 .0) (left (S .pre .1 .1)) (first-asks h refl (a .before .asked .ensures)) in (
@@ -191,13 +218,15 @@ level-same-length-16 t c = search needs
 
 level-returns-6 : (t : ℕ) → level-lts.Need-returns-6 (cs t) (level-at t) level.Post
 level-returns-6 t c =
-    let a = c .before .before .before .before .before .before .before .before .before .before .before .before .before .before .before .before .before .before .before .before .before .before .before .before .before .before .before .before in
+    let c8 = c .before .before .before .before .before .before .before .before in
+    let c22 = c8 .before .before .before .before .before .before .before .before .before .before .before .before .before .before in
+    let a = c22 .before .before .before .before .before .before in
     let p = a .before .before .pass .ensures in
-    let F = c .before .before .before .before .before .before .before .before .before .before .before .before .before .before .before .before .before .before .before .before .before .before .level2 in
+    let F = c22 .level2 in
     λ σ u g.
     let h = pass-asks g (some a) p in
     let o = F .ensures σ (left u) (first-asks h refl (a .before .asked .ensures)) in
-    pass-gives g (some a) p (sides-give h refl (omega (arith, F .kept)) o (c .before .before .before .before .before .before .before .before .level3 .ensures σ (right u) (second-asks h refl (omega (arith, F .kept)) o (a .asked2 .ensures))))
+    pass-gives g (some a) p (sides-give h refl (omega (arith, F .kept)) o (c8 .level3 .ensures σ (right u) (second-asks h refl (omega (arith, F .kept)) o (a .asked2 .ensures))))
 
 pub +level-spec : {M : Type 1} → statement M
 +level-spec = close μ-level λ t. level-lts.spec (cs t)
