@@ -39,10 +39,9 @@ fn best_after(hop: u16, len: u8, best: u32) -> u32
     ensures { λ r. ⌜ r ≡ cond (eqb hop 0) best (packed hop len) ⌝ }
 {
     if hop == 0 {
-        best
-    } else {
-        hop as u32 + len as u32 * HOPS
+        return best;
     }
+    hop as u32 + len as u32 * HOPS
 }
 
 // The answer that numbers say: hop 0 is no route, DISCARD a discard.
