@@ -2,7 +2,7 @@
 //! address gets the same hop and the same length.
 
 use hongsamuk::{build, build_bitmap, lookup, lookup_bitmap, Answer, Bitmap, BitmapRows, BitmapRowsMut};
-use hongsamuk::{BuiltBitmap, Kind, Outcome, Record, Rows, RowsMut, Table, DISCARD, NODE_ROW, SCRATCH_ROW};
+use hongsamuk::{BuiltBitmap, Kind, Outcome, Record, Rows, RowsMut, Table, NODE_ROW, SCRATCH_ROW};
 
 const TABLE: Table = Table {
     width: 7,

@@ -9,7 +9,7 @@ use Prim.Native.Nat.{ℕ, _+_, _-_, _*_, _≤_, _<_}
 use lib.ListN.{length, getD}
 use lib.Dec.{eqb}
 use Rattle.strides.specs.Trie.{Trie, none, node, depth}
-use Rattle.walk.specs.Limits.{LEVELS}
+use Rattle.walk.specs.Limits.{LEVELS, HOPS}
 use Rattle.layout.specs.Marks.{LENGTHS}
 
 -- ---- the columns, under the names that the code gives them
@@ -38,9 +38,9 @@ ROW = STRIDE + LEVELS
 row-numbers : ROW ≡ 72
 row-numbers = refl
 
--- a mark is below this: it is a hop of 16 bits and a length in one
+-- a mark is below this: it is a hop and a length in one
 abbrev pub MARKS : ℕ
-MARKS = 65536 * LENGTHS
+MARKS = HOPS * LENGTHS
 
 -- ---- reading a row
 

@@ -24,7 +24,7 @@ use Rattle.supernodes.specs.Spans.{NODES, CountAsk, CountedNodes}
 use Rattle.supernodes.specs.Limits.{NODE-ROW}
 use Rattle.supernodes.specs.Linked.{linkAt, GrowIn, GrowAsk, Grown, Put, subAt, treeAt}
 use Rattle.supernodes.specs.Waiting.{LineIn, LineAsk, Lined, HoldsQueue}
-use Rattle.supernodes.specs.Marking.{HOPS}
+use Rattle.walk.specs.Limits.{HOPS}
 use Rattle.supernodes.specs.Fitting.{FitTable, TableLined}
 use Rattle.supernodes.specs.Build.{nodesTest, upToScratch}
 use Rattle.supernodes.proofs.Sides.{nodes-few}

@@ -9,7 +9,7 @@ use Rattle.pieces.specs.Rows.{supernodeRows, marksOfAll}
 use Rattle.visits.specs.Rows.{RowLists, rowRoom, supernodeAt, HoldRows, HoldHops}
 use Rattle.supernodes.specs.Spans.{NODES}
 use Rattle.supernodes.specs.Waiting.{HoldsQueue}
-use Rattle.supernodes.specs.Marking.{HOPS}
+use Rattle.walk.specs.Limits.{HOPS}
 
 pub record FileIn (tree : ℕ → BinaryTrie) (used : ℕ) (ts : List BinaryTrie) (rows : List ℕ) (count : ℕ)
     (lists : RowLists) (hops : List ℕ) : Type 0 where

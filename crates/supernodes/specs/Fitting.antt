@@ -8,7 +8,7 @@ use Rattle.pieces.specs.Rows.{supernodesOf}
 use Rattle.supernodes.specs.Limits.{NODE-ROW}
 use Rattle.supernodes.specs.Linked.{treeAt}
 use Rattle.supernodes.specs.Waiting.{HoldsQueue}
-use Rattle.supernodes.specs.Marking.{HOPS}
+use Rattle.walk.specs.Limits.{HOPS}
 
 pub record FitTable (W : ℕ) (vs ls hs scratch : List ℕ) : Type 0 where
   pub table : Table W vs ls hs

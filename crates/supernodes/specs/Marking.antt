@@ -9,15 +9,12 @@ use Rattle.table.specs.Limits.{entryLimit}
 use Rattle.pieces.specs.BinaryTrie.{BinaryTrie, mark}
 use Rattle.pieces.specs.Maps.{INTERNAL, EXTERNAL, ifMark, kids, marks}
 use Rattle.pieces.specs.Rows.{SupernodeRow, ifAny, supernodeRow}
+use Rattle.walk.specs.Limits.{HOPS}
 use Rattle.visits.specs.Rows.{RowLists, rowRoom, HoldHops}
 use Rattle.supernodes.specs.Spans.{NODES}
 use Rattle.supernodes.specs.Limits.{NODE-ROW}
 use Rattle.supernodes.specs.Linked.{rowColumn, nodeColumn, Nodes}
 use Rattle.supernodes.specs.Spots.{ALL-PLACES}
-
--- what a hop and a mark are below: they have 16 bits
-abbrev pub HOPS : ℕ
-HOPS = 65536
 
 -- no supernode's children begin later: they are numbered in turn, 16 at most to a node
 abbrev pub CHILDREN : ℕ

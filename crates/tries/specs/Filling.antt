@@ -1,5 +1,5 @@
--- What the functions that write element rows ask and give: the rows below a node (fill), the blocks of a level (level), all
--- levels (lay). Each asks for some trie and strides that stand in the scratch rows, and gives the rows of every such trie and
+-- What the functions that write element rows ask and give: the rows below a node (fill), a node passed on the way (pass), the blocks of a
+-- level (level), all levels (lay). Each asks for some trie and strides that stand in the scratch rows, and gives the rows of every such trie and
 -- strides, so that nobody has to show that two of them are one. The rows before and after those it writes it keeps.
 use Prim.Native.Nat.{ℕ, suc, _+_, _*_, _^_, _≤_, _<_}
 use mathlib.Core.Path.{_≡_}

@@ -259,26 +259,26 @@ fn is_shallow(rows: &[u64], k: usize, c: usize, n: usize) -> bool
 }
 
 // From a node's children on: the levels to the next block, the blocks to pass after it, and the levels left with it.
-struct Ahead {
+struct Onward {
     gap: usize,
     blocks: usize,
     levels: usize,
 }
 
 // What lies ahead of the children of link k, where c, n and r are the same for the node itself: a block that begins at it is passed.
-fn pass(rows: &[u64], plan: &[u8], k: usize, c: usize, n: usize, r: usize) -> Ahead
+fn pass(rows: &[u64], plan: &[u8], k: usize, c: usize, n: usize, r: usize) -> Onward
     requires { ⌜ (c ≡ 0 → CanPass (now rows) (now plan) k n r) ⌝ }
     ensures { λ a. ⌜ Passes (now (rows .entry)) (now (plan .entry)) k c n r (a .gap) (a .blocks) (a .levels) ⌝ }
 {
     if c != 0 {
-        return Ahead {
+        return Onward {
             gap: c - 1,
             blocks: n,
             levels: r,
         };
     }
     let s = stride_at(rows, plan, k, r);
-    Ahead {
+    Onward {
         gap: s - 1,
         blocks: n - 1,
         levels: r - 1,

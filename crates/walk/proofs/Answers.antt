@@ -15,7 +15,8 @@ use Rattle.walk.specs.declared.walk.Answer.the-variants.{Match, Discard,
 use Rattle.walk.specs.declared.numbers.AnswerNumbers.{AnswerNumbers}
 use Rattle.walk.specs.Rows.{Row}
 use Rattle.walk.specs.Answers.{numberOf, hopOf, lengthOf, readsOf, Case, HopLength, floorBest, rowBest, newBest, latest, answer, answerNumbers, answerOf}
-use Rattle.walk.specs.Packed.{HOPS, packed, unpacked, NoHopNoLength, IsPacked}
+use Rattle.walk.specs.Limits.{HOPS}
+use Rattle.walk.specs.Packed.{packed, unpacked, NoHopNoLength, IsPacked}
 
 -- ---- the best
 -- with no hop there is no length

@@ -77,7 +77,7 @@ module _ (most : ℕ) (rec : Record) (ls : Lists) (address : ℕ) where
   lookup-early e h = rw (← e, ne-eqb _ _ h)
 
   module _ (e : refusalOf most rec (shortest ls) address ≡ 0) where
-    pub lookup-empty : root rec ≡ 0 → lookupOf most rec ls address ≡ answer (rec .floor) 0 0
+    lookup-empty : root rec ≡ 0 → lookupOf most rec ls address ≡ answer (rec .floor) 0 0
     unfolding lookupOf tell latest
     lookup-empty z = rw (eq-eqb _ _ e, path-empty rec ls address z)
 

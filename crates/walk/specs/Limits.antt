@@ -13,6 +13,10 @@ WIDTH = widthLimit
 abbrev pub LEVELS : ℕ
 LEVELS = 32
 
+-- every hop is below this
+abbrev pub HOPS : ℕ
+HOPS = 65536
+
 -- 0, or above the limit
 abbrev pub Outside : (x most : ℕ) → Type 0
 Outside x most = (x ≡ 0) ⊎ (most < x)

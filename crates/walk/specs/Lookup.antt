@@ -74,15 +74,16 @@ refusalOf most rec n address =
     (cond (leb (2 ^ rec .width) address) 8
     (cond (unfit (rec .elements) n (root rec)) 9 0)))
 
--- the same as far as it does not take the root's stride
+unfoldable pub lookupOf : (most : ℕ) → Record → Lists → (address : ℕ) → Answer
+lookupOf most rec ls address =
+    let n = refusalOf most rec (shortest ls) address in
+    cond (eqb n 0) (tell (rowAt ls) (floorBest (rec .floor)) 0 (pathOf rec ls address)) (Refused n)
+
+-- ---- what only the code needs
+-- the first test that fails before the root's stride is looked at
 unfoldable pub firstRefusal : (most : ℕ) → Record → (n address : ℕ) → ℕ
 firstRefusal most rec n address =
     cond (outside (rec .width) most) 1
     (cond (outside (rec .levels) LEVELS) 2
     (cond (leb (2 ^ rec .width) address) 8
     (cond (ltb n (rec .elements)) 9 0)))
-
-unfoldable pub lookupOf : (most : ℕ) → Record → Lists → (address : ℕ) → Answer
-lookupOf most rec ls address =
-    let n = refusalOf most rec (shortest ls) address in
-    cond (eqb n 0) (tell (rowAt ls) (floorBest (rec .floor)) 0 (pathOf rec ls address)) (Refused n)

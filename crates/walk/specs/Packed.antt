@@ -2,11 +2,8 @@
 -- answer to C has them. One choice then takes both from a row.
 use Prim.Native.Nat.{ℕ, _+_, _*_, _/_, _%_, _<_}
 use mathlib.Core.Path.{_≡_}
+use Rattle.walk.specs.Limits.{HOPS}
 use Rattle.walk.specs.Answers.{HopLength}
-
--- every hop is below this
-abbrev pub HOPS : ℕ
-HOPS = 65536
 
 abbrev pub packed : (hop len : ℕ) → ℕ
 packed hop len = hop + len * HOPS
@@ -18,6 +15,6 @@ unpacked best = record { hop = best % HOPS; len = best / HOPS }
 abbrev pub NoHopNoLength : HopLength → Type 0
 NoHopNoLength best = best .hop ≡ 0 → best .len ≡ 0
 
--- a hop and a length of 8 bits, and no length without a hop
+-- a hop of 16 bits and a length of 8, and no length without a hop
 abbrev pub IsPacked : ℕ → Type 0
 IsPacked best = (best < HOPS * 256) × NoHopNoLength (unpacked best)

@@ -3,5 +3,5 @@
 
 pub const LEVELS: u32 = 32;
 
-// Every hop is below this (`specs/Packed.antt` has the same).
+// Every hop is below this.
 pub(crate) const HOPS: u32 = 65536;

@@ -1,6 +1,6 @@
 // The lookup of document 01, "The element rows": the floor is the first best; at each block one row is read and counted, a nonzero hop
 // is the new best, with the length beside it (02, [5]), a nonzero link is followed. The tests that read no row stand in a function of
-// their own, so that nothing but they comes before the loop over the rows.
+// their own, and the root's stride 0 is a case of its own, so that little comes before the loop over the rows.
 ghost use mathlib.Core.Path.{_≡_};
 ghost use mathlib.Core.Bool.{cond};
 ghost use Prim.Native.Nat.{_≤_};
@@ -35,7 +35,7 @@ pub enum Answer {
 }
 
 // A nonzero hop is the new best, with the length beside it.
-fn best_after(hop: u16, len: u8, best: u32) -> u32
+fn packed_after(hop: u16, len: u8, best: u32) -> u32
     ensures { λ r. ⌜ r ≡ cond (eqb hop 0) best (packed hop len) ⌝ }
 {
     if hop == 0 {
@@ -108,7 +108,7 @@ fn follow(
         if elements <= row {
             return refusal_numbers(9);
         }
-        best = best_after(hop[row], lens[row], best);
+        best = packed_after(hop[row], lens[row], best);
         reads += 1;
         let next = link[row];
         if next == 0 {
@@ -140,7 +140,7 @@ fn first_refusal(rec: Record, rows: usize, address: u32) -> u32
 }
 
 // Where the root's stride is 0: the empty trie, or refusal 9 while E is not 0. A case of its own, so that no other lookup works it out.
-fn rootless(elements: u32, floor: u16) -> AnswerNumbers
+fn rootless_numbers(elements: u32, floor: u16) -> AnswerNumbers
     ensures { λ r. ⌜ r ≡ answerNumbers (cond (eqb elements 0) (answer floor 0 0) (Refused 9)) ⌝ }
 {
     if elements == 0 {
@@ -174,7 +174,7 @@ pub fn lookup_numbers(
     }
     let root = rec.strides[0] as u32;
     if root == 0 {
-        return rootless(rec.elements, rec.floor);
+        return rootless_numbers(rec.elements, rec.floor);
     }
     follow(
         rec.elements as usize,

@@ -1,4 +1,3 @@
-use mathlib.Core.Path.{_≡_, ap}
 use borrow.Author.Needs.{needs}
 use borrow.Author.Tests.{eq-eqb, ne-eqb}
 use Rattle.tries.proofs.blocks.is_shallow.Statement.{statement}

@@ -1,7 +1,7 @@
-use mathlib.Core.Path.{_≡_, refl, sym}
+use mathlib.Core.Path.{refl}
 use native.Mathlib.Omega.{arith}
 use borrow.Author.Needs.{needs}
-use Rattle.tries.specs.Filling.{CanPass, begun, between}
+use Rattle.tries.specs.Filling.{begun, between}
 use Rattle.tries.proofs.blocks.pass.Statement.{statement}
 use Rattle.tries.proofs.blocks.pass.Tie as tie
 

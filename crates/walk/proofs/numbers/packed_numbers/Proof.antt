@@ -1,5 +1,4 @@
 use borrow.Author.Needs.{needs}
-use native.Mathlib.Omega.{arith}
 use Rattle.walk.specs.Packed.{unpacked}
 use Rattle.walk.proofs.Answers.{best-has-numbers}
 use Rattle.walk.proofs.numbers.packed_numbers.Statement.{statement}

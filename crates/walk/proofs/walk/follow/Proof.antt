@@ -3,12 +3,12 @@ use mathlib.Core.Path.{_≡_, _∙_, sym, ap}
 use native.Mathlib.Nat.{sub-zero}
 use native.Mathlib.Omega.{arith}
 use borrow.Author.Needs.{needs}
-use Rattle.walk.specs.Limits.{WIDTH}
+use Rattle.walk.specs.Limits.{WIDTH, HOPS}
 use Rattle.walk.specs.Rows.{Row, lists, rowAt, rowOf}
 use Rattle.walk.specs.Answers.{HopLength, floorBest, newBest, answerNumbers}
 use Rattle.walk.specs.Lookup.{walk}
 use Rattle.walk.specs.Meaning.{Readable, no-stride, too-wide, past-end}
-use Rattle.walk.specs.Packed.{HOPS, unpacked, IsPacked}
+use Rattle.walk.specs.Packed.{unpacked, IsPacked}
 use Rattle.walk.proofs.Answers.{packed-best, still-packed, packed-floor}
 use Rattle.walk.proofs.Bits.{cut-le}
 use Rattle.walk.proofs.Walks.{walk-stops, walk-spends, walk-ends, walk-goes}
@@ -85,17 +85,17 @@ can-read : (c : tie.Else3 Inv-loop μ-loop) →
     Readable (a .elements) (a .address) (l .base) (l .s) (l .left)
 can-read c = record { stride = omega arith; fits = c .before .before .if2 .left; within = rw (row-is (c .before)) at (c .if3 .left) }
 
-mul-best-after : tie.Need-mul-best-after Inv-loop μ-loop
-mul-best-after c = search needs
+mul-packed-after : tie.Need-mul-packed-after Inv-loop μ-loop
+mul-packed-after c = search needs
 
-shared-slice-read-best-after : tie.Need-shared-slice-read-best-after Inv-loop μ-loop
-shared-slice-read-best-after c = omega arith
+shared-slice-read-packed-after : tie.Need-shared-slice-read-packed-after Inv-loop μ-loop
+shared-slice-read-packed-after c = omega arith
 
-shared-slice-read-best-after-2 : tie.Need-shared-slice-read-best-after-2 Inv-loop μ-loop
-shared-slice-read-best-after-2 c = omega arith
+shared-slice-read-packed-after-2 : tie.Need-shared-slice-read-packed-after-2 Inv-loop μ-loop
+shared-slice-read-packed-after-2 c = omega arith
 
-best-after-requires : tie.Need-best-after-requires Inv-loop μ-loop
-best-after-requires c κs = search needs
+packed-after-requires : tie.Need-packed-after-requires Inv-loop μ-loop
+packed-after-requires c κs = search needs
 
 add-reads : tie.Need-add-reads Inv-loop μ-loop
 add-reads c = omega arith
@@ -107,7 +107,7 @@ shared-slice-read-next : tie.Need-shared-slice-read-next Inv-loop μ-loop
 shared-slice-read-next c = omega arith
 
 -- the best that the code keeps is the rule's, in one number
-module _ (c : tie.After-best-after Inv-loop μ-loop) where
+module _ (c : tie.After-packed-after Inv-loop μ-loop) where
   abbrev free : tie.Else3 Inv-loop μ-loop
   free = c .before .before .before
 
@@ -126,11 +126,11 @@ module _ (c : tie.After-best-after Inv-loop μ-loop) where
   length-small : row .len < 256
   length-small = omega (arith, c .before .shared-slice-known6 .given place)
 
-  new-best : unpacked (c .best-after .result) ≡ newBest row (unpacked best)
-  new-best = packed-best row best hop-small (c .best-after .ensures)
+  new-best : unpacked (c .packed-after .result) ≡ newBest row (unpacked best)
+  new-best = packed-best row best hop-small (c .packed-after .ensures)
 
-  kept : IsPacked (c .best-after .result)
-  kept = still-packed row best hop-small length-small (c .best-after .ensures) (free .before .before .before .before .before .loop .inv .3)
+  kept : IsPacked (c .packed-after .result)
+  kept = still-packed row best hop-small length-small (c .packed-after .ensures) (free .before .before .before .before .before .loop .inv .3)
 
 packed-numbers-requires : tie.Need-packed-numbers-requires Inv-loop μ-loop
 packed-numbers-requires c κs = kept (c .before .before)
@@ -194,10 +194,10 @@ follow-spec =
     add-row
     refusal-numbers-requires-3
     returns-3
-    mul-best-after
-    shared-slice-read-best-after
-    shared-slice-read-best-after-2
-    best-after-requires
+    mul-packed-after
+    shared-slice-read-packed-after
+    shared-slice-read-packed-after-2
+    packed-after-requires
     add-reads
     mul-next
     shared-slice-read-next

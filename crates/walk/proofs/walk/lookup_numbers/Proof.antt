@@ -47,13 +47,13 @@ element-copy-out-root c = search needs
 cast-root : tie.Need-cast-root
 cast-root c = search needs
 
-rootless-requires : tie.Need-rootless-requires
-rootless-requires c κs = search needs
+rootless-numbers-requires : tie.Need-rootless-numbers-requires
+rootless-numbers-requires c κs = search needs
 
 returns-2 : tie.Need-returns-2
 returns-2 c =
     promised-numbers _ _ _ _
-    (c .rootless .ensures ∙ ap answerNumbers (sym (lookup-rootless _ _ _ _ (zero-number (c .before .before .before)) (c .before .if2 .taken))))
+    (c .rootless-numbers .ensures ∙ ap answerNumbers (sym (lookup-rootless _ _ _ _ (zero-number (c .before .before .before)) (c .before .if2 .taken))))
 
 cast-follow : tie.Need-cast-follow
 cast-follow c = search needs
@@ -80,7 +80,7 @@ lookup-numbers-spec =
     returns
     element-copy-out-root
     cast-root
-    rootless-requires
+    rootless-numbers-requires
     returns-2
     cast-follow
     follow-requires

@@ -1,8 +1,7 @@
-use mathlib.Core.Path.{_≡_, _∙_}
 use borrow.Author.Needs.{needs}
 use borrow.Author.Tests.{eq-eqb, ne-eqb}
-use Rattle.walk.proofs.walk.rootless.Statement.{statement}
-use Rattle.walk.proofs.walk.rootless.Tie as tie
+use Rattle.walk.proofs.walk.rootless_numbers.Statement.{statement}
+use Rattle.walk.proofs.walk.rootless_numbers.Tie as tie
 
 hop-numbers-requires : tie.Need-hop-numbers-requires
 hop-numbers-requires c κs = search needs
@@ -16,5 +15,5 @@ refusal-numbers-requires c κs = search needs
 returns-2 : tie.Need-returns-2
 returns-2 c = rw (ne-eqb _ _ (c .before .if1 .left)) (c .refusal-numbers .ensures)
 
-pub rootless-spec : {M : Type 1} → statement M
-rootless-spec = tie.close (tie.spec hop-numbers-requires returns refusal-numbers-requires returns-2)
+pub rootless-numbers-spec : {M : Type 1} → statement M
+rootless-numbers-spec = tie.close (tie.spec hop-numbers-requires returns refusal-numbers-requires returns-2)
