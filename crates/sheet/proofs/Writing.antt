@@ -164,16 +164,7 @@ length-head e r =
 pub length-answer : (v n h l r : ℕ) → n ≤ BITS → length (answerLines v n h l r) ≤ ANSWER-BYTES
 unfolding answerLines
 length-answer v n h l r few =
-    omega (
-      arith,
-      length-append (addressLine v n ++ lineOf hopKey h ++ lineOf lengthKey l) (lineOf readsKey r),
-      length-append (addressLine v n ++ lineOf hopKey h) (lineOf lengthKey l),
-      length-append (addressLine v n) (lineOf hopKey h),
-      length-address v n,
-      length-line hopKey h,
-      length-line lengthKey l,
-      length-line readsKey r,
-    )
+    simp length-append (omega (arith, length-address v n, length-line hopKey h, length-line lengthKey l, length-line readsKey r))
 
 -- ---- query by query
 
