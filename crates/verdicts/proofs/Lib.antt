@@ -1,0 +1,5 @@
+pub mod Answers
+pub mod Sources
+pub mod Visits
+pub mod Unique
+pub mod Classified
