@@ -3,3 +3,4 @@ pub mod Sources
 pub mod Visits
 pub mod Unique
 pub mod Classified
+pub mod Alone

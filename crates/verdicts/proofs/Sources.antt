@@ -5,7 +5,7 @@ use mathlib.Core.List.{List, [], _∷_}
 use mathlib.Core.Bool.{Bool, true, false, cond, not}
 use Prim.Native.Nat.{ℕ, zero, suc, _+_, _-_, _*_, _/_, _^_, _≤_, _<_}
 use native.Mathlib.Omega.{arith}
-use lib.ListN.{length, take, drop}
+use lib.ListN.{length, take, drop, length-drop}
 use lib.Dec.{ltb, leb}
 use borrow.Author.Tests.{ltb-true, leb-true}
 use Rattle.table.proofs.Bools.{and-true}
@@ -34,15 +34,9 @@ all-of zero (x ∷ xs) h = absurd (omega arith)
 all-of (suc k) [] h = refl
 all-of (suc k) (x ∷ xs) h = ap (λ (l : List ℕ). x ∷ l) (all-of k xs (omega arith))
 
--- no more is left of a list from place a on
-pub dropped : (a : ℕ) (xs : List ℕ) → length (drop a xs) ≡ length xs - a
-dropped zero xs = omega arith
-dropped (suc a) [] = omega arith
-dropped (suc a) (x ∷ xs) = let h = dropped a xs in omega arith
-
 -- a part to the end of its list is the list from there on
 pub part-to-end : (a : ℕ) (xs : List ℕ) → take (length xs - a) (drop a xs) ≡ drop a xs
-part-to-end a xs = all-of (length xs - a) (drop a xs) (omega (arith, dropped a xs))
+part-to-end a xs = all-of (length xs - a) (drop a xs) (omega (arith, length-drop a xs))
 
 pub looked-up : (W k : ℕ) (hop len link stride list : List ℕ) (source g : ℕ)
     → let p = trieRow list g .place in
