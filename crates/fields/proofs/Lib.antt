@@ -2,3 +2,7 @@
 pub mod Rules
 pub mod Runs
 pub mod Tables
+pub mod Chain
+pub mod Nearest
+pub mod Top
+pub mod Example

@@ -122,9 +122,9 @@ module _ (W : ℕ) (rs : Rules) (i : ℕ) where
     unfolding outcome testsAt
     fields-pass = rw (rule-fields, ← e, ← f)
 
-    pub first-passes : i ≡ 0 → Accepted ≡ outcomeAt W rs i
+    pub place-first : i ≡ 0 → Accepted ≡ outcomeAt W rs i
     unfolding ruleOrderBad
-    first-passes z = sym (fields-pass ∙ simp (le-ltb 0 i (le-of-eq z)))
+    place-first z = sym (fields-pass ∙ simp (le-ltb 0 i (le-of-eq z)))
 
     -- (the order does not look at actions)
     pub place-passes : (i ≡ 0 → ⊥) → ruleBelow (rules (rs .dvals) (rs .dlens) (rs .svals) (rs .slens) []) (i - 1) i ≡ true → Accepted ≡ outcomeAt W rs i

@@ -91,7 +91,9 @@ module _ {val len : ℕ → ℕ} {n m : ℕ} {from : ℕ → ℕ} (r : Runs val 
   runs-same t keeps end = record {
     first = keeps 0 (some-runs r (omega (arith, goes-on val len n t .1))) ∙ r .first;
     last = end;
-    some = λ g h. ⊎-elim (λ (q : suc g ≡ m). omega (arith, keeps g h, ap from′ q, from-inside r g h)) (λ (q : suc g < m). omega (arith, keeps g h, keeps (suc g) q, r .some g h)) (eq-or-lt-of-le h);
+    some = λ g h.
+        ⊎-elim (λ (q : suc g ≡ m). omega (arith, keeps g h, ap from′ q, from-inside r g h))
+        (λ (q : suc g < m). omega (arith, keeps g h, keeps (suc g) q, r .some g h)) (eq-or-lt-of-le h);
     same = λ g i h a b. rw (keeps g h) (inner g i h (rw (keeps g h) at a) b);
     apart = λ g h p q. r .apart g h (rw (keeps g (omega arith), keeps (suc g) h) at p) (rw (keeps g (omega arith), keeps (suc g) h) at q);
   }
@@ -111,9 +113,13 @@ module _ {val len : ℕ → ℕ} {n m : ℕ} {from : ℕ → ℕ} (r : Runs val 
   runs-new t keeps end = record {
     first = keeps 0 (omega arith) ∙ r .first;
     last = end;
-    some = λ g h. ⊎-elim (λ (q : g ≡ m). omega (arith, keeps g (omega arith), ap from′ (ap suc q), ap from q, r .last)) (λ (q : g < m). omega (arith, keeps g (omega arith), keeps (suc g) q, r .some g q)) (eq-or-lt-of-le (le-of-suc-le-suc h));
+    some = λ g h.
+        ⊎-elim (λ (q : g ≡ m). omega (arith, keeps g (omega arith), ap from′ (ap suc q), ap from q, r .last))
+        (λ (q : g < m). omega (arith, keeps g (omega arith), keeps (suc g) q, r .some g q)) (eq-or-lt-of-le (le-of-suc-le-suc h));
     same = λ g i h a b. rw (keeps g (omega arith)) (inner g i h (rw (keeps g (omega arith)) at a) b);
-    apart = λ g h p q. other g (le-of-suc-le-suc h) (rw (keeps g (omega arith), keeps (suc g) (le-of-suc-le-suc h)) at p) (rw (keeps g (omega arith), keeps (suc g) (le-of-suc-le-suc h)) at q);
+    apart = λ g h p q.
+        let l : suc g ≤ m = le-of-suc-le-suc h in
+        other g l (rw (keeps g (omega arith), keeps (suc g) l) at p) (rw (keeps g (omega arith), keeps (suc g) l) at q);
   }
     where
       inner : (g i : ℕ) → g < suc m → from g ≤ i → i < from′ (suc g) → (val i ≡ val (from g)) × (len i ≡ len (from g))

@@ -7,8 +7,8 @@ use Rattle.fields.specs.Runs.{EntryLists, entryLists}
 
 abbrev pub exampleRules : Rules
 exampleRules =
-    rules (0b100 ∷ 0b100 ∷ 0b100 ∷ 0b100 ∷ 0b110 ∷ []) (1 ∷ 1 ∷ 2 ∷ 2 ∷ 2 ∷ []) (0b000 ∷ 0b010 ∷ 0b100 ∷ 0b110 ∷ 0b000 ∷ []) (0 ∷ 2 ∷ 1 ∷ 2 ∷ 1 ∷ [])
-    (1 ∷ 2 ∷ 3 ∷ 65535 ∷ 4 ∷ [])
+    rules (0b100 ∷ 0b100 ∷ 0b100 ∷ 0b100 ∷ 0b110 ∷ []) (1 ∷ 1 ∷ 2 ∷ 2 ∷ 2 ∷ [])
+    (0b000 ∷ 0b010 ∷ 0b100 ∷ 0b110 ∷ 0b000 ∷ []) (0 ∷ 2 ∷ 1 ∷ 2 ∷ 1 ∷ []) (1 ∷ 2 ∷ 3 ∷ 65535 ∷ 4 ∷ [])
 
 -- where the three runs begin, and the end
 abbrev pub exampleFrom : List ℕ

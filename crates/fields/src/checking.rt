@@ -95,7 +95,8 @@ fn rule_outcome(
 ) -> Outcome
     requires { ⌜ (0 < width) × (width ≤ widthLimit) ⌝ }
     requires { ⌜ RuleInside (rules (now dvals) (now dlens) (now svals) (now slens) (now actions)) i ⌝ }
-    ensures { λ r. ⌜ r ≡ outcomeAt width (rules (now (dvals .entry)) (now (dlens .entry)) (now (svals .entry)) (now (slens .entry)) (now (actions .entry))) i ⌝ }
+    ensures { λ r. ⌜
+        r ≡ outcomeAt width (rules (now (dvals .entry)) (now (dlens .entry)) (now (svals .entry)) (now (slens .entry)) (now (actions .entry))) i ⌝ }
 {
     let bad = Outcome::Refused {
         number: 4,
@@ -130,7 +131,8 @@ fn rules_outcome(
 ) -> Outcome
     requires { ⌜ (0 < width) × (width ≤ widthLimit) ⌝ }
     requires { ⌜ SameLengths (rules (now dvals) (now dlens) (now svals) (now slens) (now actions)) ⌝ }
-    ensures { λ r. ⌜ r ≡ outcomeFrom width (rules (now (dvals .entry)) (now (dlens .entry)) (now (svals .entry)) (now (slens .entry)) (now (actions .entry))) 0 ⌝ }
+    ensures { λ r. ⌜
+        r ≡ outcomeFrom width (rules (now (dvals .entry)) (now (dlens .entry)) (now (svals .entry)) (now (slens .entry)) (now (actions .entry))) 0 ⌝ }
 {
     let n = dvals.len();
     let mut i = 0;
@@ -154,8 +156,10 @@ pub fn check_rules(
     slens: &[u8],
     actions: &[u16],
 ) -> Outcome
-    ensures exact { λ r. ⌜ r ≡ checkRulesOf width (rules (now (dvals .entry)) (now (dlens .entry)) (now (svals .entry)) (now (slens .entry)) (now (actions .entry))) ⌝ }
-    ensures meaning { λ r. ⌜ Gives (ruleTests width (rules (now (dvals .entry)) (now (dlens .entry)) (now (svals .entry)) (now (slens .entry)) (now (actions .entry)))) r ⌝ }
+    ensures exact { λ r. ⌜
+        r ≡ checkRulesOf width (rules (now (dvals .entry)) (now (dlens .entry)) (now (svals .entry)) (now (slens .entry)) (now (actions .entry))) ⌝ }
+    ensures meaning { λ r. ⌜
+        Gives (ruleTests width (rules (now (dvals .entry)) (now (dlens .entry)) (now (svals .entry)) (now (slens .entry)) (now (actions .entry)))) r ⌝ }
 {
     if is_outside(width, WIDTH) {
         return Outcome::Refused {
