@@ -5,7 +5,7 @@ use mathlib.Core.Bool.{Bool, true, false, not, cond, _&&_, _||_}
 use mathlib.Core.List.{List, [], _∷_}
 use mathlib.Core.Logic.{_⊎_, inl, inr}
 use Prim.Native.Nat.{ℕ, zero, suc, _+_, _-_, _≤_, _<_, zero-le}
-use native.Mathlib.Nat.{le-of-eq, pos-of-ne-zero, sub-zero}
+use native.Mathlib.Nat.{le-of-eq, pos-of-ne-zero}
 use native.Mathlib.Omega.{arith}
 use lib.ListN.{length, take, drop}
 use lib.Seq.{drop-cons}
@@ -24,9 +24,8 @@ use Rattle.table.proofs.Prefix.{prefix-is, prefix-of, below-is, below-of}
 use Rattle.table.proofs.Table.{width-is, width-passes, each-are, each-pass, hop-positive, hop-good}
 use Rattle.table.proofs.Numbered.{numbered-each}
 use Rattle.fields.specs.Limits.{ruleLimit}
-use Rattle.fields.specs.Rules.{Rules, rules, ruleCount, rulesShapeBad, ruleBad, ruleBelow, RuleBelow, ruleOrderBad, ruleListTests, ruleTests, checkRulesOf, Rule, GoodRules}
+use Rattle.fields.specs.Rules.{Rules, rules, ruleCount, rulesShapeBad, SameLengths, ruleBad, ruleBelow, RuleBelow, ruleOrderBad, ruleTestsAt, eachRuleTests, ruleListTests, ruleTests, checkRulesOf, Rule, GoodRules}
 use Rattle.fields.specs.Runs.{part}
-use Rattle.fields.specs.Checking.{SameLengths, outcomeAt, outcomeFrom}
 
 -- ---- test 3
 
@@ -109,29 +108,29 @@ module _ (W : ℕ) (rs : Rules) (i : ℕ) where
       go false false false = refl
 
   -- so tests 4 and 5 at rule i end by the tests of its fields, then by its place
-  pub dest-fails : true ≡ badDest → Refused 4 i ≡ outcomeAt W rs i
+  pub dest-fails : true ≡ badDest → Refused 4 i ≡ outcome (ruleTestsAt W rs i)
   unfolding outcome testsAt
   dest-fails e = rw (rule-fields, ← e)
 
-  pub source-fails : false ≡ badDest → true ≡ badSource → Refused 4 i ≡ outcomeAt W rs i
+  pub source-fails : false ≡ badDest → true ≡ badSource → Refused 4 i ≡ outcome (ruleTestsAt W rs i)
   unfolding outcome testsAt
   source-fails e f = rw (rule-fields, ← e, ← f)
 
   module _ (e : false ≡ badDest) (f : false ≡ badSource) where
-    fields-pass : outcomeAt W rs i ≡ cond (ruleOrderBad rs i) (Refused 5 i) Accepted
+    fields-pass : outcome (ruleTestsAt W rs i) ≡ cond (ruleOrderBad rs i) (Refused 5 i) Accepted
     unfolding outcome testsAt
     fields-pass = rw (rule-fields, ← e, ← f)
 
-    pub place-first : i ≡ 0 → Accepted ≡ outcomeAt W rs i
+    pub place-first : i ≡ 0 → Accepted ≡ outcome (ruleTestsAt W rs i)
     unfolding ruleOrderBad
     place-first z = sym (fields-pass ∙ simp (le-ltb 0 i (le-of-eq z)))
 
     -- (the order does not look at actions)
-    pub place-passes : (i ≡ 0 → ⊥) → ruleBelow (rules (rs .dvals) (rs .dlens) (rs .svals) (rs .slens) []) (i - 1) i ≡ true → Accepted ≡ outcomeAt W rs i
+    pub place-passes : (i ≡ 0 → ⊥) → ruleBelow (rules (rs .dvals) (rs .dlens) (rs .svals) (rs .slens) []) (i - 1) i ≡ true → Accepted ≡ outcome (ruleTestsAt W rs i)
     unfolding ruleOrderBad ruleBelow
     place-passes z b = sym (fields-pass ∙ simp (lt-ltb 0 i (pos-of-ne-zero z), b))
 
-    pub place-fails : (i ≡ 0 → ⊥) → ruleBelow (rules (rs .dvals) (rs .dlens) (rs .svals) (rs .slens) []) (i - 1) i ≡ false → Refused 5 i ≡ outcomeAt W rs i
+    pub place-fails : (i ≡ 0 → ⊥) → ruleBelow (rules (rs .dvals) (rs .dlens) (rs .svals) (rs .slens) []) (i - 1) i ≡ false → Refused 5 i ≡ outcome (ruleTestsAt W rs i)
     unfolding ruleOrderBad ruleBelow
     place-fails z b = sym (fields-pass ∙ simp (lt-ltb 0 i (pos-of-ne-zero z), b))
 
@@ -205,16 +204,13 @@ module _ (W : ℕ) (rs : Rules) where
   unfolding ruleTests ruleListTests
   rules-good e =
       let p = accepted-passes (widthTest W) (ruleListTests W rs) e in
-      let q = accepted-passes (test 3 0 (rulesShapeBad rs)) (eachTests (ruleBad W rs) (ruleOrderBad rs) 0 (ruleCount rs)) (p .1) in
+      let q = accepted-passes (test 3 0 (rulesShapeBad rs)) (eachRuleTests W rs 0 (ruleCount rs)) (p .1) in
       let w = width-is widthLimit W (p .0) in
       let s = lengths-are rs (q .0) in
       record {
         some-width = w .0;
         width = w .1;
-        dlengths = s .0 .dlengths;
-        svalues = s .0 .svalues;
-        slengths = s .0 .slengths;
-        acts = s .0 .acts;
+        lengths = s .0;
         few = s .1;
         rule = λ i h. rule-is i (each-are (ruleBad W rs) (ruleOrderBad rs) 0 (ruleCount rs) (q .1) i zero-le (omega arith));
       }
@@ -223,9 +219,8 @@ module _ (W : ℕ) (rs : Rules) where
   pub good-rules : GoodRules W rs → outcome (ruleTests W rs) ≡ Accepted
   unfolding ruleTests ruleListTests
   good-rules g =
-      let s : SameLengths rs = record { dlengths = g .dlengths; svalues = g .svalues; slengths = g .slengths; acts = g .acts } in
       outcome-passes (widthTest W) (ruleListTests W rs) (width-passes widthLimit W (λ (e : W ≡ 0). omega (arith, g .some-width)) (g .width))
-      ∙ outcome-passes (test 3 0 (rulesShapeBad rs)) (eachTests (ruleBad W rs) (ruleOrderBad rs) 0 (ruleCount rs)) (lengths-pass rs s (g .few))
+      ∙ outcome-passes (test 3 0 (rulesShapeBad rs)) (eachRuleTests W rs 0 (ruleCount rs)) (lengths-pass rs (g .lengths) (g .few))
       ∙ each-pass (ruleBad W rs) (ruleOrderBad rs) 0 (ruleCount rs) (λ j p q. rule-passes j (g .rule j (omega arith)))
 
   -- how it ends, by the tests that led there
@@ -233,9 +228,9 @@ module _ (W : ℕ) (rs : Rules) where
   unfolding checkRulesOf ruleTests ruleListTests outcome
   check-rules-shape w s = simp (w, s)
 
-  pub check-rules-each : outside W widthLimit ≡ false → rulesShapeBad rs ≡ false → checkRulesOf W rs ≡ outcomeFrom W rs 0
+  pub check-rules-each : outside W widthLimit ≡ false → rulesShapeBad rs ≡ false → checkRulesOf W rs ≡ outcome (eachRuleTests W rs 0 (ruleCount rs))
   unfolding checkRulesOf ruleTests ruleListTests outcome
-  check-rules-each w s = simp (w, s, sub-zero)
+  check-rules-each w s = simp (w, s)
 
   -- an answer, with what it means
   pub check-rules-means : {r : Outcome} → r ≡ checkRulesOf W rs → (r ≡ checkRulesOf W rs) × Gives (ruleTests W rs) r

@@ -125,9 +125,9 @@ module _ (W : ℕ) (rs : Rules) (good : GoodRules W rs) {m : ℕ} {from : ℕ �
     unfolding trieTable
     source-lengths =
         let e : from (suc g) ≤ ruleCount rs = from-within r (suc g) h in (
-          part-length (from g) (from (suc g)) (rs .svals) (omega (arith, good .svalues)),
-          part-length (from g) (from (suc g)) (rs .slens) (omega (arith, good .slengths)),
-          part-length (from g) (from (suc g)) (rs .actions) (omega (arith, good .acts)),
+          part-length (from g) (from (suc g)) (rs .svals) (omega (arith, good .lengths .svalues)),
+          part-length (from g) (from (suc g)) (rs .slens) (omega (arith, good .lengths .slengths)),
+          part-length (from g) (from (suc g)) (rs .actions) (omega (arith, good .lengths .acts)),
         )
 
     source-entry : (j : ℕ) → j < from (suc g) - from g

@@ -5,5 +5,3 @@ pub mod Rules
 pub mod Winning
 pub mod Runs
 pub mod Example
--- What only the contracts of the check's functions need.
-pub mod Checking

@@ -11,7 +11,7 @@ use Rattle.table.specs.Limits.{widthLimit}
 use Rattle.table.specs.Prefix.{prefixBad, IsPrefix}
 use Rattle.table.specs.Entry.{hopBad, below, Below}
 use Rattle.table.specs.Refusals.{Test, test, outcome}
-use Rattle.table.specs.Table.{at, widthTest, eachTests}
+use Rattle.table.specs.Table.{at, widthTest, testsAt, eachTests}
 use Rattle.table.specs.declared.entry.Outcome.{Outcome}
 use Rattle.fields.specs.Limits.{ruleLimit}
 
@@ -37,6 +37,13 @@ rulesShapeBad rs =
     not (eqb (length (rs .dlens)) (ruleCount rs)) || not (eqb (length (rs .svals)) (ruleCount rs))
     || not (eqb (length (rs .slens)) (ruleCount rs)) || not (eqb (length (rs .actions)) (ruleCount rs)) || ltb ruleLimit (ruleCount rs)
 
+-- what that test leaves, besides the limit: five lists of one length
+pub record SameLengths (rs : Rules) : Type 0 where
+  pub dlengths : length (rs .dlens) ≡ ruleCount rs
+  pub svalues : length (rs .svals) ≡ ruleCount rs
+  pub slengths : length (rs .slens) ≡ ruleCount rs
+  pub acts : length (rs .actions) ≡ ruleCount rs
+
 -- 4: a destination or a source that is no prefix, or a bad action: "actions follow the hop rules of [4]"
 unfoldable pub ruleBad : ℕ → Rules → ℕ → Bool
 ruleBad W rs i =
@@ -60,9 +67,16 @@ RuleBelow rs i j =
 unfoldable pub ruleOrderBad : Rules → ℕ → Bool
 ruleOrderBad rs i = ltb 0 i && not (ruleBelow rs (i - 1) i)
 
--- 3, then 4 and 5 rule by rule, 4 first at each
+-- 4 and 5 at rule i, 4 first, and at the m rules from i on
+abbrev pub ruleTestsAt : ℕ → Rules → ℕ → List Test
+ruleTestsAt W rs i = testsAt (ruleBad W rs) (ruleOrderBad rs) i
+
+abbrev pub eachRuleTests : ℕ → Rules → ℕ → ℕ → List Test
+eachRuleTests W rs i m = eachTests (ruleBad W rs) (ruleOrderBad rs) i m
+
+-- 3, then 4 and 5 rule by rule
 unfoldable pub ruleListTests : ℕ → Rules → List Test
-ruleListTests W rs = test 3 0 (rulesShapeBad rs) ∷ eachTests (ruleBad W rs) (ruleOrderBad rs) 0 (ruleCount rs)
+ruleListTests W rs = test 3 0 (rulesShapeBad rs) ∷ eachRuleTests W rs 0 (ruleCount rs)
 
 -- the check of rules tests 1, 3, 4, 5
 unfoldable pub ruleTests : ℕ → Rules → List Test
@@ -82,9 +96,6 @@ pub record Rule (W : ℕ) (rs : Rules) (i : ℕ) : Type 0 where
 pub record GoodRules (W : ℕ) (rs : Rules) : Type 0 where
   pub some-width : 0 < W
   pub width : W ≤ widthLimit
-  pub dlengths : length (rs .dlens) ≡ ruleCount rs
-  pub svalues : length (rs .svals) ≡ ruleCount rs
-  pub slengths : length (rs .slens) ≡ ruleCount rs
-  pub acts : length (rs .actions) ≡ ruleCount rs
+  pub lengths : SameLengths rs
   pub few : ruleCount rs ≤ ruleLimit
   pub rule : (i : ℕ) → i < ruleCount rs → Rule W rs i

@@ -5,10 +5,9 @@ ghost use Prim.Native.Nat.{_≤_, _<_};
 ghost use lib.ListN.{length};
 ghost use Rattle.table.specs.Limits.{widthLimit};
 ghost use Rattle.table.specs.Entry.{hopBad};
-ghost use Rattle.table.specs.Refusals.{Gives};
+ghost use Rattle.table.specs.Refusals.{outcome, Gives};
 ghost use Rattle.table.specs.Table.{at, entryBad};
-ghost use Rattle.fields.specs.Rules.{rules, rulesShapeBad, ruleBelow, ruleTests, checkRulesOf};
-ghost use Rattle.fields.specs.Checking.{SameLengths, RuleInside, outcomeAt, outcomeFrom};
+ghost use Rattle.fields.specs.Rules.{rules, rulesShapeBad, SameLengths, ruleBelow, ruleTestsAt, eachRuleTests, ruleTests, checkRulesOf};
 use crate::limits::RULES;
 use table::Outcome;
 use table::WIDTH;
@@ -94,9 +93,9 @@ fn rule_outcome(
     i: usize,
 ) -> Outcome
     requires { ⌜ (0 < width) × (width ≤ widthLimit) ⌝ }
-    requires { ⌜ RuleInside (rules (now dvals) (now dlens) (now svals) (now slens) (now actions)) i ⌝ }
+    requires { ⌜ SameLengths (rules (now dvals) (now dlens) (now svals) (now slens) (now actions)) × (i < length (now dvals)) ⌝ }
     ensures { λ r. ⌜
-        r ≡ outcomeAt width (rules (now (dvals .entry)) (now (dlens .entry)) (now (svals .entry)) (now (slens .entry)) (now (actions .entry))) i ⌝ }
+        r ≡ outcome (ruleTestsAt width (rules (now (dvals .entry)) (now (dlens .entry)) (now (svals .entry)) (now (slens .entry)) (now (actions .entry))) i) ⌝ }
 {
     let bad = Outcome::Refused {
         number: 4,
@@ -132,7 +131,8 @@ fn rules_outcome(
     requires { ⌜ (0 < width) × (width ≤ widthLimit) ⌝ }
     requires { ⌜ SameLengths (rules (now dvals) (now dlens) (now svals) (now slens) (now actions)) ⌝ }
     ensures { λ r. ⌜
-        r ≡ outcomeFrom width (rules (now (dvals .entry)) (now (dlens .entry)) (now (svals .entry)) (now (slens .entry)) (now (actions .entry))) 0 ⌝ }
+        r ≡ outcome
+        (eachRuleTests width (rules (now (dvals .entry)) (now (dlens .entry)) (now (svals .entry)) (now (slens .entry)) (now (actions .entry))) 0 (length (now (dvals .entry)))) ⌝ }
 {
     let n = dvals.len();
     let mut i = 0;

@@ -1,30 +1,30 @@
 -- The loop's invariant: the rules from i on decide what all rules decide.
 use Prim.Native.Nat.{ℕ, _≤_, _-_}
 use mathlib.Core.Path.{_≡_, refl, sym, _∙_}
+use native.Mathlib.Nat.{sub-zero}
 use native.Mathlib.Omega.{arith}
 use borrow.Author.Needs.{needs}
 use Rattle.table.proofs.Table.{each-end, each-refused, each-next}
-use Rattle.fields.specs.Rules.{rules}
-use Rattle.fields.specs.Checking.{outcomeFrom}
+use Rattle.table.specs.Refusals.{outcome}
+use Rattle.fields.specs.Rules.{rules, eachRuleTests}
 use Rattle.fields.proofs.checking.rules_outcome.Statement.{statement}
 use Rattle.fields.proofs.checking.rules_outcome.Tie as tie
 
 abbrev Inv-loop : tie.InvT-loop
 Inv-loop width dvals dlens svals slens actions n i₀ i =
-    (i ≤ n) × (outcomeFrom width (rules dvals dlens svals slens actions) 0 ≡ outcomeFrom width (rules dvals dlens svals slens actions) i)
+    let rs = rules dvals dlens svals slens actions in
+    (i ≤ n) × (outcome (eachRuleTests width rs 0 n) ≡ outcome (eachRuleTests width rs i (n - i)))
 
 abbrev μ-loop : tie.MeasureT-loop
 μ-loop width dvals dlens svals slens actions n i₀ i = n - i
 
 loop-holds : tie.Need-loop-holds Inv-loop μ-loop
-loop-holds c = (omega arith, refl)
+loop-holds c = (omega arith, rw sub-zero)
 
 rule-outcome-requires : tie.Need-rule-outcome-requires Inv-loop μ-loop
 rule-outcome-requires c κs =
     let s = c .before .before .before .before .before .before .before in
-    let h = c .loop-test .taken in
-    let e = s .pre .1 in
-    (s .pre .0, record { dvalue = h; dlength = omega arith; svalue = omega arith; slength = omega arith; action = omega arith })
+    (s .pre .0, (s .pre .1, c .loop-test .taken))
 
 enum-known-r : tie.Need-enum-known-r Inv-loop μ-loop
 enum-known-r c = search needs
