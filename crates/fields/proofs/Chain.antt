@@ -7,6 +7,7 @@ use mathlib.Core.Logic.{_⊎_, inl, inr, ⊎-elim, _↔_}
 use Prim.Native.Nat.{ℕ, zero, suc, _≤_, _<_}
 use native.Mathlib.Nat.{le-of-lt, eq-or-lt-of-le}
 use native.Mathlib.Omega.{arith}
+use lib.ListN.{length}
 use lib.Dec.{ltb, eqb}
 use borrow.Author.Tests.{ltb-true, lt-ltb, eqb-true, eq-eqb}
 use Rattle.table.specs.Prefix.{start, startsWith}
@@ -39,6 +40,15 @@ module _ (next : ℕ → ℕ) (hit : ℕ → Bool) where
   overrun zero (suc g) = true
   overrun (suc f) zero = false
   overrun (suc f) (suc g) = cond (hit g) false (overrun f (next g))
+
+-- each is shorter than the one before it, and the first than c
+abbrev pub Falls : (len : ℕ → ℕ) → ℕ → List ℕ → Type 0
+Falls len c [] = Unit {0}
+Falls len c (g ∷ gs) = (len g < c) × Falls len (len g) gs
+
+falls-few : (len : ℕ → ℕ) (c : ℕ) (gs : List ℕ) → Falls len c gs → length gs ≤ c
+falls-few len c [] f = omega arith
+falls-few len c (g ∷ gs) f = omega (arith, f .0, falls-few len (len g) gs (f .1))
 
 -- ---- marks
 
@@ -219,6 +229,18 @@ module _ (W : ℕ) (val len hop : ℕ → ℕ) (m a : ℕ) (entry : (i : ℕ) �
         go true e (inr q) rest = absurd (omega (arith, long e))
         go false e (inr q) rest = List·Memᴰ·tail (rest (due-down c g x r q d))
 
+    -- ---- their lengths fall
+
+    visited-falls : (f c n : ℕ) → Wins (matchesBelow W val len a c) len m n → Falls len c (visitedFrom next hit f n)
+    unfolding visitedFrom
+    visited-falls zero c n w = tt
+    visited-falls (suc f) c zero w = tt
+    visited-falls (suc f) c (suc g) (some r) = (below-c c g r, go (hit g) (visited-falls f (len g) (next g) (next-best c g r)))
+      where
+        go : (t : Bool) → Falls len (len g) (visitedFrom next hit f (next g)) → Falls len (len g) (cond t [] (visitedFrom next hit f (next g)))
+        go true w = tt
+        go false w = w
+
     -- ---- the whole chain, from the number that the destination walk answers; f is above every length
 
     module _ (f n : ℕ) (high : W < f) (start-at : Wins (matches W val len a) len m n) where
@@ -247,3 +269,10 @@ module _ (W : ℕ) (val len hop : ℕ → ℕ) (m a : ℕ) (entry : (i : ℕ) �
         λ d. due-visited f (suc W) n high all-below x
             (record { inside = d .0; begun = d .1; less = omega (arith, entry x (d .0) .prefix .short); due = λ j l e s t. d .2 j l e t }),
       )
+
+      -- each shorter than the one before: so they are no more than there are lengths
+      pub chain-falls : Falls len (suc W) (visitedFrom next hit f n)
+      chain-falls = visited-falls f (suc W) n all-below
+
+      pub chain-few : length (visitedFrom next hit f n) ≤ suc W
+      chain-few = falls-few len (suc W) (visitedFrom next hit f n) chain-falls
