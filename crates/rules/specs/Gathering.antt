@@ -1,6 +1,6 @@
 -- The destinations gathered from the rules, and the links between their tries: what the functions of `grouping` and `linking` give.
 use mathlib.Core.Path.{_≡_}
-use mathlib.Core.Bool.{Bool, true, false}
+use mathlib.Core.Bool.{true, false}
 use mathlib.Core.List.{List}
 use Prim.Native.Nat.{ℕ, suc, _+_, _≤_, _<_}
 use lib.ListN.{length, take, set}

@@ -1,5 +1,5 @@
 -- Each return is the outcome of tests 4 and 5, by the tests that led there.
-use mathlib.Core.Path.{_≡_, sym, _∙_}
+use mathlib.Core.Path.{sym, _∙_}
 use borrow.Author.Needs.{needs}
 use Rattle.fields.proofs.Rules.{dest-fails, source-fails, place-first, place-passes, place-fails}
 use Rattle.fields.proofs.checking.rule_outcome.Statement.{statement}
