@@ -122,9 +122,9 @@ module _ (W : ℕ) (rs : Rules) (i : ℕ) where
     unfolding outcome testsAt
     fields-pass = rw (rule-fields, ← e, ← f)
 
-    pub place-first : i ≡ 0 → Accepted ≡ outcome (ruleTestsAt W rs i)
+    pub first-in-order : i ≡ 0 → Accepted ≡ outcome (ruleTestsAt W rs i)
     unfolding ruleOrderBad
-    place-first z = sym (fields-pass ∙ simp (le-ltb 0 i (le-of-eq z)))
+    first-in-order z = sym (fields-pass ∙ simp (le-ltb 0 i (le-of-eq z)))
 
     -- (the order does not look at actions)
     pub place-passes : (i ≡ 0 → ⊥) → ruleBelow (rules (rs .dvals) (rs .dlens) (rs .svals) (rs .slens) []) (i - 1) i ≡ true → Accepted ≡ outcome (ruleTestsAt W rs i)
