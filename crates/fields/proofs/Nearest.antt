@@ -1,16 +1,16 @@
 -- In a list of prefixes that rises strictly, the longest one that is shorter than g and begins it is the last one before g that begins it.
 -- (Prefix j begins prefix g where it matches g's value: `matches W val len (val g) j`.)
 use mathlib.Core.Path.{_≡_, refl, sym, ap, _∙_}
-use mathlib.Core.Bool.{Bool, true, false, cond, _&&_, true≢false}
-use mathlib.Core.Logic.{_⊎_, inl, inr, ⊎-elim}
+use mathlib.Core.Bool.{Bool, true, false, cond, true≢false}
+use mathlib.Core.Logic.{⊎-elim}
 use Prim.Native.Nat.{ℕ, zero, suc, _-_, _≤_, _<_}
-use native.Mathlib.Nat.{le-of-lt, eq-or-lt-of-le, le-of-suc-le-suc, not-suc-le-zero}
+use native.Mathlib.Nat.{eq-or-lt-of-le, le-of-suc-le-suc, not-suc-le-zero}
 use native.Mathlib.Decide.{decLe}
 use native.Mathlib.Omega.{arith}
-use lib.Dec.{ltb, eqb}
+use lib.Dec.{ltb}
 use borrow.Author.Tests.{ltb-true, lt-ltb, eqb-true}
 use Rattle.table.specs.Prefix.{start, startsWith}
-use Rattle.table.specs.Longest.{matches, IsBest, Wins, no-winner, some}
+use Rattle.table.specs.Longest.{matches, Wins, no-winner, some}
 use Rattle.table.proofs.Bools.{and-true, true-or-false}
 use Rattle.table.proofs.Starts.{start-less, start-least}
 use Rattle.table.specs.Table.{Entry}

@@ -1,5 +1,5 @@
 -- The check's tests pass exactly for good rules; test 4 of a rule, as tables of one entry tell it; test 5, by four comparisons.
-use mathlib.Core.Path.{_≡_, refl, sym, ap, subst, _∙_}
+use mathlib.Core.Path.{_≡_, refl, sym, subst, _∙_}
 use mathlib.Core.Bool
 use mathlib.Core.Bool.{Bool, true, false, not, cond, _&&_, _||_}
 use mathlib.Core.List.{List, [], _∷_}
@@ -7,14 +7,14 @@ use mathlib.Core.Logic.{_⊎_, inl, inr}
 use Prim.Native.Nat.{ℕ, zero, suc, _+_, _-_, _≤_, _<_, zero-le}
 use native.Mathlib.Nat.{le-of-eq, pos-of-ne-zero}
 use native.Mathlib.Omega.{arith}
-use lib.ListN.{length, take, drop}
+use lib.ListN.{length}
 use lib.Seq.{drop-cons}
 use lib.Dec.{ltb, eqb}
-use borrow.Author.Tests.{ltb-false, eqb-true, eqb-false, not-false, lt-ltb, le-ltb, eq-eqb, ne-eqb}
+use borrow.Author.Tests.{ltb-false, eqb-true, not-false, lt-ltb, le-ltb, eq-eqb, ne-eqb}
 use Rattle.table.specs.Limits.{widthLimit, outside}
 use Rattle.table.specs.Prefix.{prefixBad}
-use Rattle.table.specs.Entry.{hopBad, below, Below}
-use Rattle.table.specs.Refusals.{Test, test, outcome, Gives, Numbered}
+use Rattle.table.specs.Entry.{hopBad, below}
+use Rattle.table.specs.Refusals.{test, outcome, Gives, Numbered}
 use Rattle.table.specs.Table.{at, widthTest, shapeBad, testsAt, eachTests, orderBad, entryBad, listTests, tableTests, checkOf}
 use Rattle.table.specs.declared.entry.Outcome.{Outcome}
 use Rattle.table.specs.declared.entry.Outcome.the-variants.{Accepted, Refused}
@@ -24,7 +24,8 @@ use Rattle.table.proofs.Prefix.{prefix-is, prefix-of, below-is, below-of}
 use Rattle.table.proofs.Table.{width-is, width-passes, each-are, each-pass, hop-positive, hop-good}
 use Rattle.table.proofs.Numbered.{numbered-each}
 use Rattle.fields.specs.Limits.{ruleLimit}
-use Rattle.fields.specs.Rules.{Rules, rules, ruleCount, rulesShapeBad, SameLengths, ruleBad, ruleBelow, RuleBelow, ruleOrderBad, ruleTestsAt, eachRuleTests, ruleListTests, ruleTests, checkRulesOf, Rule, GoodRules}
+use Rattle.fields.specs.Rules.{Rules, rules, ruleCount, rulesShapeBad, SameLengths, ruleBad, ruleBelow, RuleBelow, ruleOrderBad, Rule, GoodRules}
+use Rattle.fields.specs.Rules.{ruleTestsAt, eachRuleTests, ruleListTests, ruleTests, checkRulesOf}
 use Rattle.fields.specs.Runs.{part}
 
 -- ---- test 3
@@ -121,9 +122,9 @@ module _ (W : ℕ) (rs : Rules) (i : ℕ) where
     unfolding outcome testsAt
     fields-pass = rw (rule-fields, ← e, ← f)
 
-    pub place-first : i ≡ 0 → Accepted ≡ outcome (ruleTestsAt W rs i)
+    pub first-in-order : i ≡ 0 → Accepted ≡ outcome (ruleTestsAt W rs i)
     unfolding ruleOrderBad
-    place-first z = sym (fields-pass ∙ simp (le-ltb 0 i (le-of-eq z)))
+    first-in-order z = sym (fields-pass ∙ simp (le-ltb 0 i (le-of-eq z)))
 
     -- (the order does not look at actions)
     pub place-passes : (i ≡ 0 → ⊥) → ruleBelow (rules (rs .dvals) (rs .dlens) (rs .svals) (rs .slens) []) (i - 1) i ≡ true → Accepted ≡ outcome (ruleTestsAt W rs i)

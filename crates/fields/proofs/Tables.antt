@@ -1,21 +1,18 @@
 -- The tables of the tries: how long their lists are, what stands in them, and that they are tables: the destinations rise strictly,
 -- and in a run the sources do.
-use mathlib.Core.Path.{_≡_, refl, sym, ap, subst, _∙_}
-use mathlib.Core.Bool.{Bool, true}
+use mathlib.Core.Path.{_≡_, sym, ap, _∙_}
 use mathlib.Core.List.{List}
-use mathlib.Core.Logic.{_⊎_, inl, inr, ⊎-elim}
+use mathlib.Core.Logic.{inl, inr}
 use Prim.Native.Nat.{ℕ, zero, suc, _+_, _-_, _≤_, _<_}
 use native.Mathlib.Omega.{arith}
-use lib.ListN.{length, take, drop, length-take, length-drop}
+use lib.ListN.{length, length-take, length-drop}
 use lib.Seq.{getD-take, getD-drop}
-use Rattle.table.specs.Prefix.{IsPrefix}
 use Rattle.table.specs.Entry.{Below}
 use Rattle.table.specs.Table.{at, Entry, Table}
-use Rattle.table.specs.Lists.{listed}
 use Rattle.table.proofs.Lists.{listed-length, listed-at, listed-same}
 use Rattle.table.proofs.Prefix.{below-not-same}
-use Rattle.fields.specs.Rules.{Rules, ruleCount, Rule, RuleBelow, GoodRules}
-use Rattle.fields.specs.Runs.{Runs, part, EntryLists, entryLists, trieTable}
+use Rattle.fields.specs.Rules.{Rules, ruleCount, RuleBelow, GoodRules}
+use Rattle.fields.specs.Runs.{Runs, part, trieTable}
 use Rattle.fields.proofs.Runs.{from-inside, from-within, runs-few}
 
 -- ---- a part of a list

@@ -1,6 +1,6 @@
 -- The winner over two fields: the longest destination that begins the one address and has a source that begins the other; in its run
 -- the longest such source. And two winners are one rule.
-use mathlib.Core.Path.{_≡_, refl, sym, ap, subst, _∙_}
+use mathlib.Core.Path.{_≡_, sym, ap, subst, _∙_}
 use mathlib.Core.Bool.{Bool, true, false, _&&_, true≢false}
 use mathlib.Core.Logic.{_⊎_, inl, inr, ⊎-elim}
 use Prim.Native.Nat.{ℕ, zero, suc, _+_, _-_, _≤_, _<_}
@@ -17,8 +17,8 @@ use Rattle.table.proofs.Bools.{and-true, true-or-false}
 use Rattle.table.proofs.Prefix.{below-not-same, below-trans}
 use Rattle.table.proofs.Starts.{start-value}
 use Rattle.table.proofs.Table.{match-one}
-use Rattle.fields.specs.Rules.{Rules, ruleCount, Rule, RuleBelow, GoodRules}
-use Rattle.fields.specs.Winning.{matchesRule, IsTop, TopRule, NoRuleMatches}
+use Rattle.fields.specs.Rules.{Rules, ruleCount, RuleBelow, GoodRules}
+use Rattle.fields.specs.Winning.{matchesRule, TopRule, NoRuleMatches}
 use Rattle.fields.specs.Runs.{Runs, EntryLists, trieTable}
 use Rattle.fields.proofs.Runs.{InRun, run-of, from-within}
 use Rattle.fields.proofs.Tables.{dest-lengths, dest-at, dest-table, source-lengths, source-at}

@@ -132,7 +132,8 @@ fn rules_outcome(
     requires { ⌜ SameLengths (rules (now dvals) (now dlens) (now svals) (now slens) (now actions)) ⌝ }
     ensures { λ r. ⌜
         r ≡ outcome
-        (eachRuleTests width (rules (now (dvals .entry)) (now (dlens .entry)) (now (svals .entry)) (now (slens .entry)) (now (actions .entry))) 0 (length (now (dvals .entry)))) ⌝ }
+        (eachRuleTests width (rules (now (dvals .entry)) (now (dlens .entry)) (now (svals .entry)) (now (slens .entry)) (now (actions .entry))) 0
+        (length (now (dvals .entry)))) ⌝ }
 {
     let n = dvals.len();
     let mut i = 0;

@@ -1,6 +1,5 @@
-use mathlib.Core.Path.{_≡_, sym, _∙_}
-use mathlib.Core.Bool.{false}
-use Rattle.table.specs.Limits.{widthLimit, outside}
+use mathlib.Core.Path.{sym, _∙_}
+use Rattle.table.specs.Limits.{widthLimit}
 use Rattle.table.specs.Refusals.{outcome}
 use Rattle.table.proofs.Table.{width-is}
 use Rattle.fields.specs.Rules.{checkRulesOf, ruleTests}

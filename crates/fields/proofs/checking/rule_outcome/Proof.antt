@@ -1,7 +1,7 @@
 -- Each return is the outcome of tests 4 and 5, by the tests that led there.
-use mathlib.Core.Path.{_≡_, sym, _∙_}
+use mathlib.Core.Path.{sym, _∙_}
 use borrow.Author.Needs.{needs}
-use Rattle.fields.proofs.Rules.{dest-fails, source-fails, place-first, place-passes, place-fails}
+use Rattle.fields.proofs.Rules.{dest-fails, source-fails, first-in-order, place-passes, place-fails}
 use Rattle.fields.proofs.checking.rule_outcome.Statement.{statement}
 use Rattle.fields.proofs.checking.rule_outcome.Tie as tie
 
@@ -23,7 +23,7 @@ returns-3 : tie.Need-returns-3
 returns-3 c =
     let e = c .before in
     let d = e .before .before in
-    place-first _ _ _ (sym (d .if1 .left) ∙ d .before .field-bad .ensures) (sym (e .if2 .left) ∙ e .before .field-bad2 .ensures) (c .if3 .taken)
+    first-in-order _ _ _ (sym (d .if1 .left) ∙ d .before .field-bad .ensures) (sym (e .if2 .left) ∙ e .before .field-bad2 .ensures) (c .if3 .taken)
 
 sub-is-rule-below : tie.Need-sub-is-rule-below
 sub-is-rule-below c = search needs

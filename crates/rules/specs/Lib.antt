@@ -1,0 +1,2 @@
+-- What the functions that gather destinations and link their tries give.
+pub mod Gathering
