@@ -1,2 +1,5 @@
--- What the functions that gather destinations and link their tries give.
+-- What an inspector reads: the build's promise.
+pub mod Build
+-- What only the inside needs: the destinations gathered from the rules and the links between their tries.
 pub mod Gathering
+pub mod Splitting
