@@ -1,5 +1,7 @@
--- The laws behind the gathering and the links, and those of single tables and of sums over all tries.
+-- The laws behind the gathering and the links, those of single tables and of sums over all tries, and those of tries laid at a place.
 pub mod Gathering
 pub mod Links
 pub mod Planning
 pub mod Splitting
+pub mod Lending
+pub mod Listing

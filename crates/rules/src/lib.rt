@@ -3,4 +3,5 @@
 
 mod counting;
 mod grouping;
+mod laying;
 mod linking;
