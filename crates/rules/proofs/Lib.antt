@@ -5,3 +5,4 @@ pub mod Planning
 pub mod Splitting
 pub mod Lending
 pub mod Listing
+pub mod Standing
