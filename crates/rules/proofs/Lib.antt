@@ -6,3 +6,4 @@ pub mod Splitting
 pub mod Lending
 pub mod Listing
 pub mod Standing
+pub mod Steps

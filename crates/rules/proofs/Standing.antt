@@ -47,7 +47,7 @@ hold-kept ls ls′ b (x ∷ rs) same h =
     let here : rowAt ls′ b ≡ rowAt ls b = rw e at (same 0 (omega arith)) in
     (here ∙ h .0, hold-kept ls ls′ (suc b) rs (λ i l. let d : b + suc i ≡ suc b + i = omega arith in rw d at (same (suc i) (omega arith))) (h .1))
 
-same-shortest : {rows rows′ : Lists} → SameRoom rows rows′ → shortest rows′ ≡ shortest rows
+pub same-shortest : {rows rows′ : Lists} → SameRoom rows rows′ → shortest rows′ ≡ shortest rows
 same-shortest r = omega (arith, r .hops, r .lens, r .links, r .strides)
 
 -- a trie whose rows stay is still laid

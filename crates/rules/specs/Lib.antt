@@ -4,3 +4,4 @@ pub mod Build
 pub mod Gathering
 pub mod Splitting
 pub mod Laying
+pub mod Building

@@ -60,7 +60,7 @@ partTrie W first svals slens actions g =
 -- so did all of them, and the parts lie in their lists
 pub record CanSplit (W k : ℕ) (s : SplitRules) : Type 0 where
   pub few : length (s .vals) ≤ ruleLimit
-  pub firsts : length (s .first) ≡ suc (length (s .vals))
+  pub firsts : length (s .vals) < length (s .first)
   pub rising : (g : ℕ) → g < length (s .vals) → at (s .first) g ≤ at (s .first) (suc g)
   pub svalues : (g : ℕ) → g ≤ length (s .vals) → at (s .first) g ≤ length (s .svals)
   pub slengths : (g : ℕ) → g ≤ length (s .vals) → at (s .first) g ≤ length (s .slens)

@@ -45,8 +45,8 @@ fn refused(number: u32, detail: u64) -> Built
     }
 }
 
-// Whether e rows are more than one of the lists has, or more than there may be.
-fn is_crowded(e: u64, hops: usize, lens: usize, links: usize, strides: usize) -> bool
+// Test 7: whether e rows are more than one of the lists has, or more than there may be.
+pub fn is_crowded(e: u64, hops: usize, lens: usize, links: usize, strides: usize) -> bool
     ensures { λ r. ⌜ r ≡ (ltb (min hops (min lens (min links strides))) e || ltb ELEMENTS e) ⌝ }
 {
     if (smaller(hops, smaller(lens, smaller(links, strides))) as u64) < e {

@@ -7,6 +7,7 @@ mod scratch;
 
 pub use building::Built;
 pub use building::build;
+pub use building::is_crowded;
 pub use choosers::Chosen;
 pub use choosers::Kind;
 pub use choosers::ROW;

@@ -1,0 +1,187 @@
+-- The build step by step: refused by 7 for elements or for the list, or built; and refused by 6 before that.
+use mathlib.Core.Path.{_≡_, refl, sym, ap, subst, _∙_}
+use mathlib.Core.Bool.{Bool, true, false, _||_}
+use mathlib.Core.List.{List, [], _∷_}
+use Prim.Native.Nat.{ℕ, zero, suc, _+_, _*_, _/_, _≤_, _<_}
+use native.Mathlib.Nat.{le-trans}
+use native.Mathlib.Omega.{arith}
+use lib.Dec.{ltb}
+use lib.ListN.{length, replicate}
+use borrow.Author.Tests.{lt-ltb, le-ltb, ltb-false}
+use Rattle.table.specs.Refusals.{Test, outcome}
+use Rattle.table.specs.declared.entry.Outcome.{Outcome}
+use Rattle.table.specs.declared.entry.Outcome.the-variants.{Accepted, Refused}
+use Rattle.table.proofs.Bools.{or-false}
+use Rattle.table.proofs.Refusals.{outcome-fails, outcome-passes, refused-not-accepted}
+use Rattle.strides.specs.Trie.{size}
+use Rattle.strides.specs.Cheapest.{Kind}
+use Rattle.strides.specs.Recurrence.{plain, leastBy}
+use Rattle.strides.specs.Strides.{chosenBy}
+use Rattle.walk.specs.Limits.{WIDTH}
+use Rattle.walk.specs.Rows.{Lists, shortest, rowAt}
+use Rattle.walk.specs.declared.record.Record.{Record}
+use Rattle.layout.specs.Laid.{Laid}
+use Rattle.choosers.specs.Chooser.{ifAccepted}
+use Rattle.choosers.specs.Scratch.{ROW}
+use Rattle.tries.specs.Build.{roomTest}
+use Rattle.tries.specs.Limits.{ELEMENTS}
+use Rattle.fields.specs.Runs.{EntryLists, sumFirst}
+use Rattle.verdicts.specs.Limits.{TRIE-ROW}
+use Rattle.verdicts.specs.Tries.{fromPlace}
+use Rattle.verdicts.specs.declared.record.RuleRecord.{RuleRecord}
+use Rattle.rules.specs.Build.{nodesTest, listTest, NoRuleRecord, RulesKept}
+use Rattle.rules.specs.Splitting.{SplitRules, splitTable, splitTrie, splitNodes, splitCosts, CanSplit, Roomy}
+use Rattle.rules.specs.Laying.{SameRoom, CanLayAt, LaysAt, sourceCost, placeOf, SourceStands, CanLaySources, LaidTo}
+use Rattle.rules.specs.Building.{SplitLaid, SplitWritten, TriesBuilt, SplitBuilt}
+use Rattle.rules.proofs.Planning.{sum-part}
+use Rattle.rules.proofs.Standing.{laid-kept, same-shortest}
+
+-- a sum without its first
+pub sum-shift : (f : ℕ → ℕ) (n : ℕ) → sumFirst f (suc n) ≡ f 0 + sumFirst (λ j. f (suc j)) n
+unfolding sumFirst
+sum-shift f zero = omega arith
+sum-shift f (suc n) = omega (arith, sum-shift f n)
+
+-- scratch with a row for each node of all tries has one for each node of each
+pub all-roomy : (W : ℕ) (s : SplitRules) (words : ℕ) → splitNodes W s ≤ words / ROW → Roomy W s words
+all-roomy W s words h g l =
+    let one = sum-part (λ x. size (splitTrie W s x)) (suc (length (s .vals))) g (omega arith) in omega (arith, one)
+
+-- ---- refused: nothing is written
+
+nothing-written : (kind : Kind) (W k : ℕ) (s : SplitRules) (rows : Lists) (list : List ℕ) {out : Outcome} {n d : ℕ} {rec : RuleRecord} → out ≡ Refused n d
+    → NoRuleRecord rec → SplitWritten kind W k s rows list out rec rows list
+nothing-written kind W k s rows list e z = record {
+  laid = λ a. absurd (refused-not-accepted (sym e ∙ a));
+  keeps = record {
+    hops = refl;
+    lens = refl;
+    links = refl;
+    strides = refl;
+    places = refl;
+    later = λ a. absurd (refused-not-accepted (sym e ∙ a));
+    refused = λ ne. (z, refl, refl);
+  };
+}
+
+module _ (kind : Kind) (W k : ℕ) (s : SplitRules) (rows : Lists) (list : List ℕ) {out : Outcome} {rec : RuleRecord} where
+  -- by 7 for elements
+  pub crowded-tries : {cost : ℕ} → cost ≡ splitCosts kind W k s → (ltb (shortest rows) cost || ltb ELEMENTS cost) ≡ true → out ≡ Refused 7 cost
+      → NoRuleRecord rec → TriesBuilt kind W k s rows list out rec rows list
+  unfolding outcome
+  crowded-tries {cost} c f e z = record {
+    tests = e ∙ sym (rw (sym c) (outcome-fails (roomTest cost (shortest rows)) (listTest (length list) (length (s .vals)) ∷ []) f));
+    written = nothing-written kind W k s rows list e z;
+  }
+
+  -- by 7 for the list
+  pub short-list : {cost : ℕ} → cost ≡ splitCosts kind W k s → (ltb (shortest rows) cost || ltb ELEMENTS cost) ≡ false → length list / TRIE-ROW < (length (s .vals))
+      → out ≡ Refused 7 (length (s .vals)) → NoRuleRecord rec → TriesBuilt kind W k s rows list out rec rows list
+  unfolding outcome
+  short-list {cost} c f l e z = record {
+    tests = e ∙ sym (rw (sym c) (outcome-passes (roomTest cost (shortest rows)) (listTest (length list) (length (s .vals)) ∷ []) f
+        ∙ outcome-fails (listTest (length list) (length (s .vals))) [] (lt-ltb (length list / TRIE-ROW) (length (s .vals)) l)));
+    written = nothing-written kind W k s rows list e z;
+  }
+
+-- ---- built
+
+module _ (kind : Kind) (W k : ℕ) (s : SplitRules) (can : CanSplit W k s) {words : ℕ} (roomy : Roomy W s words) (rows : Lists) (list : List ℕ) {cost : ℕ}
+    (costs : cost ≡ splitCosts kind W k s) (fits : (ltb (shortest rows) cost || ltb ELEMENTS cost) ≡ false) where
+  abbrev own : ℕ
+  own = leastBy plain kind k (splitTrie W s 0)
+
+  room-fits : cost ≤ shortest rows
+  room-fits = ltb-false (shortest rows) cost (or-false (ltb (shortest rows) cost) (ltb ELEMENTS cost) fits .0)
+
+  few-rows : cost ≤ ELEMENTS
+  few-rows = ltb-false ELEMENTS cost (or-false (ltb (shortest rows) cost) (ltb ELEMENTS cost) fits .1)
+
+  -- the destination trie and all source tries
+  both-costs : cost ≡ own + sumFirst (sourceCost kind W k s) (length (s .vals))
+  both-costs = costs ∙ sum-shift (λ g. leastBy plain kind k (splitTrie W s g)) (length (s .vals))
+
+  pub may-lay-dest : CanLayAt kind W k (s .vals) (s .lens) (s .nums) words 0 rows
+  may-lay-dest = record {
+    plan = can .plans 0 (omega arith);
+    roomy = roomy 0 (omega arith);
+    fits = le-trans (omega (arith, both-costs)) room-fits;
+    few = omega (arith, both-costs, few-rows);
+  }
+
+  module _ (listed : length (s .vals) ≤ length list / TRIE-ROW) {rows1 : Lists} {dest : Record}
+      (l : LaysAt kind W k (s .vals) (s .lens) (s .nums) 0 rows dest rows1) where
+    same-place : placeOf kind W k s (dest .elements) (length (s .vals)) ≡ cost
+    same-place = rw (l .count) (sym both-costs)
+
+    pub may-lay-sources : CanLaySources kind W k s (dest .elements) words rows1 list
+    may-lay-sources = record {
+      split = can;
+      roomy = roomy;
+      fits = rw (same-place, same-shortest (l .room)) room-fits;
+      few = rw same-place few-rows;
+      places = omega arith;
+    }
+
+    module _ {e : ℕ} {rows2 : Lists} {list2 : List ℕ} (t : LaidTo kind W k s (dest .elements) rows1 list (length (s .vals)) e rows2 list2) where
+      pub elements-few : e ≤ ELEMENTS
+      elements-few = omega (arith, t .reached, same-place, few-rows)
+
+      -- the destination's rows stay
+      dest-kept : Laid WIDTH W (s .vals) (s .lens) (s .nums) (chosenBy plain kind k (splitTrie W s 0)) k dest rows2
+      dest-kept = laid-kept 0 rows1 rows2 (same-shortest (t .room)) (λ i a b. t .before i (omega arith)) (l .laid)
+
+      pub tries-built : {out : Outcome} {rec : RuleRecord} → out ≡ Accepted → rec .dest ≡ dest → rec .elements ≡ e
+          → TriesBuilt kind W k s rows list out rec rows2 list2
+      unfolding outcome
+      tries-built {out} {rec} o d q = record {
+        tests = o ∙ sym (rw (sym costs) (outcome-passes (roomTest cost (shortest rows)) (listTest (length list) (length (s .vals)) ∷ []) fits
+            ∙ outcome-passes (listTest (length list) (length (s .vals))) [] (le-ltb (length list / TRIE-ROW) (length (s .vals)) listed)));
+        written = record {
+          laid = λ a. record {
+            dest = rw d dest-kept;
+            named = rw d (l .named);
+            sources = λ g h. rw d (t .stands g h);
+            all = rw d (q ∙ t .reached);
+            rest = t .rest;
+            places = omega (arith, t .long, listed);
+          };
+          keeps = record {
+            hops = t .room .hops ∙ l .room .hops;
+            lens = t .room .lens ∙ l .room .lens;
+            links = t .room .links ∙ l .room .links;
+            strides = t .room .strides ∙ l .room .strides;
+            places = t .long;
+            later = λ a i h. t .after i (omega (arith, q)) ∙ l .after i (omega (arith, q, t .reached));
+            refused = λ ne. absurd (ne o);
+          };
+        };
+      }
+
+-- ---- test 6 before that
+
+module _ (kind : Kind) (W k : ℕ) (s : SplitRules) (scratch : List ℕ) (rows : Lists) (list : List ℕ) where
+  abbrev sevens : List Test
+  sevens = roomTest (splitCosts kind W k s) (shortest rows) ∷ listTest (length list) (length (s .vals)) ∷ []
+
+  module _ {out : Outcome} {rec : RuleRecord} {nodes : ℕ} (counted : nodes ≡ splitNodes W s) where
+    pub scratch-short : length scratch / ROW < nodes → out ≡ Refused 6 nodes → NoRuleRecord rec → SplitBuilt kind W k s scratch rows list out rec scratch rows list
+    unfolding outcome ifAccepted
+    scratch-short h e z =
+        let f : ltb (length scratch / ROW) (splitNodes W s) ≡ true = rw (sym counted) (lt-ltb (length scratch / ROW) nodes h) in
+        record {
+          tests = e ∙ ap (Refused 6) counted ∙ sym (outcome-fails (nodesTest (length scratch) (splitNodes W s)) sevens f);
+          after = rw f refl;
+          written = nothing-written kind W k s rows list e z;
+        }
+
+    pub split-built : nodes ≤ length scratch / ROW → {scratch′ : List ℕ} {rows′ : Lists} {list′ : List ℕ} → TriesBuilt kind W k s rows list out rec rows′ list′
+        → scratch′ ≡ replicate (length scratch) 0 → SplitBuilt kind W k s scratch rows list out rec scratch′ rows′ list′
+    unfolding outcome ifAccepted
+    split-built h b z =
+        let f : ltb (length scratch / ROW) (splitNodes W s) ≡ false = rw (sym counted) (le-ltb (length scratch / ROW) nodes h) in
+        record {
+          tests = b .tests ∙ sym (outcome-passes (nodesTest (length scratch) (splitNodes W s)) sevens f);
+          after = z ∙ rw f refl;
+          written = b .written;
+        }

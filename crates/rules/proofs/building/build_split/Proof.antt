@@ -1,0 +1,97 @@
+use Prim.Native.Nat.{ℕ, _/_, _≤_, _<_}
+use mathlib.Core.Path.{_≡_, refl, sym, ap, _∙_}
+use native.Mathlib.Omega.{arith}
+use lib.ListN.{length, replicate}
+use Rattle.walk.specs.Rows.{lists}
+use Rattle.choosers.specs.Kinds.{kindOf}
+use Rattle.choosers.specs.Scratch.{ROW}
+use Rattle.rules.specs.Splitting.{splitRules}
+use Rattle.rules.proofs.Steps.{all-roomy, scratch-short, split-built}
+use borrow.Author.Needs.{needs}
+use Rattle.rules.proofs.building.build_split.Statement.{statement}
+use Rattle.rules.proofs.building.build_split.Tie as tie
+use Rattle.rules.proofs.building.build_split.Reads as reads
+use Rattle.rules.proofs.building.build_split.Lts as lts
+use Rattle.rules.proofs.building.build_tries.Reads as build-tries-reads
+use Rattle.rules.proofs.building.refused.Reads as refused-reads
+use Rattle.rules.proofs.counting.all_nodes.Reads as all-nodes-reads
+use Rattle.table.proofs.zero.Reads as zero-reads
+
+-- src/building.rt:180:9
+all-nodes-requires : tie.Need-all-nodes-requires
+all-nodes-requires c κs = search needs
+
+-- src/building.rt:192:9
+refused-requires : tie.Need-refused-requires
+refused-requires c κs = search needs
+
+-- src/building.rt:192:9
+returns : tie.Need-returns
+returns c =
+    let a = c .before .before .before .before .before .before .before .before .before .before .before .before .before .before .before .before .args in
+    let s = splitRules (a .first .now) (a .vals .now) (a .lens .now) (a .nums .now) (a .svals .now) (a .slens .now) (a .actions .now) in
+    let rows = lists (a .rowhops .now) (a .rowlens .now) (a .rowlinks .now) (a .rowstrides .now) in
+    scratch-short (kindOf (a .kind)) (a .width) (a .levels) s (a .scratch .now) rows (a .list .now) (c .before .before .all-nodes .ensures) (c .before .if1 .taken)
+    (c .refused .ensures .0) (c .refused .ensures .1)
+
+-- src/building.rt:194:9
+build-tries-requires : tie.Need-build-tries-requires
+build-tries-requires c κs =
+    let a = c .before .before .before .before .before .before .before .before .before .before .before .before .before .before .before .before .before .before .before .before .before .args in
+    let s = splitRules (a .first .now) (a .vals .now) (a .lens .now) (a .nums .now) (a .svals .now) (a .slens .now) (a .actions .now) in
+    (c .before .before .before .before .before .before .before .before .before .before .before .before .before .before .before .before .before .before .before .before .before .pre, all-roomy (a .width) s (length (a .scratch .now)) (omega (arith, c .before .before .before .before .before .before .before .all-nodes .ensures, c .before .before .before .before .before .before .if1 .left)))
+
+-- src/building.rt:212:5
+zero-requires : tie.Need-zero-requires
+zero-requires c κs = search needs
+
+-- src/building.rt:154:1
+same-length : tie.Need-same-length
+same-length c = search needs
+
+-- src/building.rt:154:1
+same-length-2 : tie.Need-same-length-2
+same-length-2 c = search needs
+
+-- src/building.rt:154:1
+same-length-3 : tie.Need-same-length-3
+same-length-3 c = search needs
+
+-- src/building.rt:154:1
+same-length-4 : tie.Need-same-length-4
+same-length-4 c = search needs
+
+-- src/building.rt:154:1
+same-length-5 : tie.Need-same-length-5
+same-length-5 c = search needs
+
+-- src/building.rt:154:1
+same-length-6 : tie.Need-same-length-6
+same-length-6 c = search needs
+
+-- src/building.rt:154:1
+returns-2 : tie.Need-returns-2
+returns-2 c =
+    let a = c .before .before .before .before .before .before .before .before .before .before .before .before .before .before .before .before .before .before .before .before .before .before .before .before .before .before .before .before .before .before .before .before .before .before .before .before .before .before .args in
+    let s = splitRules (a .first .now) (a .vals .now) (a .lens .now) (a .nums .now) (a .svals .now) (a .slens .now) (a .actions .now) in
+    let rows = lists (a .rowhops .now) (a .rowlens .now) (a .rowlinks .now) (a .rowstrides .now) in
+    let long : length (c .before .before .before .before .before .before .before .before .before .before .before .before .before .before .before .before .build-tries .last .1 .1 .1 .1 .1 .1 .1 .1 .1 .1 .0) ≡ length (a .scratch .now) = omega (arith, c .before .before .before .before .before .before .before .before .before .before .before .before .before .before .before .before .build-tries .kept) in
+    split-built (kindOf (a .kind)) (a .width) (a .levels) s (a .scratch .now) rows (a .list .now) (c .before .before .before .before .before .before .before .before .before .before .before .before .before .before .before .before .before .before .before .before .before .before .before .before .all-nodes .ensures) (c .before .before .before .before .before .before .before .before .before .before .before .before .before .before .before .before .before .before .before .before .before .before .before .if1 .left)
+    (c .before .before .before .before .before .before .before .before .before .before .before .before .before .before .before .before .build-tries .ensures) (c .before .before .zero .ensures ∙ ap (λ (n : ℕ). replicate n 0) long)
+
+pub build-split-spec : {M : Type 1} → statement M
+build-split-spec =
+    tie.close
+    (tie.spec
+    all-nodes-requires
+    refused-requires
+    returns
+    build-tries-requires
+    zero-requires
+    same-length
+    same-length-2
+    same-length-3
+    same-length-4
+    same-length-5
+    same-length-6
+    returns-2)

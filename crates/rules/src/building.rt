@@ -1,0 +1,214 @@
+// The build of rules (02, [6]): a destination trie whose entries lead to source tries, all in lent arrays.
+ghost use mathlib.Core.Path.{_≡_};
+ghost use lib.ListN.{length};
+ghost use Rattle.table.specs.declared.entry.Outcome.the-variants.{Refused};
+ghost use Rattle.walk.specs.Rows.{lists};
+ghost use Rattle.choosers.specs.Kinds.{kindOf};
+ghost use Rattle.fields.specs.Rules.{rules};
+ghost use Rattle.rules.specs.Build.{NoRuleRecord, RulesAre, RuleBuilds};
+ghost use Rattle.rules.specs.Splitting.{splitRules, CanSplit, Roomy};
+ghost use Rattle.rules.specs.Building.{TriesBuilt, SplitBuilt};
+use crate::counting::all_costs;
+use crate::counting::all_nodes;
+use crate::grouping::gather;
+use crate::laying::lay_at;
+use crate::laying::lay_sources;
+use crate::room::destination_lengths;
+use crate::room::destination_values;
+use crate::room::first_rules;
+use crate::room::trie_numbers;
+use choosers::Kind;
+use choosers::ROW;
+use fields::check_rules;
+use table::Outcome;
+use table::WIDTH;
+use table::is_outside;
+use table::zero;
+use tries::is_crowded;
+use verdicts::RuleRecord;
+use verdicts::TRIE_ROW;
+use walk::LEVELS;
+use walk::Record;
+
+pub struct BuiltRules {
+    pub outcome: Outcome,
+    pub record: RuleRecord,
+}
+
+// A refused build: its record is all zeros.
+fn refused(number: u32, detail: u64) -> BuiltRules
+    ensures told { λ r. ⌜ r .outcome ≡ Refused number detail ⌝ }
+    ensures empty { λ r. ⌜ NoRuleRecord (r .record) ⌝ }
+{
+    BuiltRules {
+        outcome: Outcome::Refused { number, detail },
+        record: RuleRecord {
+            dest: Record {
+                width: 0,
+                levels: 0,
+                elements: 0,
+                floor: 0,
+                strides: [0u8; LEVELS as usize],
+            },
+            elements: 0,
+        },
+    }
+}
+
+// Past test 6: refuses for room, of elements or of the list (7), or lays all tries.
+fn build_tries(
+    kind: Kind,
+    width: u32,
+    levels: u32,
+    first: &[u16],
+    vals: &[u32],
+    lens: &[u8],
+    nums: &[u16],
+    svals: &[u32],
+    slens: &[u8],
+    actions: &[u16],
+    scratch: &mut [u64],
+    rowhops: &mut [u16],
+    rowlens: &mut [u8],
+    rowlinks: &mut [u32],
+    rowstrides: &mut [u8],
+    list: &mut [u32],
+) -> BuiltRules
+    requires { ⌜ CanSplit width levels (splitRules (now first) (now vals) (now lens) (now nums) (now svals) (now slens) (now actions)) ⌝ }
+    requires { ⌜ Roomy width (splitRules (now first) (now vals) (now lens) (now nums) (now svals) (now slens) (now actions)) (length (now scratch)) ⌝ }
+    ensures { λ r. ⌜
+        TriesBuilt (kindOf kind) width levels
+        (splitRules (now (first .entry)) (now (vals .entry)) (now (lens .entry)) (now (nums .entry)) (now (svals .entry)) (now (slens .entry)) (now (actions .entry)))
+        (lists (now (rowhops .entry)) (now (rowlens .entry)) (now (rowlinks .entry)) (now (rowstrides .entry))) (now (list .entry)) (r .outcome) (r .record)
+        (lists (now (rowhops .exit)) (now (rowlens .exit)) (now (rowlinks .exit)) (now (rowstrides .exit))) (now (list .exit)) ⌝ }
+{
+    let cost = all_costs(
+        kind,
+        width,
+        levels,
+        first,
+        vals,
+        lens,
+        nums,
+        svals,
+        slens,
+        actions,
+        scratch,
+    );
+    if is_crowded(
+        cost,
+        rowhops.len(),
+        rowlens.len(),
+        rowlinks.len(),
+        rowstrides.len(),
+    ) {
+        return refused(7, cost);
+    }
+    let m = vals.len();
+    if list.len() / TRIE_ROW < m {
+        return refused(7, m as u64);
+    }
+    let dest = lay_at(
+        kind,
+        width,
+        levels,
+        vals,
+        lens,
+        nums,
+        scratch,
+        rowhops,
+        rowlens,
+        rowlinks,
+        rowstrides,
+        0,
+    );
+    let elements = lay_sources(
+        kind,
+        width,
+        levels,
+        first,
+        vals,
+        lens,
+        nums,
+        svals,
+        slens,
+        actions,
+        scratch,
+        rowhops,
+        rowlens,
+        rowlinks,
+        rowstrides,
+        list,
+        dest.elements as usize,
+    );
+    BuiltRules {
+        outcome: Outcome::Accepted,
+        record: RuleRecord {
+            dest,
+            elements: elements as u32,
+        },
+    }
+}
+
+// Past test 5, with the destinations gathered: refuses for scratch (6), or goes on and leaves scratch all 0.
+fn build_split(
+    kind: Kind,
+    width: u32,
+    levels: u32,
+    first: &[u16],
+    vals: &[u32],
+    lens: &[u8],
+    nums: &[u16],
+    svals: &[u32],
+    slens: &[u8],
+    actions: &[u16],
+    scratch: &mut [u64],
+    rowhops: &mut [u16],
+    rowlens: &mut [u8],
+    rowlinks: &mut [u32],
+    rowstrides: &mut [u8],
+    list: &mut [u32],
+) -> BuiltRules
+    requires { ⌜ CanSplit width levels (splitRules (now first) (now vals) (now lens) (now nums) (now svals) (now slens) (now actions)) ⌝ }
+    ensures { λ r. ⌜
+        SplitBuilt (kindOf kind) width levels
+        (splitRules (now (first .entry)) (now (vals .entry)) (now (lens .entry)) (now (nums .entry)) (now (svals .entry)) (now (slens .entry)) (now (actions .entry)))
+        (now (scratch .entry)) (lists (now (rowhops .entry)) (now (rowlens .entry)) (now (rowlinks .entry)) (now (rowstrides .entry))) (now (list .entry))
+        (r .outcome) (r .record) (now (scratch .exit))
+        (lists (now (rowhops .exit)) (now (rowlens .exit)) (now (rowlinks .exit)) (now (rowstrides .exit))) (now (list .exit)) ⌝ }
+{
+    let nodes = all_nodes(
+        width,
+        levels,
+        first,
+        vals,
+        lens,
+        nums,
+        svals,
+        slens,
+        actions,
+    );
+    if scratch.len() / ROW < nodes {
+        return refused(6, nodes as u64);
+    }
+    let built = build_tries(
+        kind,
+        width,
+        levels,
+        first,
+        vals,
+        lens,
+        nums,
+        svals,
+        slens,
+        actions,
+        scratch,
+        rowhops,
+        rowlens,
+        rowlinks,
+        rowstrides,
+        list,
+    );
+    zero(scratch);
+    built
+}
