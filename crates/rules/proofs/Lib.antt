@@ -1,3 +1,6 @@
 -- The laws behind the gathering and the links.
 pub mod Gathering
 pub mod Links
+-- The demands over a build of rules.
+pub mod Sums
+pub mod Deciding
