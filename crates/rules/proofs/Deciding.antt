@@ -2,8 +2,8 @@
 -- action where it stops is that of the rule that wins.
 use mathlib.Core.Path.{_≡_, refl, sym, ap, subst, _∙_}
 use mathlib.Core.Bool.{Bool, true, false, cond, _&&_, true≢false}
-use mathlib.Core.List.{List, [], _∷_, _++_, append-nil}
-use mathlib.Core.Logic.{⊎-elim}
+use mathlib.Core.List.{List, [], _∷_, _++_, append-nil, List·Memᴰ}
+use mathlib.Core.Logic.{⊎-elim, _↔_}
 use Prim.Native.Nat.{ℕ, zero, suc, _+_, _-_, _*_, _/_, _^_, _≤_, _<_}
 use native.Mathlib.Nat.{add-assoc}
 use native.Mathlib.Omega.{arith}
@@ -28,10 +28,10 @@ use Rattle.walk.proofs.Unique.{on-path-unique}
 use Rattle.walk.proofs.Reading.{rows-on-path, best-path}
 use Rattle.layout.specs.Blocks.{Strides, rowsAlong}
 use Rattle.layout.proofs.Laid.{accepted, hop-longest, laid-longest, rows-exactly}
-use Rattle.fields.specs.Rules.{Rules, GoodRules}
+use Rattle.fields.specs.Rules.{Rules, ruleCount, GoodRules}
 use Rattle.fields.specs.Runs.{EntryLists, trieTable, sumFirst}
-use Rattle.fields.proofs.Chain.{visitedFrom, stopsAt, overrun, chain-stops, chain-never-over}
-use Rattle.fields.specs.Winning.{TopRule}
+use Rattle.fields.proofs.Chain.{visitedFrom, stopsAt, overrun, Falls, and-both, chain-stops, chain-never-over, chain-visits, chain-falls}
+use Rattle.fields.specs.Winning.{matchesRule, TopRule}
 use Rattle.fields.proofs.Tables.{dest-lengths, dest-at, source-lengths, source-at}
 use Rattle.fields.proofs.Top.{entryMatches, top-found, top-none}
 use Rattle.verdicts.specs.Limits.{TRIE-ROW, VISITS}
@@ -44,7 +44,7 @@ use Rattle.verdicts.proofs.Alone.{shortest-from}
 use Rattle.verdicts.proofs.Answers.{verdict-number, verdict-action, verdict-reads, verdict-case}
 use Rattle.verdicts.proofs.Unique.{visits-unique, classified-unique}
 use Rattle.rules.specs.Build.{RunsOf, ruleTrie, TriesLaid}
-use Rattle.rules.specs.Deciding.{ActionIs, no-rule, top-rule, rowsThrough, rowsOnWay}
+use Rattle.rules.specs.Deciding.{ActionIs, no-rule, top-rule, Calls, rowsThrough, rowsOnWay}
 use Rattle.rules.proofs.Sums.{sum-rises}
 
 -- a winner's number is no greater than there are entries
@@ -289,3 +289,41 @@ module _ {W k : ℕ} {rs : Rules} {m : ℕ} {from : ℕ → ℕ} {σ : ℕ → S
           go : (b : ℕ) → Wins matchesBoth (at (dests .lens)) m b → ActionIs W rs da sa (actionAt sa hs b)
           go zero (no-winner nil) = no-rule (top-none W rs good runs da sa (hit sa hs) misses nil)
           go (suc g) (some r) = let w = wins-in g r in rw (w .action) (top-rule (w .top))
+
+      -- ---- which tries are visited
+
+      visits-exactly : (x : ℕ) → List·Memᴰ x triesVisited ↔ ((x < m) × (matches W (at (dests .vals)) (at (dests .lens)) da x ≡ true)
+          × ((j : ℕ) → j < m → matches W (at (dests .vals)) (at (dests .lens)) da j ≡ true → hit sa hs j ≡ true → at (dests .lens) j ≤ at (dests .lens) x))
+      visits-exactly =
+          chain-visits W (at (dests .vals)) (at (dests .lens)) (at (dests .hops)) m da entry next (laid .next) (hit sa hs) VISITS called high start-at
+
+      -- those of destinations that begin the address, where no rule that matches has a longer one
+      pub tries-called : (x : ℕ) → List·Memᴰ x triesVisited ↔ Calls W rs m from da sa x
+      unfolding matches
+      tries-called x = (
+        λ i. let d = visits-exactly x .0 i in record { inside = d .0; begun = d .1; most = λ j l t. longer stop stops (d .2) j l t },
+        λ c. visits-exactly x .1 (c .inside, c .begun, λ j l e t. shorter stop stops (c .most) j l (and-both _ _ e t)),
+      )
+        where
+          longer : (b : ℕ) → Wins matchesBoth (at (dests .lens)) m b
+              → ((j : ℕ) → j < m → matches W (at (dests .vals)) (at (dests .lens)) da j ≡ true → hit sa hs j ≡ true → at (dests .lens) j ≤ at (dests .lens) x)
+              → (i : ℕ) → i < ruleCount rs → matchesRule W rs da sa i ≡ true → at (rs .dlens) i ≤ at (dests .lens) x
+          longer zero (no-winner nil) d i l t = absurd (true≢false (sym t ∙ top-none W rs good runs da sa (hit sa hs) misses nil i l))
+          longer (suc g) (some r) d i l t =
+              let w = wins-in g r in
+              let both = and-true (matches W (at (dests .vals)) (at (dests .lens)) da g) (hit sa hs g) (r .marked) in
+              let le = d g (r .inside) (both .0) (both .1) in
+              ⊎-elim (λ (q : at (rs .dlens) i < at (rs .dlens) (w .rule)). omega (arith, q, w .length-is, le))
+              (λ (q : (at (rs .dlens) i ≡ at (rs .dlens) (w .rule)) × (at (rs .slens) i ≤ at (rs .slens) (w .rule))). omega (arith, q .0, w .length-is, le)) (w .top .most i l t)
+
+          shorter : (b : ℕ) → Wins matchesBoth (at (dests .lens)) m b
+              → ((i : ℕ) → i < ruleCount rs → matchesRule W rs da sa i ≡ true → at (rs .dlens) i ≤ at (dests .lens) x)
+              → (j : ℕ) → j < m → matchesBoth j ≡ true → at (dests .lens) j ≤ at (dests .lens) x
+          shorter zero (no-winner nil) c j l t = absurd (true≢false (sym t ∙ nil j l))
+          shorter (suc g) (some r) c j l t =
+              let w = wins-in g r in omega (arith, r .most j l t, w .length-is, c (w .rule) (w .top .inside) (w .top .marked))
+
+    -- the lengths of their destinations fall
+    pub tries-fall : Falls (at (dests .lens)) (suc W) triesVisited
+    tries-fall =
+        chain-falls W (at (dests .vals)) (at (dests .lens)) (at (dests .hops)) m da entry next (laid .next) (hit sa hs) VISITS called high start-at
