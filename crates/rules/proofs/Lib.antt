@@ -4,3 +4,5 @@ pub mod Links
 -- The demands over a build of rules.
 pub mod Sums
 pub mod Deciding
+pub mod RuleTests
+pub mod Demands

@@ -1,0 +1,129 @@
+-- The demands over a build of rules and a classification over what it left (02, [6]), sentence by sentence, as theorems over what the two
+-- calls promise: their meaning (`RuleBuilds`, `Classified`), not how it is found.
+use mathlib.Core.Path.{_≡_, refl, sym, ap, subst, _∙_}
+use mathlib.Core.List.{List, [], _∷_, List·Memᴰ}
+use mathlib.Core.Logic.{_↔_}
+use Prim.Native.Nat.{ℕ, suc, _+_, _*_, _^_, _≤_, _<_}
+use native.Mathlib.Omega.{arith}
+use lib.ListN.{length, replicate}
+use Rattle.table.specs.Limits.{discardHop}
+use Rattle.table.specs.Table.{at}
+use Rattle.table.specs.Refusals.{Test, outcome, Gives}
+use Rattle.table.specs.declared.entry.Outcome.{Outcome}
+use Rattle.table.specs.declared.entry.Outcome.the-variants.{Accepted, Refused}
+use Rattle.table.proofs.Refusals.{outcome-gives, gives-outcome, gives-unique, given-exactly, refused-not-accepted}
+use Rattle.table.proofs.Numbered.{refused-number}
+use Rattle.strides.specs.Cheapest.{Kind, Cheapest}
+use Rattle.strides.specs.Recurrence.{plain, leastBy}
+use Rattle.strides.proofs.Cheapest.{least-cheapest}
+use Rattle.strides.proofs.Follows.{follows-cheapest}
+use Rattle.walk.specs.Limits.{WIDTH}
+use Rattle.walk.specs.Rows.{Lists, shortest, rowAt}
+use Rattle.layout.proofs.Laid.{elements-cost}
+use Rattle.fields.specs.Rules.{Rules, ruleCount, GoodRules}
+use Rattle.fields.specs.Winning.{TopRule, NoRuleMatches}
+use Rattle.fields.specs.Runs.{Runs, EntryLists, trieTable}
+use Rattle.fields.proofs.Runs.{runCount, runFrom, runs-exist}
+use Rattle.fields.proofs.Chain.{Falls}
+use Rattle.fields.proofs.Top.{top-unique}
+use Rattle.verdicts.specs.Limits.{TRIE-ROW}
+use Rattle.verdicts.specs.Tries.{TrieRow, trieRow}
+use Rattle.verdicts.specs.Verdicts.{verdictNumber, actionOf, verdictReads, VerdictCase, verdict}
+use Rattle.verdicts.specs.Meaning.{Way, Classified}
+use Rattle.verdicts.specs.declared.record.RuleRecord.{RuleRecord}
+use Rattle.verdicts.specs.declared.visiting.Verdict.{Verdict}
+use Rattle.verdicts.specs.declared.visiting.Verdict.the-variants.{Act, Discard, NoRule}
+use Rattle.verdicts.specs.declared.visiting.Verdict as given
+use Rattle.verdicts.proofs.Answers.{verdict-number, verdict-action}
+use Rattle.verdicts.proofs.Unique.{way-unique}
+use Rattle.verdicts.proofs.Alone.{SameTries, SameRows, verdict-path, verdict-few, verdict-alone}
+use Rattle.rules.specs.Build.{RunsOf, ruleTrie, ruleScratchTests, ruleBuildTests, NoRuleRecord, RuleBuilds}
+use Rattle.rules.specs.Deciding.{ActionIs, no-rule, top-rule, TopDiscards, Calls, rowsOnWay}
+use Rattle.rules.proofs.RuleTests.{scratch-tests-good, numbered-rule-scratch, rule-tests-early, rule-tests-scratch}
+use Rattle.rules.proofs.Deciding.{triesVisited, actionFound, way, verdict-found, decided, tries-called, tries-fall}
+
+module _ {kind : Kind} {W k : ℕ} {rs : Rules} {scratch : List ℕ} {rows : Lists} {list : List ℕ} {out : Outcome} {rec : RuleRecord} {s : List ℕ} {rows′ : Lists}
+    {list′ : List ℕ} (b : RuleBuilds kind W k rs scratch rows list out rec s rows′ list′) where
+  -- ==== refusals: the first test that fails, "with rules for entries"; "6 and 7 count over all tries"
+
+  pub rules-first : (m : ℕ) (from least : ℕ → ℕ) → RunsOf rs m from → ((g : ℕ) → g ≤ m → 1 ≤ k → Cheapest kind k (ruleTrie W rs m from g) (least g))
+      → (o : Outcome) → (out ≡ o) ↔ Gives (ruleBuildTests W k rs (length scratch) (shortest rows) (length list) m from least) o
+  rules-first m from least r c =
+      given-exactly (ruleBuildTests W k rs (length scratch) (shortest rows) (length list) m from least) (b .tested m from least r c)
+
+  -- with the least costs that the recurrences find
+  tests-out : {m : ℕ} {from : ℕ → ℕ} → RunsOf rs m from
+      → out ≡ outcome (ruleBuildTests W k rs (length scratch) (shortest rows) (length list) m from (λ g. leastBy plain kind k (ruleTrie W rs m from g)))
+  tests-out {m} {from} r =
+      gives-outcome _ out (b .tested m from (λ g. leastBy plain kind k (ruleTrie W rs m from g)) r (λ g h. least-cheapest kind k (ruleTrie W rs m from g)))
+
+  -- refusals 1 to 6 change no list
+  pub rules-early : {m : ℕ} {from : ℕ → ℕ} → RunsOf rs m from → {n d : ℕ} → Gives (ruleScratchTests W k rs (length scratch) m from) (Refused n d)
+      → (out ≡ Refused n d) × NoRuleRecord rec × (s ≡ scratch) × (rows′ ≡ rows) × (list′ ≡ list)
+  rules-early {m} {from} r {n} {d} g =
+      let tests = ruleScratchTests W k rs (length scratch) m from in
+      let e : out ≡ Refused n d = tests-out r ∙ rule-tests-early W k rs (length scratch) m from _ _ _ (sym (gives-outcome tests (Refused n d) g)) in
+      let kept = b .keeps .refused (λ a. refused-not-accepted (sym e ∙ a)) in
+      (e, kept .0, b .untouched m from r (λ a. refused-not-accepted (gives-unique tests (Refused n d) Accepted g a)), kept .1, kept .2)
+
+  -- past them, scratch is all zero
+  past-scratch : {m : ℕ} {from : ℕ → ℕ} → RunsOf rs m from → ((n d : ℕ) → out ≡ Refused n d → 6 < n) → s ≡ replicate (length scratch) 0
+  past-scratch {m} {from} r late = b .zeroed m from r (go (outcome tests) refl)
+    where
+      tests : List Test
+      tests = ruleScratchTests W k rs (length scratch) m from
+
+      go : (o : Outcome) → outcome tests ≡ o → Gives tests Accepted
+      go Accepted p = subst (Gives tests) p (outcome-gives tests)
+      go (Refused n x) p =
+          let g = subst (Gives tests) p (outcome-gives tests) in
+          absurd (omega (arith, refused-number 6 tests n x (numbered-rule-scratch W k rs (length scratch) m from) g, late n x (rules-early r g .0)))
+
+  some-runs : RunsOf rs (runCount (at (rs .dvals)) (at (rs .dlens)) (ruleCount rs)) (runFrom (at (rs .dvals)) (at (rs .dlens)) (ruleCount rs))
+  some-runs = runs-exist (at (rs .dvals)) (at (rs .dlens)) (ruleCount rs)
+
+  -- refusal 7, for elements or for the list of tries, zeroes all scratch and changes nothing else
+  pub rules-room : {d : ℕ} → out ≡ Refused 7 d → NoRuleRecord rec × (s ≡ replicate (length scratch) 0) × (rows′ ≡ rows) × (list′ ≡ list)
+  rules-room {d} e =
+      let kept = b .keeps .refused (λ a. refused-not-accepted (sym e ∙ a)) in
+      (kept .0, past-scratch some-runs (λ n x f. omega (arith, seven n x (sym e ∙ f))), kept .1, kept .2)
+    where
+      seven : (n x : ℕ) → Refused 7 d ≡ Refused n x → 7 ≡ n
+      seven n x q = cc
+
+  module _ (e : out ≡ Accepted) where
+    -- an accepted build zeroes all scratch, writes rows 0 to E - 1 and the rows of its tries in the list, and keeps what comes after them
+    pub rules-accepted : (s ≡ replicate (length scratch) 0) × ((i : ℕ) → rec .elements ≤ i → rowAt rows′ i ≡ rowAt rows i)
+        × ((i : ℕ) → b .laid e .m * TRIE-ROW ≤ i → at list′ i ≡ at list i)
+    rules-accepted = (past-scratch some-runs (λ n x f. absurd (refused-not-accepted (sym f ∙ e))), b .keeps .later e, b .laid e .rest)
+
+    pub rules-are-good : GoodRules W rs
+    rules-are-good =
+        scratch-tests-good W k rs (length scratch) _ _ (rule-tests-scratch W k rs (length scratch) _ _ (shortest rows) (length list) _ (sym (tests-out some-runs) ∙ e))
+
+    -- ==== "least cost is asked only of each single trie"
+
+    some-levels : 1 ≤ k
+    some-levels = let d = b .laid e .tries .dest in omega (arith, d .levels, d .built .levels .0)
+
+    pub rules-cheapest : Cheapest kind k (ruleTrie W rs (b .laid e .m) (b .laid e .from) 0) (rec .dest .elements)
+        × ((g : ℕ) → g < b .laid e .m → Cheapest kind k (ruleTrie W rs (b .laid e .m) (b .laid e .from) (suc g)) (trieRow list′ g .elements))
+    rules-cheapest =
+        let l = b .laid e in
+        let trie = ruleTrie W rs (l .m) (l .from) in (
+          subst (Cheapest kind k (trie 0)) (sym (elements-cost (l .tries .dest))) (follows-cheapest kind k (trie 0) (l .σ 0) some-levels (l .follows 0 (omega arith))),
+          λ g h. subst (Cheapest kind k (trie (suc g))) (sym (elements-cost (l .tries .source g h)))
+              (follows-cheapest kind k (trie (suc g)) (l .σ (suc g)) some-levels (l .follows (suc g) h)),
+        )
+
+    module _ (da sa : ℕ) (hd : da < 2 ^ W) (hs : sa < 2 ^ W) {v : Verdict} (c : Classified rec rows′ list′ da sa WIDTH v) where
+      abbrev along : List ℕ → List ℕ
+      along = rowsOnWay W k rs (b .laid e .m) (b .laid e .from) (b .laid e .σ) list′ da sa
+
+      -- ==== demand 2: the action of the rule that wins
+
+      pub rules-decide : (verdictNumber v ≡ 0) × ActionIs W rs da sa (actionOf v)
+      rules-decide =
+          let l = b .laid e in
+          let f = verdict-found (l .tries) rules-are-good da sa hd hs c in
+          (ap verdictNumber f ∙ verdict-number _ _, subst (ActionIs W rs da sa) (sym (ap actionOf f ∙ verdict-action _ _)) (decided (l .tries) rules-are-good da sa hd hs (l .runs)))
