@@ -2,7 +2,7 @@
 -- calls promise: their meaning (`RuleBuilds`, `Classified`), not how it is found.
 use mathlib.Core.Path.{_≡_, refl, sym, ap, subst, _∙_}
 use mathlib.Core.List.{List, [], _∷_, List·Memᴰ}
-use mathlib.Core.Logic.{_↔_}
+use mathlib.Core.Logic.{_↔_, Iff·trans}
 use Prim.Native.Nat.{ℕ, suc, _+_, _*_, _^_, _≤_, _<_}
 use native.Mathlib.Omega.{arith}
 use lib.ListN.{length, replicate}
@@ -39,6 +39,7 @@ use Rattle.verdicts.proofs.Unique.{way-unique}
 use Rattle.verdicts.proofs.Alone.{SameTries, SameRows, verdict-path, verdict-few, verdict-alone}
 use Rattle.rules.specs.Build.{RunsOf, ruleTrie, ruleScratchTests, ruleBuildTests, NoRuleRecord, RuleBuilds}
 use Rattle.rules.specs.Deciding.{ActionIs, no-rule, top-rule, TopDiscards, Calls, rowsOnWay}
+use Rattle.rules.proofs.Actions.{action-unique, action-none, action-discards, none-by-action, discard-by-action}
 use Rattle.rules.proofs.RuleTests.{scratch-tests-good, numbered-rule-scratch, rule-tests-early, rule-tests-scratch}
 use Rattle.rules.proofs.Deciding.{triesVisited, actionFound, way, verdict-found, decided, tries-called, tries-fall}
 
@@ -127,3 +128,52 @@ module _ {kind : Kind} {W k : ℕ} {rs : Rules} {scratch : List ℕ} {rows : Lis
           let l = b .laid e in
           let f = verdict-found (l .tries) rules-are-good da sa hd hs c in
           (ap verdictNumber f ∙ verdict-number _ _, subst (ActionIs W rs da sa) (sym (ap actionOf f ∙ verdict-action _ _)) (decided (l .tries) rules-are-good da sa hd hs (l .runs)))
+
+      -- no rule exactly where no rule matches
+      pub rules-none : (v ≡ NoRule (verdictReads v)) ↔ NoRuleMatches W rs da sa
+      rules-none = Iff·trans (none-by-action v (rules-decide .0) (c .case)) (action-none rules-are-good (rules-decide .1))
+
+      -- and a discard exactly where the rule that wins discards ("actions follow the hop rules of [4]")
+      pub rules-discard : (v ≡ Discard (verdictReads v)) ↔ TopDiscards W rs da sa
+      rules-discard = Iff·trans (discard-by-action v (c .case)) (action-discards rules-are-good (rules-decide .1))
+
+      -- ==== the tries visited, and demand 3's last sentence over the paths in all of them
+
+      module _ {ts on : List ℕ} {a : ℕ} (w : Way rec rows′ list′ da sa ts on a) where
+        is-way : (ts ≡ triesVisited (b .laid e .tries) rules-are-good da sa hd hs) × (on ≡ along (triesVisited (b .laid e .tries) rules-are-good da sa hd hs))
+            × (a ≡ actionFound (b .laid e .tries) rules-are-good da sa hd hs)
+        is-way = way-unique w (way (b .laid e .tries) rules-are-good da sa hd hs)
+
+        -- "source tries are visited from the longest matching destination down until one matches": those of the destinations that begin the
+        -- address, where no rule that matches has a longer one; each shorter than the one before
+        pub rules-visited : (g : ℕ) → List·Memᴰ g ts ↔ Calls W rs (b .laid e .m) (b .laid e .from) da sa g
+        rules-visited g = rw (is-way .0) (tries-called (b .laid e .tries) rules-are-good da sa hd hs (b .laid e .runs) g)
+
+        pub rules-fall : Falls (at (trieTable rs (b .laid e .m) (b .laid e .from) 0 .lens)) (suc W) ts
+        rules-fall = rw (is-way .0) (tries-fall (b .laid e .tries) rules-are-good da sa hd hs)
+
+        -- the rows on the way are exactly those of the blocks of the 1-bit nodes that begin the addresses and at which the chosen strides
+        -- begin a block, in the destination trie and then in each source trie visited
+        pub rules-path : on ≡ along ts
+        rules-path = rw (is-way .0) (is-way .1)
+
+        -- r reads are r such rows
+        pub rules-reads : verdictReads v ≡ length (along ts)
+        rules-reads = verdict-path c (rules-decide .0) w .1 ∙ ap length rules-path
+
+        -- and the verdict depends on the record, on those rows and on those tries' rows in their list alone
+        pub rules-alone : (other : Lists) (otherList : List ℕ) → rec .elements ≤ shortest other → SameTries ts list′ otherList → SameRows (along ts) rows′ other
+            → {v′ : Verdict} → Classified rec other otherList da sa WIDTH v′ → v ≡ v′
+        rules-alone other otherList fits tries same = verdict-alone c (rules-decide .0) w other otherList fits tries (rw rules-path same)
+
+      -- "at most 34 times k"
+      pub rules-few : verdictReads v ≤ 34 * k
+      rules-few = rw (← b .laid e .tries .dest .levels) (verdict-few c)
+
+-- one list of rules decides one action, however it is built: any kinds, any k, any room
+pub one-rules : {kind kind′ : Kind} {W k k′ : ℕ} {rs : Rules} {scratch scratch′ : List ℕ} {rows rows′ : Lists} {list list′ : List ℕ} {out out′ : Outcome} {rec rec′ : RuleRecord}
+    {s s′ : List ℕ} {rows1 rows2 : Lists} {list1 list2 : List ℕ} → RuleBuilds kind W k rs scratch rows list out rec s rows1 list1
+    → RuleBuilds kind′ W k′ rs scratch′ rows′ list′ out′ rec′ s′ rows2 list2 → out ≡ Accepted → out′ ≡ Accepted → (da sa : ℕ) → da < 2 ^ W → sa < 2 ^ W
+    → {v v′ : Verdict} → Classified rec rows1 list1 da sa WIDTH v → Classified rec′ rows2 list2 da sa WIDTH v′ → actionOf v ≡ actionOf v′
+one-rules b b′ e e′ da sa hd hs c c′ =
+    action-unique (rules-are-good b e) (rules-decide b e da sa hd hs c .1) (rules-decide b′ e′ da sa hd hs c′ .1)

@@ -4,5 +4,6 @@ pub mod Links
 -- The demands over a build of rules.
 pub mod Sums
 pub mod Deciding
+pub mod Actions
 pub mod RuleTests
 pub mod Demands
