@@ -6,4 +6,5 @@ pub mod Sums
 pub mod Deciding
 pub mod Actions
 pub mod RuleTests
+pub mod Meaning
 pub mod Demands

@@ -11,3 +11,8 @@ unfolding sumFirst
 sum-rises f i zero h = let e : i ≡ 0 = omega arith in rw e (omega arith)
 sum-rises f i (suc n) h =
     ⊎-elim (λ (e : i ≡ suc n). rw e (omega arith)) (λ (q : i < suc n). omega (arith, sum-rises f i n (le-of-suc-le-suc q))) (eq-or-lt-of-le h)
+
+pub sum-same : (f g : ℕ → ℕ) (n : ℕ) → ((i : ℕ) → i < n → f i ≡ g i) → sumFirst f n ≡ sumFirst g n
+unfolding sumFirst
+sum-same f g zero e = refl
+sum-same f g (suc n) e = omega (arith, sum-same f g n (λ i h. e i (omega arith)), e n (omega arith))
