@@ -7,4 +7,5 @@ pub mod Deciding
 pub mod Actions
 pub mod RuleTests
 pub mod Meaning
+pub mod Unique
 pub mod Demands
