@@ -10,31 +10,37 @@ use native.Mathlib.Omega.{arith}
 use lib.ListN.{length}
 use lib.Seq.{ext-getD}
 use Rattle.table.specs.Table.{at}
+use Rattle.table.specs.Refusals.{Test, outcome, Gives}
+use Rattle.table.specs.declared.entry.Outcome.{Outcome}
+use Rattle.table.specs.declared.entry.Outcome.the-variants.{Accepted, Refused}
 use Rattle.table.specs.Lists.{padded}
 use Rattle.table.specs.Longest.{Wins}
 use Rattle.table.proofs.Lists.{padded-read}
+use Rattle.table.proofs.Refusals.{outcome-gives, gives-unique, gives-outcome, refused-not-accepted, accepted-or}
 use Rattle.strides.specs.Trie.{Trie}
 use Rattle.strides.specs.Cheapest.{Kind, Named}
+use Rattle.strides.specs.Recurrence.{plain, leastBy}
 use Rattle.strides.specs.Strides.{Good, Follows}
+use Rattle.strides.proofs.Cheapest.{least-cheapest, named-unique}
 use Rattle.strides.proofs.Follows.{follows-unique}
 use Rattle.walk.specs.declared.record.Record.{Record}
 use Rattle.walk.specs.Limits.{WIDTH, LEVELS, HOPS}
-use Rattle.walk.specs.Rows.{Row, Lists, lists, rowAt, root}
+use Rattle.walk.specs.Rows.{Row, Lists, lists, shortest, rowAt, root}
 use Rattle.layout.specs.Blocks.{Strides, strideOf, rowsOf, rowCount, Hold, Agree}
 use Rattle.layout.specs.Laid.{tableTrie, Laid}
 use Rattle.layout.proofs.Agreeing.{same-agree, laid-agree}
 use Rattle.layout.proofs.Blocks.{hold-unique, rows-length}
 use Rattle.layout.proofs.Laid.{elements-cost}
-use Rattle.fields.specs.Rules.{Rules}
+use Rattle.fields.specs.Rules.{Rules, ruleCount}
 use Rattle.fields.specs.Runs.{EntryLists, trieTable, sumFirst, startsShorter}
-use Rattle.fields.proofs.Runs.{runs-unique}
+use Rattle.fields.proofs.Runs.{runs-unique, runCount, runFrom, runs-exist}
 use Rattle.fields.proofs.Nearest.{next-unique}
 use Rattle.fields.proofs.Tables.{dest-lengths, tables-same}
 use Rattle.verdicts.specs.Limits.{TRIE-ROW}
 use Rattle.verdicts.specs.Tries.{TrieRow, trieRow, sourceRecord, fromPlace}
 use Rattle.verdicts.specs.declared.record.RuleRecord.{RuleRecord}
 use Rattle.verdicts.proofs.Alone.{row-from}
-use Rattle.rules.specs.Build.{RunsOf, ruleTrie, TriesLaid, RulesLaid}
+use Rattle.rules.specs.Build.{RunsOf, ruleTrie, ruleScratchTests, ruleBuildTests, TriesLaid, RulesLaid, RuleBuilds}
 use Rattle.rules.proofs.Sums.{sum-same, sum-holds}
 use Rattle.rules.proofs.Meaning.{trie-same}
 
@@ -169,3 +175,135 @@ module _ {W k : ℕ} {rs : Rules} {m : ℕ} {from : ℕ → ℕ} {σ : ℕ → S
           let here′ : p′ + (i - p) ≡ i = omega (arith, here, place-one g less) in
           ap (rowAt rows) (sym here) ∙ sym (row-from p rows (i - p)) ∙ rows-one (l .source g less) (l′ .source g less) (i - p) (omega (arith, l .place g less))
           ∙ row-from p′ rows′ (i - p) ∙ ap (rowAt rows′) here′
+
+-- ---- what an accepted build laid, spoken of by any runs of the rules
+
+record LaidAt (kind : Kind) (W k : ℕ) (rs : Rules) (list : List ℕ) (m : ℕ) (from : ℕ → ℕ) (rec : RuleRecord) (rows′ : Lists) (list′ : List ℕ) : Type 0 where
+  σ : ℕ → Strides
+  follows : (g : ℕ) → g ≤ m → Follows kind k (ruleTrie W rs m from g) (σ g)
+  tries : TriesLaid W k rs m from σ rec rows′ list′
+  named : (ss : List ℕ) × Named kind k (ruleTrie W rs m from 0) ss × (rec .dest .strides ≡ padded LEVELS ss)
+  rest : (i : ℕ) → m * TRIE-ROW ≤ i → at list′ i ≡ at list i
+
+laid-at : {kind : Kind} {W k : ℕ} {rs : Rules} {list : List ℕ} {m : ℕ} {from : ℕ → ℕ} {rec : RuleRecord} {rows′ : Lists} {list′ : List ℕ}
+    → RulesLaid kind W k rs list rec rows′ list′ → RunsOf rs m from → LaidAt kind W k rs list m from rec rows′ list′
+laid-at {kind} {W} {k} {rs} {list} {m} {from} {rec} {rows′} {list′} l r =
+    let u = runs-unique (l .runs) r in
+    let same = trie-same W rs (l .m) (l .from) from (u .1) in
+    subst (λ (x : ℕ). LaidAt kind W k rs list x from rec rows′ list′) (u .0) (record {
+      σ = l .σ;
+      follows = λ g h. subst (λ (t : Trie). Follows kind k t (l .σ g)) (same g h) (l .follows g h);
+      tries = tries-same (u .1) (l .tries);
+      named = (l .named .0, subst (λ (t : Trie). Named kind k t (l .named .0)) (same 0 (omega arith)) (l .named .1), l .named .2);
+      rest = l .rest;
+    })
+
+-- ---- one result
+
+records-same : {w w′ l l′ e e′ f f′ : ℕ} {t t′ : List ℕ} → w ≡ w′ → l ≡ l′ → e ≡ e′ → f ≡ f′ → t ≡ t′
+    → _≡_ {A = Record} (record { width = w; levels = l; elements = e; floor = f; strides = t }) (record { width = w′; levels = l′; elements = e′; floor = f′; strides = t′ })
+records-same a b c d e = rw (a, b, c, d, e)
+
+rule-records-same : {d d′ : Record} {e e′ : ℕ} → d ≡ d′ → e ≡ e′ → _≡_ {A = RuleRecord} (record { dest = d; elements = e }) (record { dest = d′; elements = e′ })
+rule-records-same p q = rw (p, q)
+
+lists-same : {a a′ b b′ c c′ d d′ : List ℕ} → a ≡ a′ → b ≡ b′ → c ≡ c′ → d ≡ d′ → lists a b c d ≡ lists a′ b′ c′ d′
+lists-same p q r s = rw (p, q, r, s)
+
+module _ (kind : Kind) (W k : ℕ) (rs : Rules) (scratch : List ℕ) (rows : Lists) (list : List ℕ) where
+  abbrev m : ℕ
+  m = runCount (at (rs .dvals)) (at (rs .dlens)) (ruleCount rs)
+
+  abbrev from : ℕ → ℕ
+  from = runFrom (at (rs .dvals)) (at (rs .dlens)) (ruleCount rs)
+
+  runs : RunsOf rs m from
+  runs = runs-exist (at (rs .dvals)) (at (rs .dlens)) (ruleCount rs)
+
+  abbrev trie : ℕ → Trie
+  trie = ruleTrie W rs m from
+
+  abbrev tests : List Test
+  tests = ruleScratchTests W k rs (length scratch) m from
+
+  module _ {out out′ : Outcome} {rec rec′ : RuleRecord} {s s′ : List ℕ} {rows1 rows2 : Lists} {list1 list2 : List ℕ}
+      (c : RuleBuilds kind W k rs scratch rows list out rec s rows1 list1) (d : RuleBuilds kind W k rs scratch rows list out′ rec′ s′ rows2 list2) where
+    rule-outcome-one : out ≡ out′
+    rule-outcome-one =
+        let least : ℕ → ℕ = λ g. leastBy plain kind k (trie g) in
+        gives-unique (ruleBuildTests W k rs (length scratch) (shortest rows) (length list) m from least) out out′
+        (c .tested m from least runs (λ g h. least-cheapest kind k (trie g))) (d .tested m from least runs (λ g h. least-cheapest kind k (trie g)))
+
+    rule-scratch-one : s ≡ s′
+    rule-scratch-one = go (outcome tests) refl
+      where
+        go : (o : Outcome) → outcome tests ≡ o → s ≡ s′
+        go Accepted e = let a = subst (Gives tests) e (outcome-gives tests) in c .zeroed m from runs a ∙ sym (d .zeroed m from runs a)
+        go (Refused n x) e =
+            let ne : Gives tests Accepted → ⊥ = λ a. refused-not-accepted (sym e ∙ sym (gives-outcome tests Accepted a)) in
+            c .untouched m from runs ne ∙ sym (d .untouched m from runs ne)
+
+    rules-refused-one : (out ≡ Accepted → ⊥) → (out′ ≡ Accepted → ⊥) → (rec ≡ rec′) × (rows1 ≡ rows2) × (list1 ≡ list2)
+    rules-refused-one ne ne′ =
+        let r = c .keeps .refused ne in
+        let r′ = d .keeps .refused ne′ in
+        let z = r .0 .dest in
+        let z′ = r′ .0 .dest in (
+          rule-records-same (records-same (z .width ∙ sym (z′ .width)) (z .levels ∙ sym (z′ .levels)) (z .elements ∙ sym (z′ .elements)) (z .floor ∙ sym (z′ .floor))
+              (z .strides ∙ sym (z′ .strides))) (r .0 .elements ∙ sym (r′ .0 .elements)),
+          r .1 ∙ sym (r′ .1),
+          r .2 ∙ sym (r′ .2),
+        )
+
+    module _ (e : out ≡ Accepted) (e′ : out′ ≡ Accepted) where
+      one : LaidAt kind W k rs list m from rec rows1 list1
+      one = laid-at (c .laid e) runs
+
+      other : LaidAt kind W k rs list m from rec′ rows2 list2
+      other = laid-at (d .laid e′) runs
+
+      -- the second is laid with the first one's strides
+      both : TriesLaid W k rs m from (one .σ) rec′ rows2 list2
+      both =
+          tries-agree (λ g h. same-agree (other .σ g) (one .σ g) (trie g) W 0 k (good-tries (other .tries) g h)
+          (follows-unique kind k (trie g) (other .σ g) (one .σ g) (other .follows g h) (one .follows g h))) (good-tries (one .tries)) (other .tries)
+
+      dest-one : rec .dest ≡ rec′ .dest
+      dest-one =
+          let l = one .tries .dest in
+          let l′ = both .dest in
+          records-same (l .width ∙ sym (l′ .width)) (l .levels ∙ sym (l′ .levels)) (elements-one l l′) (floor-one l l′)
+          (one .named .2 ∙ ap (padded LEVELS) (named-unique kind k (trie 0) (one .named .0) (other .named .0) (one .named .1) (other .named .1)) ∙ sym (other .named .2))
+
+      row-at-one : (i : ℕ) → rowAt rows1 i ≡ rowAt rows2 i
+      row-at-one i = elim (decLe (rec .elements) i) [
+        | yes q ↦ c .keeps .later e i q ∙ sym (d .keeps .later e′ i (omega (arith, all-one (one .tries) both)))
+        | no q ↦ rows-all-one (one .tries) both i (omega arith)
+      ]
+
+      number-at-one : (i : ℕ) → at list1 i ≡ at list2 i
+      number-at-one i = elim (decLe (m * TRIE-ROW) i) [
+        | yes q ↦ one .rest i q ∙ sym (other .rest i q)
+        | no q ↦ list-one (one .tries) both i (omega arith)
+      ]
+
+      rules-accepted-one : (rec ≡ rec′) × (rows1 ≡ rows2) × (list1 ≡ list2)
+      rules-accepted-one =
+          let p = c .keeps in
+          let q = d .keeps in (
+            rule-records-same dest-one (all-one (one .tries) both),
+            lists-same
+                (ext-getD 0 (rows1 .hop) (rows2 .hop) (p .hops ∙ sym (q .hops)) (λ i h. ap (λ (v : Row). v .hop) (row-at-one i)))
+                (ext-getD 0 (rows1 .len) (rows2 .len) (p .lens ∙ sym (q .lens)) (λ i h. ap (λ (v : Row). v .len) (row-at-one i)))
+                (ext-getD 0 (rows1 .link) (rows2 .link) (p .links ∙ sym (q .links)) (λ i h. ap (λ (v : Row). v .link) (row-at-one i)))
+                (ext-getD 0 (rows1 .stride) (rows2 .stride) (p .strides ∙ sym (q .strides)) (λ i h. ap (λ (v : Row). v .stride) (row-at-one i))),
+            ext-getD 0 list1 list2 (p .places ∙ sym (q .places)) (λ i h. number-at-one i),
+          )
+
+    pub rule-builds-unique : (out ≡ out′) × (rec ≡ rec′) × (s ≡ s′) × (rows1 ≡ rows2) × (list1 ≡ list2)
+    rule-builds-unique =
+        let o = rule-outcome-one in
+        let rest : (rec ≡ rec′) × (rows1 ≡ rows2) × (list1 ≡ list2)
+        = ⊎-elim (λ (e : out ≡ Accepted). rules-accepted-one e (sym o ∙ e)) (λ (ne : out ≡ Accepted → ⊥). rules-refused-one ne (λ (e : out′ ≡ Accepted). ne (o ∙ e)))
+        (accepted-or out) in
+        (o, rest .0, rule-scratch-one, rest .1, rest .2)
