@@ -2,9 +2,9 @@
 -- action where it stops is that of the rule that wins.
 use mathlib.Core.Path.{_≡_, refl, sym, ap, subst, _∙_}
 use mathlib.Core.Bool.{Bool, true, false, cond, _&&_, true≢false}
-use mathlib.Core.List.{List, [], _∷_, _++_, append-nil, List·Memᴰ}
+use mathlib.Core.List.{List, [], _∷_, append-nil, List·Memᴰ}
 use mathlib.Core.Logic.{⊎-elim, _↔_}
-use Prim.Native.Nat.{ℕ, zero, suc, _+_, _-_, _*_, _/_, _^_, _≤_, _<_}
+use Prim.Native.Nat.{ℕ, zero, suc, _+_, _-_, _^_, _≤_, _<_}
 use native.Mathlib.Nat.{add-assoc}
 use native.Mathlib.Omega.{arith}
 use native.Mathlib.Decide.{decLe}
@@ -16,7 +16,7 @@ use Rattle.table.specs.Longest.{matches, NoMatch, ofWinner, IsBest, Wins, no-wi
 use Rattle.table.proofs.Bools.{and-true}
 use Rattle.table.proofs.Longest.{longest-zero, longest-winner}
 use Rattle.walk.specs.Limits.{WIDTH}
-use Rattle.walk.specs.Rows.{Lists, shortest, rowAt}
+use Rattle.walk.specs.Rows.{Lists, shortest}
 use Rattle.walk.specs.Answers.{numberOf, hopOf}
 use Rattle.walk.specs.Lookup.{lookupOf}
 use Rattle.walk.specs.Meaning.{OnPath}
@@ -34,9 +34,10 @@ use Rattle.fields.proofs.Chain.{visitedFrom, stopsAt, overrun, Falls, and-both,
 use Rattle.fields.specs.Winning.{matchesRule, TopRule}
 use Rattle.fields.proofs.Tables.{dest-lengths, dest-at, source-lengths, source-at}
 use Rattle.fields.proofs.Top.{entryMatches, top-found, top-none}
-use Rattle.verdicts.specs.Limits.{TRIE-ROW, VISITS}
+use Rattle.verdicts.specs.Limits.{VISITS}
 use Rattle.verdicts.specs.Tries.{TrieRow, trieRow, sourceRecord, fromPlace, atPlace}
-use Rattle.verdicts.specs.Meaning.{BadTrie, past-list, past-rows, breaks-rule, SourcePath, actionOn, VisitsTries, no-more, matched-in, goes-on, calledFirst, RuleDamage, short-lists, past-all, breaks-dest, breaks-source, Way, Classified}
+use Rattle.verdicts.specs.Meaning.{BadTrie, past-list, past-rows, breaks-rule, SourcePath, actionOn, VisitsTries, no-more, matched-in, goes-on}
+use Rattle.verdicts.specs.Meaning.{calledFirst, RuleDamage, short-lists, past-all, breaks-dest, breaks-source, Way, Classified}
 use Rattle.verdicts.specs.declared.record.RuleRecord.{RuleRecord}
 use Rattle.verdicts.specs.Verdicts.{verdict}
 use Rattle.verdicts.specs.declared.visiting.Verdict.{Verdict}
@@ -77,7 +78,7 @@ module _ {W k : ℕ} {rs : Rules} {m : ℕ} {from : ℕ → ℕ} {σ : ℕ → S
         subst (λ (x : ℕ). x ≤ shortest rows) (ap (λ (x : ℕ). x + e) (laid .place g h) ∙ add-assoc _ _ e) q
   ]
 
-  pub all-fit : rec .elements ≤ shortest rows
+  all-fit : rec .elements ≤ shortest rows
   all-fit = subst (λ (x : ℕ). x ≤ shortest rows) (sym (laid .all)) (ends-fit m (omega arith))
 
   -- ---- one source trie
@@ -195,8 +196,8 @@ module _ {W k : ℕ} {rs : Rules} {m : ℕ} {from : ℕ → ℕ} {σ : ℕ → S
     called-is : calledFirst rec rows list da sa destRows ≡ called
     called-is = rw (← rows-exactly (laid .dest) da hd) (sym (best-path WIDTH _ _ da (accepted (laid .dest) da hd) .0))
 
-    pub way : Way rec rows list da sa triesVisited (rowsOnWay W k rs m from σ list da sa triesVisited) actionFound
-    way = record {
+    pub laid-way : Way rec rows list da sa triesVisited (rowsOnWay W k rs m from σ list da sa triesVisited) actionFound
+    laid-way = record {
       destRows = destRows;
       sourceRows = rowsThrough list (rowsIn sa hs) triesVisited;
       dest-path = dest-on-path;
@@ -214,9 +215,9 @@ module _ {W k : ℕ} {rs : Rules} {m : ℕ} {from : ℕ → ℕ} {σ : ℕ → S
         ap numberOf (damage-refused WIDTH _ _ da (L .built .width) (L .built .levels) (rw (L .width) hd) d) in
         omega (arith, accepted L da hd, e)
     undamaged (breaks-source {rs = xs} {ts = ts} {rows = ys} {a = a} o v) =
-        let e : xs ≡ way .destRows = on-path-unique o (way .dest-path) in
+        let e : xs ≡ laid-way .destRows = on-path-unique o (laid-way .dest-path) in
         let u = subst (λ (zs : List ℕ). VisitsTries rec rows list sa VISITS (calledFirst rec rows list da sa zs) ts ys a false) e v in
-        true≢false (visits-unique (way .visits) u .3)
+        true≢false (visits-unique (laid-way .visits) u .3)
 
     -- so the verdict is that of the action found, after as many reads as there are rows on the way
     found-classified : Classified rec rows list da sa WIDTH (verdict actionFound (length (rowsOnWay W k rs m from σ list da sa triesVisited)))
@@ -227,7 +228,7 @@ module _ {W k : ℕ} {rs : Rules} {m : ℕ} {from : ℕ → ℕ} {σ : ℕ → S
           tested = rw (verdict-number actionFound n) (passes (within-not (L .built .width)) (passes (within-not (L .built .levels))
           (passes (λ o. ⊎-elim (λ (a : 2 ^ rec .dest .width ≤ da). omega (arith, rw (L .width) at a)) (λ (b : 2 ^ rec .dest .width ≤ sa). omega (arith, rw (L .width) at b)) o)
           (passes undamaged refl))));
-          told = λ z. (triesVisited, rowsOnWay W k rs m from σ list da sa triesVisited, rw (verdict-action actionFound n) way, verdict-reads actionFound n);
+          told = λ z. (triesVisited, rowsOnWay W k rs m from σ list da sa triesVisited, rw (verdict-action actionFound n) laid-way, verdict-reads actionFound n);
           case = verdict-case actionFound n;
         }
 
@@ -255,11 +256,11 @@ module _ {W k : ℕ} {rs : Rules} {m : ℕ} {from : ℕ → ℕ} {σ : ℕ → S
           (sym (hop-longest L sa hs) ∙ omega (arith, ltb-false 0 (hopOf (found sa hs g)) e))
 
       -- the rule that wins is one of that destination: the one of the source that is found
-      pub record WinsIn (g : ℕ) : Type 0 where
-        pub rule : ℕ
-        pub top : TopRule W rs da sa rule
-        pub action : hopOf (found sa hs g) ≡ at (rs .actions) rule
-        pub length-is : at (rs .dlens) rule ≡ at (dests .lens) g
+      record WinsIn (g : ℕ) : Type 0 where
+        rule : ℕ
+        top : TopRule W rs da sa rule
+        action : hopOf (found sa hs g) ≡ at (rs .actions) rule
+        length-is : at (rs .dlens) rule ≡ at (dests .lens) g
 
       wins-in : (g : ℕ) → IsBest matchesBoth (at (dests .lens)) m g → WinsIn g
       unfolding ofWinner
@@ -282,9 +283,9 @@ module _ {W k : ℕ} {rs : Rules} {m : ℕ} {from : ℕ → ℕ} {σ : ℕ → S
                 length-is = runs .same g (from g + j) (r .inside) (omega arith) (omega arith) .1 ∙ sym (dest-at rs m from g (r .inside) .1);
               }
 
-      pub decided : ActionIs W rs da sa actionFound
+      pub laid-decides : ActionIs W rs da sa actionFound
       unfolding ofWinner
-      decided = go stop stops
+      laid-decides = go stop stops
         where
           go : (b : ℕ) → Wins matchesBoth (at (dests .lens)) m b → ActionIs W rs da sa (actionAt sa hs b)
           go zero (no-winner nil) = no-rule (top-none W rs good runs da sa (hit sa hs) misses nil)

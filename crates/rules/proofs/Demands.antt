@@ -1,12 +1,11 @@
 -- The demands over a build of rules and a classification over what it left (02, [6]), sentence by sentence, as theorems over what the two
 -- calls promise: their meaning (`RuleBuilds`, `Classified`), not how it is found.
 use mathlib.Core.Path.{_≡_, refl, sym, ap, subst, _∙_}
-use mathlib.Core.List.{List, [], _∷_, List·Memᴰ}
+use mathlib.Core.List.{List, List·Memᴰ}
 use mathlib.Core.Logic.{_↔_, Iff·trans}
-use Prim.Native.Nat.{ℕ, suc, _+_, _*_, _^_, _≤_, _<_}
+use Prim.Native.Nat.{ℕ, suc, _*_, _^_, _≤_, _<_}
 use native.Mathlib.Omega.{arith}
 use lib.ListN.{length, replicate}
-use Rattle.table.specs.Limits.{discardHop}
 use Rattle.table.specs.Table.{at}
 use Rattle.table.specs.Refusals.{Test, outcome, Gives}
 use Rattle.table.specs.declared.entry.Outcome.{Outcome}
@@ -21,27 +20,25 @@ use Rattle.walk.specs.Limits.{WIDTH}
 use Rattle.walk.specs.Rows.{Lists, shortest, rowAt}
 use Rattle.layout.proofs.Laid.{elements-cost}
 use Rattle.fields.specs.Rules.{Rules, ruleCount, GoodRules}
-use Rattle.fields.specs.Winning.{TopRule, NoRuleMatches}
-use Rattle.fields.specs.Runs.{Runs, EntryLists, trieTable}
+use Rattle.fields.specs.Winning.{NoRuleMatches}
+use Rattle.fields.specs.Runs.{EntryLists, trieTable}
 use Rattle.fields.proofs.Runs.{runCount, runFrom, runs-exist}
 use Rattle.fields.proofs.Chain.{Falls}
-use Rattle.fields.proofs.Top.{top-unique}
 use Rattle.verdicts.specs.Limits.{TRIE-ROW}
 use Rattle.verdicts.specs.Tries.{TrieRow, trieRow}
-use Rattle.verdicts.specs.Verdicts.{verdictNumber, actionOf, verdictReads, VerdictCase, verdict}
+use Rattle.verdicts.specs.Verdicts.{verdictNumber, actionOf, verdictReads}
 use Rattle.verdicts.specs.Meaning.{Way, Classified}
 use Rattle.verdicts.specs.declared.record.RuleRecord.{RuleRecord}
 use Rattle.verdicts.specs.declared.visiting.Verdict.{Verdict}
-use Rattle.verdicts.specs.declared.visiting.Verdict.the-variants.{Act, Discard, NoRule}
-use Rattle.verdicts.specs.declared.visiting.Verdict as given
+use Rattle.verdicts.specs.declared.visiting.Verdict.the-variants.{Discard, NoRule}
 use Rattle.verdicts.proofs.Answers.{verdict-number, verdict-action}
 use Rattle.verdicts.proofs.Unique.{way-unique}
 use Rattle.verdicts.proofs.Alone.{SameTries, SameRows, verdict-path, verdict-few, verdict-alone}
 use Rattle.rules.specs.Build.{RunsOf, ruleTrie, ruleScratchTests, ruleBuildTests, NoRuleRecord, RuleBuilds}
-use Rattle.rules.specs.Deciding.{ActionIs, no-rule, top-rule, TopDiscards, Calls, rowsOnWay}
+use Rattle.rules.specs.Deciding.{ActionIs, TopDiscards, Calls, rowsOnWay}
 use Rattle.rules.proofs.Actions.{action-unique, action-none, action-discards, none-by-action, discard-by-action}
 use Rattle.rules.proofs.RuleTests.{scratch-tests-good, numbered-rule-scratch, rule-tests-early, rule-tests-scratch}
-use Rattle.rules.proofs.Deciding.{triesVisited, actionFound, way, verdict-found, decided, tries-called, tries-fall}
+use Rattle.rules.proofs.Deciding.{triesVisited, actionFound, laid-way, verdict-found, laid-decides, tries-called, tries-fall}
 
 module _ {kind : Kind} {W k : ℕ} {rs : Rules} {scratch : List ℕ} {rows : Lists} {list : List ℕ} {out : Outcome} {rec : RuleRecord} {s : List ℕ} {rows′ : Lists}
     {list′ : List ℕ} (b : RuleBuilds kind W k rs scratch rows list out rec s rows′ list′) where
@@ -127,7 +124,7 @@ module _ {kind : Kind} {W k : ℕ} {rs : Rules} {scratch : List ℕ} {rows : Lis
       rules-decide =
           let l = b .laid e in
           let f = verdict-found (l .tries) rules-are-good da sa hd hs c in
-          (ap verdictNumber f ∙ verdict-number _ _, subst (ActionIs W rs da sa) (sym (ap actionOf f ∙ verdict-action _ _)) (decided (l .tries) rules-are-good da sa hd hs (l .runs)))
+          (ap verdictNumber f ∙ verdict-number _ _, subst (ActionIs W rs da sa) (sym (ap actionOf f ∙ verdict-action _ _)) (laid-decides (l .tries) rules-are-good da sa hd hs (l .runs)))
 
       -- no rule exactly where no rule matches
       pub rules-none : (v ≡ NoRule (verdictReads v)) ↔ NoRuleMatches W rs da sa
@@ -142,7 +139,7 @@ module _ {kind : Kind} {W k : ℕ} {rs : Rules} {scratch : List ℕ} {rows : Lis
       module _ {ts on : List ℕ} {a : ℕ} (w : Way rec rows′ list′ da sa ts on a) where
         is-way : (ts ≡ triesVisited (b .laid e .tries) rules-are-good da sa hd hs) × (on ≡ along (triesVisited (b .laid e .tries) rules-are-good da sa hd hs))
             × (a ≡ actionFound (b .laid e .tries) rules-are-good da sa hd hs)
-        is-way = way-unique w (way (b .laid e .tries) rules-are-good da sa hd hs)
+        is-way = way-unique w (laid-way (b .laid e .tries) rules-are-good da sa hd hs)
 
         -- "source tries are visited from the longest matching destination down until one matches": those of the destinations that begin the
         -- address, where no rule that matches has a longer one; each shorter than the one before

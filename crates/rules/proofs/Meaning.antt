@@ -1,7 +1,7 @@
 -- The runs of rules are one, and so are the tries and the tests that speak of them; and the exact promise of the build gives its meaning.
 use mathlib.Core.Path.{_≡_, refl, sym, ap, subst, _∙_}
 use mathlib.Core.List.{List}
-use Prim.Native.Nat.{ℕ, suc, _≤_, _<_}
+use Prim.Native.Nat.{ℕ, suc, _≤_}
 use native.Mathlib.Nat.{le-of-suc-le-suc}
 use native.Mathlib.Omega.{arith}
 use lib.ListN.{length, replicate}
@@ -19,7 +19,7 @@ use Rattle.walk.specs.Rows.{Lists, shortest}
 use Rattle.layout.specs.Laid.{tableTrie}
 use Rattle.choosers.specs.Chooser.{ifAccepted}
 use Rattle.fields.specs.Rules.{Rules}
-use Rattle.fields.specs.Runs.{EntryLists, sumFirst}
+use Rattle.fields.specs.Runs.{EntryLists}
 use Rattle.fields.proofs.Runs.{runs-unique}
 use Rattle.fields.proofs.Tables.{tables-same}
 use Rattle.verdicts.specs.declared.record.RuleRecord.{RuleRecord}
@@ -30,13 +30,13 @@ use Rattle.rules.proofs.RuleTests.{scratch-tests-levels, rule-tests-ear
 -- ---- runs that begin at the same places
 
 module _ (W : ℕ) (rs : Rules) (m : ℕ) (from from′ : ℕ → ℕ) (same : (g : ℕ) → g ≤ m → from g ≡ from′ g) where
-  pub trie-same : (g : ℕ) → g ≤ m → ruleTrie W rs m from g ≡ ruleTrie W rs m from′ g
-  trie-same g h = ap (λ (t : EntryLists). tableTrie W (t .vals) (t .lens) (t .hops)) (tables-same rs m from from′ same g h)
+  pub rule-trie-same : (g : ℕ) → g ≤ m → ruleTrie W rs m from g ≡ ruleTrie W rs m from′ g
+  rule-trie-same g h = ap (λ (t : EntryLists). tableTrie W (t .vals) (t .lens) (t .hops)) (tables-same rs m from from′ same g h)
 
   scratch-tests-same : (k words : ℕ) → ruleScratchTests W k rs words m from ≡ ruleScratchTests W k rs words m from′
   unfolding ruleScratchTests
   scratch-tests-same k words =
-      rw (sum-same (λ g. size (ruleTrie W rs m from g)) (λ g. size (ruleTrie W rs m from′ g)) (suc m) (λ g h. ap size (trie-same g (le-of-suc-le-suc h))))
+      rw (sum-same (λ g. size (ruleTrie W rs m from g)) (λ g. size (ruleTrie W rs m from′ g)) (suc m) (λ g h. ap size (rule-trie-same g (le-of-suc-le-suc h))))
 
   build-tests-same : (k words room places : ℕ) (least least′ : ℕ → ℕ) → ((g : ℕ) → g ≤ m → least g ≡ least′ g)
       → ruleBuildTests W k rs words room places m from least ≡ ruleBuildTests W k rs words room places m from′ least′
@@ -68,7 +68,7 @@ module _ (W : ℕ) (rs : Rules) {m : ℕ} {from : ℕ → ℕ} (r : RunsOf rs m 
       least-same some g h =
           let c′ = subst (λ (x : ℕ). (y : ℕ) → y ≤ x → 1 ≤ k → Cheapest kind k (ruleTrie W rs x from′ y) (least y)) (sym (u .0)) c g h some in
           cheapest-unique kind k (ruleTrie W rs m from g) (least-cheapest kind k (ruleTrie W rs m from g) some)
-          (subst (λ (t : Trie). Cheapest kind k t (least g)) (sym (trie-same W rs m from from′ (u .1) g h)) c′)
+          (subst (λ (t : Trie). Cheapest kind k t (least g)) (sym (rule-trie-same W rs m from from′ (u .1) g h)) c′)
 
       go : (o : Outcome) → outcome (ruleScratchTests W k rs words m from) ≡ o
           → outcome (ruleBuildTests W k rs words room places m from own) ≡ outcome (ruleBuildTests W k rs words room places m′ from′ least)

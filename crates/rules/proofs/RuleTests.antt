@@ -1,8 +1,8 @@
 -- The tests of a build of rules: what it takes to pass those before test 7, and how 7 follows them.
-use mathlib.Core.Path.{_≡_, sym, ap, _∙_}
+use mathlib.Core.Path.{_≡_, ap, _∙_}
 use mathlib.Core.Bool.{false}
 use mathlib.Core.List.{List, [], _∷_, _++_}
-use Prim.Native.Nat.{ℕ, suc, _≤_, _<_}
+use Prim.Native.Nat.{ℕ, suc}
 use native.Mathlib.Omega.{arith}
 use Rattle.table.specs.Refusals.{Test, outcome, Numbered, andThen}
 use Rattle.table.specs.Table.{widthTest}

@@ -24,7 +24,7 @@ use Rattle.strides.specs.Strides.{Good, Follows}
 use Rattle.strides.proofs.Cheapest.{least-cheapest, named-unique}
 use Rattle.strides.proofs.Follows.{follows-unique}
 use Rattle.walk.specs.declared.record.Record.{Record}
-use Rattle.walk.specs.Limits.{WIDTH, LEVELS, HOPS}
+use Rattle.walk.specs.Limits.{WIDTH, LEVELS}
 use Rattle.walk.specs.Rows.{Row, Lists, lists, shortest, rowAt, root}
 use Rattle.layout.specs.Blocks.{Strides, strideOf, rowsOf, rowCount, Hold, Agree}
 use Rattle.layout.specs.Laid.{tableTrie, Laid}
@@ -42,7 +42,7 @@ use Rattle.verdicts.specs.declared.record.RuleRecord.{RuleRecord}
 use Rattle.verdicts.proofs.Alone.{row-from}
 use Rattle.rules.specs.Build.{RunsOf, ruleTrie, ruleScratchTests, ruleBuildTests, TriesLaid, RulesLaid, RuleBuilds}
 use Rattle.rules.proofs.Sums.{sum-same, sum-holds}
-use Rattle.rules.proofs.Meaning.{trie-same}
+use Rattle.rules.proofs.Meaning.{rule-trie-same}
 
 -- ---- one trie, laid twice with the same strides
 
@@ -128,7 +128,7 @@ module _ {W k : ℕ} {rs : Rules} {m : ℕ} {from : ℕ → ℕ} {σ : ℕ → S
   place-one : (g : ℕ) → g < m → trieRow list g .place ≡ trieRow list′ g .place
   place-one g h = omega (arith, l .place g h, l′ .place g h, elements-one (l .dest) (l′ .dest), sums-one g (omega arith))
 
-  pub all-one : rec .elements ≡ rec′ .elements
+  all-one : rec .elements ≡ rec′ .elements
   all-one = omega (arith, l .all, l′ .all, elements-one (l .dest) (l′ .dest), sums-one m (omega arith))
 
   first-one : (g : ℕ) → g < m → at list (g * TRIE-ROW) ≡ at list′ (g * TRIE-ROW)
@@ -153,7 +153,7 @@ module _ {W k : ℕ} {rs : Rules} {m : ℕ} {from : ℕ → ℕ} {σ : ℕ → S
   row-one g (suc (suc (suc (suc (suc c))))) h q = absurd (omega arith)
 
   -- so the rows of the list are one
-  pub list-one : (i : ℕ) → i < m * TRIE-ROW → at list i ≡ at list′ i
+  list-one : (i : ℕ) → i < m * TRIE-ROW → at list i ≡ at list′ i
   list-one i h =
       let g = i / TRIE-ROW in
       let c = i % TRIE-ROW in
@@ -161,7 +161,7 @@ module _ {W k : ℕ} {rs : Rules} {m : ℕ} {from : ℕ → ℕ} {σ : ℕ → S
       rw e at (row-one g c (omega arith) (omega arith))
 
   -- and so are the rows of all tries
-  pub rows-all-one : (i : ℕ) → i < rec .elements → rowAt rows i ≡ rowAt rows′ i
+  rows-all-one : (i : ℕ) → i < rec .elements → rowAt rows i ≡ rowAt rows′ i
   rows-all-one i h = elim (decLe (rec .dest .elements) i) [
     | no q ↦ rows-one (l .dest) (l′ .dest) i (omega arith)
     | yes q ↦ inside q (sum-holds E m (i - rec .dest .elements) (omega (arith, l .all)))
@@ -189,7 +189,7 @@ laid-at : {kind : Kind} {W k : ℕ} {rs : Rules} {list : List ℕ} {m : ℕ} {fr
     → RulesLaid kind W k rs list rec rows′ list′ → RunsOf rs m from → LaidAt kind W k rs list m from rec rows′ list′
 laid-at {kind} {W} {k} {rs} {list} {m} {from} {rec} {rows′} {list′} l r =
     let u = runs-unique (l .runs) r in
-    let same = trie-same W rs (l .m) (l .from) from (u .1) in
+    let same = rule-trie-same W rs (l .m) (l .from) from (u .1) in
     subst (λ (x : ℕ). LaidAt kind W k rs list x from rec rows′ list′) (u .0) (record {
       σ = l .σ;
       follows = λ g h. subst (λ (t : Trie). Follows kind k t (l .σ g)) (same g h) (l .follows g h);
