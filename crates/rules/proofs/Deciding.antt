@@ -35,7 +35,7 @@ use Rattle.fields.specs.Winning.{matchesRule, TopRule}
 use Rattle.fields.proofs.Tables.{dest-lengths, dest-at, source-lengths, source-at}
 use Rattle.fields.proofs.Top.{entryMatches, top-found, top-none}
 use Rattle.verdicts.specs.Limits.{VISITS}
-use Rattle.verdicts.specs.Tries.{TrieRow, trieRow, sourceRecord, fromPlace, atPlace}
+use Rattle.verdicts.specs.Tries.{trieRow, sourceRecord, fromPlace, atPlace}
 use Rattle.verdicts.specs.Meaning.{BadTrie, past-list, past-rows, breaks-rule, SourcePath, actionOn, VisitsTries, no-more, matched-in, goes-on}
 use Rattle.verdicts.specs.Meaning.{calledFirst, RuleDamage, short-lists, past-all, breaks-dest, breaks-source, Way, Classified}
 use Rattle.verdicts.specs.declared.record.RuleRecord.{RuleRecord}

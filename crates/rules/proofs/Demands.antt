@@ -1,16 +1,20 @@
 -- The demands over a build of rules and a classification over what it left (02, [6]), sentence by sentence, as theorems over what the two
 -- calls promise: their meaning (`RuleBuilds`, `Classified`), not how it is found.
 use mathlib.Core.Path.{_≡_, refl, sym, ap, subst, _∙_}
-use mathlib.Core.List.{List, List·Memᴰ}
-use mathlib.Core.Logic.{_↔_, Iff·trans}
-use Prim.Native.Nat.{ℕ, suc, _*_, _^_, _≤_, _<_}
+use mathlib.Core.Bool.{true, _||_}
+use mathlib.Core.List.{List, [], _∷_, List·Memᴰ}
+use mathlib.Core.Logic.{_⊎_, inl, inr, _↔_, Iff·trans}
+use Prim.Native.Nat.{ℕ, suc, _*_, _/_, _^_, _≤_, _<_}
+use native.Mathlib.Decide.{decLe}
 use native.Mathlib.Omega.{arith}
+use lib.Dec.{ltb}
 use lib.ListN.{length, replicate}
+use borrow.Author.Tests.{lt-ltb, le-ltb}
 use Rattle.table.specs.Table.{at}
 use Rattle.table.specs.Refusals.{Test, outcome, Gives}
 use Rattle.table.specs.declared.entry.Outcome.{Outcome}
 use Rattle.table.specs.declared.entry.Outcome.the-variants.{Accepted, Refused}
-use Rattle.table.proofs.Refusals.{outcome-gives, gives-outcome, gives-unique, given-exactly, refused-not-accepted}
+use Rattle.table.proofs.Refusals.{outcome-gives, outcome-fails, outcome-passes, gives-outcome, gives-unique, given-exactly, refused-not-accepted}
 use Rattle.table.proofs.Numbered.{refused-number}
 use Rattle.strides.specs.Cheapest.{Kind, Cheapest}
 use Rattle.strides.specs.Recurrence.{plain, leastBy}
@@ -18,14 +22,16 @@ use Rattle.strides.proofs.Cheapest.{least-cheapest}
 use Rattle.strides.proofs.Follows.{follows-cheapest}
 use Rattle.walk.specs.Limits.{WIDTH}
 use Rattle.walk.specs.Rows.{Lists, shortest, rowAt}
+use Rattle.tries.specs.Limits.{ELEMENTS}
+use Rattle.tries.specs.Build.{roomTest}
 use Rattle.layout.proofs.Laid.{elements-cost}
 use Rattle.fields.specs.Rules.{Rules, ruleCount, GoodRules}
 use Rattle.fields.specs.Winning.{NoRuleMatches}
-use Rattle.fields.specs.Runs.{EntryLists, trieTable}
+use Rattle.fields.specs.Runs.{trieTable, sumFirst}
 use Rattle.fields.proofs.Runs.{runCount, runFrom, runs-exist}
 use Rattle.fields.proofs.Chain.{Falls}
 use Rattle.verdicts.specs.Limits.{TRIE-ROW}
-use Rattle.verdicts.specs.Tries.{TrieRow, trieRow}
+use Rattle.verdicts.specs.Tries.{trieRow}
 use Rattle.verdicts.specs.Verdicts.{verdictNumber, actionOf, verdictReads}
 use Rattle.verdicts.specs.Meaning.{Way, Classified}
 use Rattle.verdicts.specs.declared.record.RuleRecord.{RuleRecord}
@@ -34,10 +40,10 @@ use Rattle.verdicts.specs.declared.visiting.Verdict.the-variants.{Discard, NoRu
 use Rattle.verdicts.proofs.Answers.{verdict-number, verdict-action}
 use Rattle.verdicts.proofs.Unique.{way-unique}
 use Rattle.verdicts.proofs.Alone.{SameTries, SameRows, verdict-path, verdict-few, verdict-alone}
-use Rattle.rules.specs.Build.{RunsOf, ruleTrie, ruleScratchTests, ruleBuildTests, NoRuleRecord, RuleBuilds}
+use Rattle.rules.specs.Build.{RunsOf, ruleTrie, listTest, ruleScratchTests, ruleBuildTests, NoRuleRecord, RuleBuilds}
 use Rattle.rules.specs.Deciding.{ActionIs, TopDiscards, Calls, rowsOnWay}
 use Rattle.rules.proofs.Actions.{action-unique, action-none, action-discards, none-by-action, discard-by-action}
-use Rattle.rules.proofs.RuleTests.{scratch-tests-good, numbered-rule-scratch, rule-tests-early, rule-tests-scratch}
+use Rattle.rules.proofs.RuleTests.{scratch-tests-good, numbered-rule-scratch, rule-tests-early, rule-tests-late, rule-tests-scratch}
 use Rattle.rules.proofs.Deciding.{triesVisited, actionFound, laid-way, verdict-found, laid-decides, tries-called, tries-fall}
 
 module _ {kind : Kind} {W k : ℕ} {rs : Rules} {scratch : List ℕ} {rows : Lists} {list : List ℕ} {out : Outcome} {rec : RuleRecord} {s : List ℕ} {rows′ : Lists}
@@ -88,6 +94,39 @@ module _ {kind : Kind} {W k : ℕ} {rs : Rules} {scratch : List ℕ} {rows : Lis
     where
       seven : (n x : ℕ) → Refused 7 d ≡ Refused n x → 7 ≡ n
       seven n x q = cc
+
+  -- past test 6: 7 where the least costs of all tries together exceed the room lent or the most elements; else 7, "after elements, detail
+  -- the rows needed", where the list has fewer rows than there are source tries; else the build is accepted
+  module _ (m : ℕ) (from least : ℕ → ℕ) (r : RunsOf rs m from) (c : (g : ℕ) → g ≤ m → 1 ≤ k → Cheapest kind k (ruleTrie W rs m from g) (least g))
+      (p : Gives (ruleScratchTests W k rs (length scratch) m from) Accepted) where
+    abbrev total : ℕ
+    total = sumFirst least (suc m)
+
+    past : out ≡ outcome (roomTest total (shortest rows) ∷ listTest (length list) m ∷ [])
+    past =
+        gives-outcome _ out (b .tested m from least r c)
+        ∙ rule-tests-late W k rs (length scratch) m from (shortest rows) (length list) least (sym (gives-outcome _ Accepted p))
+
+    pub rules-elements : (shortest rows < total) ⊎ (ELEMENTS < total) → out ≡ Refused 7 total
+    rules-elements o = past ∙ outcome-fails (roomTest total (shortest rows)) (listTest (length list) m ∷ []) (over o)
+      where
+        over : (shortest rows < total) ⊎ (ELEMENTS < total) → (ltb (shortest rows) total || ltb ELEMENTS total) ≡ true
+        over (inl h) = rw (lt-ltb (shortest rows) total h) refl
+        over (inr h) = elim (decLe total (shortest rows)) [
+          | yes q ↦ rw (le-ltb (shortest rows) total q, lt-ltb ELEMENTS total h) refl
+          | no q ↦ rw (lt-ltb (shortest rows) total (omega arith)) refl
+        ]
+
+    within : total ≤ shortest rows → total ≤ ELEMENTS → out ≡ outcome (listTest (length list) m ∷ [])
+    within h q =
+        past ∙ outcome-passes (roomTest total (shortest rows)) (listTest (length list) m ∷ []) (rw (le-ltb (shortest rows) total h, le-ltb ELEMENTS total q) refl)
+
+    pub rules-places : total ≤ shortest rows → total ≤ ELEMENTS → length list / TRIE-ROW < m → out ≡ Refused 7 m
+    rules-places h q l = within h q ∙ outcome-fails (listTest (length list) m) [] (lt-ltb (length list / TRIE-ROW) m l)
+
+    pub rules-fit : total ≤ shortest rows → total ≤ ELEMENTS → m ≤ length list / TRIE-ROW → out ≡ Accepted
+    unfolding outcome
+    rules-fit h q l = within h q ∙ outcome-passes (listTest (length list) m) [] (le-ltb (length list / TRIE-ROW) m l)
 
   module _ (e : out ≡ Accepted) where
     -- an accepted build zeroes all scratch, writes rows 0 to E - 1 and the rows of its tries in the list, and keeps what comes after them

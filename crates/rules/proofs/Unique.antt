@@ -37,7 +37,7 @@ use Rattle.fields.proofs.Runs.{runs-unique, runCount, runFrom, runs-exist}
 use Rattle.fields.proofs.Nearest.{next-unique}
 use Rattle.fields.proofs.Tables.{dest-lengths, tables-same}
 use Rattle.verdicts.specs.Limits.{TRIE-ROW}
-use Rattle.verdicts.specs.Tries.{TrieRow, trieRow, sourceRecord, fromPlace}
+use Rattle.verdicts.specs.Tries.{trieRow, sourceRecord, fromPlace}
 use Rattle.verdicts.specs.declared.record.RuleRecord.{RuleRecord}
 use Rattle.verdicts.proofs.Alone.{row-from}
 use Rattle.rules.specs.Build.{RunsOf, ruleTrie, ruleScratchTests, ruleBuildTests, TriesLaid, RulesLaid, RuleBuilds}

@@ -10,8 +10,8 @@ use Rattle.table.specs.Prefix.{startsWith}
 use Rattle.layout.specs.Blocks.{Strides, rowsAlong}
 use Rattle.fields.specs.Rules.{Rules, ruleCount}
 use Rattle.fields.specs.Winning.{matchesRule, TopRule, NoRuleMatches}
-use Rattle.fields.specs.Runs.{EntryLists, trieTable}
-use Rattle.verdicts.specs.Tries.{TrieRow, trieRow, atPlace}
+use Rattle.fields.specs.Runs.{trieTable}
+use Rattle.verdicts.specs.Tries.{trieRow, atPlace}
 use Rattle.rules.specs.Build.{ruleTrie}
 
 -- the action of the rule that wins, 0 where no rule matches
