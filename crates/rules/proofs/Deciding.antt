@@ -226,8 +226,8 @@ module _ {W k : ℕ} {rs : Rules} {m : ℕ} {from : ℕ → ℕ} {σ : ℕ → S
         let L = laid .dest in
         record {
           tested = rw (verdict-number actionFound n) (passes (within-not (L .built .width)) (passes (within-not (L .built .levels))
-          (passes (λ o. ⊎-elim (λ (a : 2 ^ rec .dest .width ≤ da). omega (arith, rw (L .width) at a)) (λ (b : 2 ^ rec .dest .width ≤ sa). omega (arith, rw (L .width) at b)) o)
-          (passes undamaged refl))));
+              (passes (λ o. ⊎-elim (λ (a : 2 ^ rec .dest .width ≤ da). omega (arith, rw (L .width) at a)) (λ (b : 2 ^ rec .dest .width ≤ sa). omega (arith, rw (L .width) at b)) o)
+              (passes undamaged refl))));
           told = λ z. (triesVisited, rowsOnWay W k rs m from σ list da sa triesVisited, rw (verdict-action actionFound n) laid-way, verdict-reads actionFound n);
           case = verdict-case actionFound n;
         }
