@@ -83,14 +83,14 @@ module _ {kind : Kind} {W k : ℕ} {rs : Rules} {scratch : List ℕ} {rows : Lis
           let g = subst (Gives tests) p (outcome-gives tests) in
           absurd (omega (arith, refused-number 6 tests n x (numbered-rule-scratch W k rs (length scratch) m from) g, late n x (rules-early r g .0)))
 
-  some-runs : RunsOf rs (runCount (at (rs .dvals)) (at (rs .dlens)) (ruleCount rs)) (runFrom (at (rs .dvals)) (at (rs .dlens)) (ruleCount rs))
-  some-runs = runs-exist (at (rs .dvals)) (at (rs .dlens)) (ruleCount rs)
+  own-runs : RunsOf rs (runCount (at (rs .dvals)) (at (rs .dlens)) (ruleCount rs)) (runFrom (at (rs .dvals)) (at (rs .dlens)) (ruleCount rs))
+  own-runs = runs-exist (at (rs .dvals)) (at (rs .dlens)) (ruleCount rs)
 
   -- refusal 7, for elements or for the list of tries, zeroes all scratch and changes nothing else
   pub rules-room : {d : ℕ} → out ≡ Refused 7 d → NoRuleRecord rec × (s ≡ replicate (length scratch) 0) × (rows′ ≡ rows) × (list′ ≡ list)
   rules-room {d} e =
       let kept = b .keeps .refused (λ a. refused-not-accepted (sym e ∙ a)) in
-      (kept .0, past-scratch some-runs (λ n x f. omega (arith, seven n x (sym e ∙ f))), kept .1, kept .2)
+      (kept .0, past-scratch own-runs (λ n x f. omega (arith, seven n x (sym e ∙ f))), kept .1, kept .2)
     where
       seven : (n x : ℕ) → Refused 7 d ≡ Refused n x → 7 ≡ n
       seven n x q = cc
@@ -132,11 +132,11 @@ module _ {kind : Kind} {W k : ℕ} {rs : Rules} {scratch : List ℕ} {rows : Lis
     -- an accepted build zeroes all scratch, writes rows 0 to E - 1 and the rows of its tries in the list, and keeps what comes after them
     pub rules-accepted : (s ≡ replicate (length scratch) 0) × ((i : ℕ) → rec .elements ≤ i → rowAt rows′ i ≡ rowAt rows i)
         × ((i : ℕ) → b .laid e .m * TRIE-ROW ≤ i → at list′ i ≡ at list i)
-    rules-accepted = (past-scratch some-runs (λ n x f. absurd (refused-not-accepted (sym f ∙ e))), b .keeps .later e, b .laid e .rest)
+    rules-accepted = (past-scratch own-runs (λ n x f. absurd (refused-not-accepted (sym f ∙ e))), b .keeps .later e, b .laid e .rest)
 
     pub rules-are-good : GoodRules W rs
     rules-are-good =
-        scratch-tests-good W k rs (length scratch) _ _ (rule-tests-scratch W k rs (length scratch) _ _ (shortest rows) (length list) _ (sym (tests-out some-runs) ∙ e))
+        scratch-tests-good W k rs (length scratch) _ _ (rule-tests-scratch W k rs (length scratch) _ _ (shortest rows) (length list) _ (sym (tests-out own-runs) ∙ e))
 
     -- ==== "least cost is asked only of each single trie"
 
