@@ -202,6 +202,11 @@ module _ {kind : Kind} {W k : ℕ} {rs : Rules} {scratch : List ℕ} {rows : Lis
             → {v′ : Verdict} → Classified rec other otherList da sa WIDTH v′ → v ≡ v′
         rules-alone other otherList fits tries same = verdict-alone c (rules-decide .0) w other otherList fits tries (rw rules-path same)
 
+      -- and there is such a way
+      pub rules-way : (ts : List ℕ) × Way rec rows′ list′ da sa ts (along ts) (actionOf v)
+      rules-way =
+          let t = c .told (rules-decide .0) in (t .0, subst (λ (on : List ℕ). Way rec rows′ list′ da sa (t .0) on (actionOf v)) (rules-path (t .2)) (t .2))
+
       -- "at most 34 times k"
       pub rules-few : verdictReads v ≤ 34 * k
       rules-few = rw (← b .laid e .tries .dest .levels) (verdict-few c)
