@@ -46,7 +46,7 @@ use Rattle.verdicts.proofs.Answers.{verdict-number, verdict-action, verdict-rea
 use Rattle.verdicts.proofs.Unique.{visits-unique, classified-unique}
 use Rattle.rules.specs.Build.{RunsOf, ruleTrie, TriesLaid}
 use Rattle.rules.specs.Deciding.{ActionIs, no-rule, top-rule, Calls, rowsThrough, rowsOnWay}
-use Rattle.rules.proofs.Sums.{sum-rises}
+use Rattle.rules.proofs.Standing.{sum-mono}
 
 -- a winner's number is no greater than there are entries
 wins-within : {p : ℕ → Bool} {len : ℕ → ℕ} {n b : ℕ} → Wins p len n b → b ≤ n
@@ -63,8 +63,7 @@ module _ {W k : ℕ} {rs : Rules} {m : ℕ} {from : ℕ → ℕ} {σ : ℕ → S
 
   -- a source trie ends before the E of all tries
   within-all : (g : ℕ) → g < m → trieRow list g .place + trieRow list g .elements ≤ rec .elements
-  unfolding sumFirst
-  within-all g h = omega (arith, laid .place g h, laid .all, sum-rises (λ j. trieRow list j .elements) (suc g) m h)
+  within-all g h = omega (arith, laid .place g h, laid .all, sum-mono (λ j. trieRow list j .elements) g m h)
 
   ends-fit : (g : ℕ) → g ≤ m → rec .dest .elements + sumFirst (λ j. trieRow list j .elements) g ≤ shortest rows
   unfolding sumFirst

@@ -1,6 +1,11 @@
--- The laws behind the gathering and the links.
+-- The laws behind the gathering and the links, those of single tables and of sums over all tries, and those of tries laid at a place.
 pub mod Gathering
 pub mod Links
+pub mod Planning
+pub mod Splitting
+pub mod Lending
+pub mod Listing
+pub mod Standing
 -- The demands over a build of rules.
 pub mod Sums
 pub mod Deciding

@@ -1,17 +1,9 @@
 -- What counts over all tries, and where each begins: sums of the first ones.
 use mathlib.Core.Path.{_≡_, refl}
-use mathlib.Core.Logic.{⊎-elim}
 use Prim.Native.Nat.{ℕ, zero, suc, _+_, _≤_, _<_}
-use native.Mathlib.Nat.{eq-or-lt-of-le, le-of-suc-le-suc}
 use native.Mathlib.Decide.{decLe}
 use native.Mathlib.Omega.{arith}
 use Rattle.fields.specs.Runs.{sumFirst}
-
-pub sum-rises : (f : ℕ → ℕ) (i n : ℕ) → i ≤ n → sumFirst f i ≤ sumFirst f n
-unfolding sumFirst
-sum-rises f i zero h = let e : i ≡ 0 = omega arith in rw e (omega arith)
-sum-rises f i (suc n) h =
-    ⊎-elim (λ (e : i ≡ suc n). rw e (omega arith)) (λ (q : i < suc n). omega (arith, sum-rises f i n (le-of-suc-le-suc q))) (eq-or-lt-of-le h)
 
 pub sum-same : (f g : ℕ → ℕ) (n : ℕ) → ((i : ℕ) → i < n → f i ≡ g i) → sumFirst f n ≡ sumFirst g n
 unfolding sumFirst

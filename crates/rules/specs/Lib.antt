@@ -4,3 +4,4 @@ pub mod Deciding
 -- What only the inside needs: the destinations gathered from the rules and the links between their tries.
 pub mod Gathering
 pub mod Splitting
+pub mod Laying

@@ -3,13 +3,13 @@
 // Numbers in a row of the list, one row a source trie: its floor, then its root stride, place and E, and the number of the trie to go on to.
 pub const TRIE_ROW: usize = 5;
 
-pub(crate) const ROOT: usize = 1;
+pub const ROOT: usize = 1;
 
-pub(crate) const PLACE: usize = 2;
+pub const PLACE: usize = 2;
 
-pub(crate) const COUNT: usize = 3;
+pub const COUNT: usize = 3;
 
-pub(crate) const NEXT: usize = 4;
+pub const NEXT: usize = 4;
 
 // The most source tries visited: one for each length of a destination, 0 to 32.
 pub const VISITS: u32 = 33;

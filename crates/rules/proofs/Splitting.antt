@@ -1,0 +1,60 @@
+-- The tables of all tries as the build holds them: one of them taken out, and sums that grow by one.
+use mathlib.Core.Path.{_≡_, refl, sym, ap, subst, _∙_}
+use mathlib.Core.List.{List}
+use Prim.Native.Nat.{ℕ, zero, suc, _+_, _*_, _≤_, _<_}
+use native.Mathlib.Nat.{zero-add}
+use native.Mathlib.Omega.{arith}
+use lib.ListN.{length}
+use Rattle.table.specs.Table.{at}
+use Rattle.strides.specs.Trie.{Trie, size}
+use Rattle.strides.specs.Cheapest.{Kind}
+use Rattle.strides.specs.Recurrence.{plain, leastBy}
+use Rattle.choosers.specs.Limits.{COST-CAP}
+use Rattle.choosers.specs.Scratch.{ROW}
+use Rattle.fields.specs.Limits.{ruleLimit}
+use Rattle.fields.specs.Runs.{part, EntryLists, sumFirst}
+use Rattle.rules.specs.Splitting.{SplitRules, splitTable, splitTrie, partTrie, CanPlan, CanPart, CanSplit, Roomy}
+use Rattle.rules.proofs.Planning.{size-few, least-few, sum-few}
+
+add-one : (g : ℕ) → g + 1 ≡ suc g
+add-one g = omega arith
+
+module _ {W k : ℕ} {s : SplitRules} (can : CanSplit W k s) where
+  pub part-can : (g : ℕ) → g < length (s .vals) → CanPart W k (s .first) (s .svals) (s .slens) (s .actions) g
+  part-can g h = record {
+    inside = omega (arith, can .firsts);
+    rises = rw (add-one g) (can .rising g h);
+    svalues = rw (add-one g) (can .svalues (suc g) h);
+    slengths = rw (add-one g) (can .slengths (suc g) h);
+    acts = rw (add-one g) (can .acts (suc g) h);
+    plan = rw (add-one g) (can .plans (suc g) h);
+  }
+
+  pub part-is : (g : ℕ) → partTrie W (s .first) (s .svals) (s .slens) (s .actions) g ≡ splitTrie W s (suc g)
+  part-is g = rw (add-one g) refl
+
+  pub part-roomy : {words : ℕ} → Roomy W s words → (g : ℕ) → g < length (s .vals) → size (partTrie W (s .first) (s .svals) (s .slens) (s .actions) g) * ROW ≤ words
+  part-roomy r g h = rw (part-is g) (r (suc g) h)
+
+  -- the sums stay far below what a word holds
+  pub nodes-fit : (n : ℕ) → n ≤ suc (length (s .vals)) → sumFirst (λ g. size (splitTrie W s g)) n ≤ n * 2097152
+  nodes-fit n h = sum-few (λ g. size (splitTrie W s g)) n 2097152 (λ g l. size-few (can .plans g (omega arith)))
+
+  pub part-size : (g : ℕ) → g < length (s .vals) → size (partTrie W (s .first) (s .svals) (s .slens) (s .actions) g) ≤ 2097152
+  part-size g h = size-few (part-can g h .plan)
+
+  pub part-least : (kind : Kind) (g : ℕ) → g < length (s .vals) → leastBy plain kind k (partTrie W (s .first) (s .svals) (s .slens) (s .actions) g) < COST-CAP
+  part-least kind g h = least-few (part-can g h .plan) kind
+
+  pub costs-fit : (kind : Kind) (n : ℕ) → n ≤ suc (length (s .vals)) → sumFirst (λ g. leastBy plain kind k (splitTrie W s g)) n ≤ n * COST-CAP
+  costs-fit kind n h =
+      sum-few (λ g. leastBy plain kind k (splitTrie W s g)) n COST-CAP (λ g l. omega (arith, least-few (can .plans g (omega arith)) kind))
+
+-- a sum that grew by one
+pub sum-first : (f : ℕ → ℕ) {x : ℕ} → x ≡ f 0 → x ≡ sumFirst f 1
+unfolding sumFirst
+sum-first f e = e ∙ sym (zero-add (f 0))
+
+pub sum-on : (f : ℕ → ℕ) (g : ℕ) {x y : ℕ} → x ≡ sumFirst f (suc g) → y ≡ f (suc g) → x + y ≡ sumFirst f (suc (g + 1))
+unfolding sumFirst
+sum-on f g e d = rw (add-one g, e, d) refl
