@@ -7,3 +7,11 @@ pub mod Lending
 pub mod Listing
 pub mod Standing
 pub mod Steps
+-- The demands over a build of rules.
+pub mod Sums
+pub mod Deciding
+pub mod Actions
+pub mod RuleTests
+pub mod Meaning
+pub mod Unique
+pub mod Demands

@@ -212,3 +212,68 @@ fn build_split(
     zero(scratch);
     built
 }
+
+// Turns rules into a destination trie whose entries lead to source tries, all in lent arrays, each with the least number of rows of its
+// kind; or refuses them by the first of the tests 1 to 7, where 6 and 7 count over all tries and 7 tests the elements, then the list of
+// tries. Refused, the record is all zeros and neither elements nor list change; 1 to 6 keep scratch too, else all of it is 0.
+pub fn build_rules(
+    kind: Kind,
+    width: u32,
+    levels: u32,
+    dvals: &[u32],
+    dlens: &[u8],
+    svals: &[u32],
+    slens: &[u8],
+    actions: &[u16],
+    scratch: &mut [u64],
+    rowhops: &mut [u16],
+    rowlens: &mut [u8],
+    rowlinks: &mut [u32],
+    rowstrides: &mut [u8],
+    list: &mut [u32],
+) -> BuiltRules
+    ensures exact { λ r. ⌜
+        RulesAre (kindOf kind) width levels
+        (rules (now (dvals .entry)) (now (dlens .entry)) (now (svals .entry)) (now (slens .entry)) (now (actions .entry))) (now (scratch .entry))
+        (lists (now (rowhops .entry)) (now (rowlens .entry)) (now (rowlinks .entry)) (now (rowstrides .entry))) (now (list .entry)) (r .outcome) (r .record)
+        (now (scratch .exit)) (lists (now (rowhops .exit)) (now (rowlens .exit)) (now (rowlinks .exit)) (now (rowstrides .exit))) (now (list .exit)) ⌝ }
+    ensures meaning { λ r. ⌜
+        RuleBuilds (kindOf kind) width levels
+        (rules (now (dvals .entry)) (now (dlens .entry)) (now (svals .entry)) (now (slens .entry)) (now (actions .entry))) (now (scratch .entry))
+        (lists (now (rowhops .entry)) (now (rowlens .entry)) (now (rowlinks .entry)) (now (rowstrides .entry))) (now (list .entry)) (r .outcome) (r .record)
+        (now (scratch .exit)) (lists (now (rowhops .exit)) (now (rowlens .exit)) (now (rowlinks .exit)) (now (rowstrides .exit))) (now (list .exit)) ⌝ }
+{
+    if is_outside(width, WIDTH) {
+        return refused(1, 0);
+    }
+    if is_outside(levels, LEVELS) {
+        return refused(2, 0);
+    }
+    let checked = check_rules(width, dvals, dlens, svals, slens, actions);
+    if let Outcome::Refused { number, detail } = checked {
+        return refused(number, detail);
+    }
+    let mut first = first_rules();
+    let mut vals = destination_values();
+    let mut lens = destination_lengths();
+    let mut nums = trie_numbers();
+    let m = gather(dvals, dlens, &mut first, &mut vals, &mut lens, &mut nums);
+    build_split(
+        kind,
+        width,
+        levels,
+        &first,
+        &vals[0..m],
+        &lens[0..m],
+        &nums[0..m],
+        svals,
+        slens,
+        actions,
+        scratch,
+        rowhops,
+        rowlens,
+        rowlinks,
+        rowstrides,
+        list,
+    )
+}

@@ -7,3 +7,6 @@ mod grouping;
 mod laying;
 mod linking;
 mod room;
+
+pub use building::BuiltRules;
+pub use building::build_rules;

@@ -1,0 +1,71 @@
+-- The tests of a build of rules: what it takes to pass those before test 7, and how 7 follows them.
+use mathlib.Core.Path.{_≡_, ap, _∙_}
+use mathlib.Core.Bool.{false}
+use mathlib.Core.List.{List, [], _∷_, _++_}
+use Prim.Native.Nat.{ℕ, suc}
+use native.Mathlib.Omega.{arith}
+use Rattle.table.specs.Refusals.{Test, outcome, Numbered, andThen}
+use Rattle.table.specs.Table.{widthTest}
+use Rattle.table.specs.declared.entry.Outcome.{Outcome}
+use Rattle.table.specs.declared.entry.Outcome.the-variants.{Accepted, Refused}
+use Rattle.table.proofs.Refusals.{outcome-passes, outcome-append, accepted-passes, accepted-parts}
+use Rattle.table.proofs.Numbered.{numbered-append}
+use Rattle.strides.specs.Trie.{size}
+use Rattle.walk.specs.Limits.{LEVELS, Within}
+use Rattle.choosers.specs.Chooser.{levelsTest}
+use Rattle.choosers.proofs.ChooseTests.{within-levels}
+use Rattle.tries.specs.Build.{roomTest}
+use Rattle.fields.specs.Rules.{Rules, ruleListTests, ruleTests, GoodRules}
+use Rattle.fields.specs.Runs.{sumFirst}
+use Rattle.fields.proofs.Rules.{rules-good, numbered-rules}
+use Rattle.rules.specs.Build.{ruleTrie, nodesTest, listTest, ruleScratchTests, ruleBuildTests}
+
+module _ (W k : ℕ) (rs : Rules) (words m : ℕ) (from : ℕ → ℕ) where
+  abbrev lastTest : List Test
+  lastTest = nodesTest words (sumFirst (λ g. size (ruleTrie W rs m from g)) (suc m)) ∷ []
+
+  -- what acceptance says
+  past-width : outcome (ruleScratchTests W k rs words m from) ≡ Accepted
+      → (widthTest W .fails ≡ false) × (levelsTest k .fails ≡ false) × (outcome (ruleListTests W rs) ≡ Accepted)
+  unfolding ruleScratchTests
+  past-width e =
+      let p = accepted-passes (widthTest W) (levelsTest k ∷ (ruleListTests W rs ++ lastTest)) e in
+      let q = accepted-passes (levelsTest k) (ruleListTests W rs ++ lastTest) (p .1) in
+      (p .0, q .0, accepted-parts (ruleListTests W rs) lastTest (q .1) .0)
+
+  pub scratch-tests-levels : outcome (ruleScratchTests W k rs words m from) ≡ Accepted → Within k LEVELS
+  scratch-tests-levels e = within-levels k LEVELS (past-width e .1)
+
+  pub scratch-tests-good : outcome (ruleScratchTests W k rs words m from) ≡ Accepted → GoodRules W rs
+  unfolding ruleTests
+  scratch-tests-good e = let p = past-width e in rules-good W rs (outcome-passes (widthTest W) (ruleListTests W rs) (p .0) ∙ p .2)
+
+  pub numbered-rule-scratch : Numbered 6 (ruleScratchTests W k rs words m from)
+  unfolding ruleScratchTests ruleTests
+  numbered-rule-scratch =
+      let n = numbered-rules W rs 6 (omega arith) in
+      (n .0, ((omega arith, omega arith), numbered-append 6 (ruleListTests W rs) lastTest (n .1) ((omega arith, omega arith), tt)))
+
+  -- 7 comes after them
+  module _ (room places : ℕ) (least : ℕ → ℕ) where
+    abbrev roomTests : List Test
+    roomTests = roomTest (sumFirst least (suc m)) room ∷ listTest places m ∷ []
+
+    two-parts : outcome (ruleBuildTests W k rs words room places m from least) ≡ andThen (outcome (ruleScratchTests W k rs words m from)) (outcome roomTests)
+    unfolding ruleBuildTests
+    two-parts = outcome-append (ruleScratchTests W k rs words m from) roomTests
+
+    pub rule-tests-early : {n d : ℕ} → outcome (ruleScratchTests W k rs words m from) ≡ Refused n d
+        → outcome (ruleBuildTests W k rs words room places m from least) ≡ Refused n d
+    unfolding andThen
+    rule-tests-early e = two-parts ∙ ap (λ (o : Outcome). andThen o (outcome roomTests)) e
+
+    pub rule-tests-late : outcome (ruleScratchTests W k rs words m from) ≡ Accepted
+        → outcome (ruleBuildTests W k rs words room places m from least) ≡ outcome roomTests
+    unfolding andThen
+    rule-tests-late e = two-parts ∙ ap (λ (o : Outcome). andThen o (outcome roomTests)) e
+
+    pub rule-tests-scratch : outcome (ruleBuildTests W k rs words room places m from least) ≡ Accepted
+        → outcome (ruleScratchTests W k rs words m from) ≡ Accepted
+    unfolding ruleBuildTests
+    rule-tests-scratch e = accepted-parts (ruleScratchTests W k rs words m from) roomTests e .0
