@@ -7,6 +7,7 @@ pub mod Lending
 pub mod Listing
 pub mod Standing
 pub mod Steps
+pub mod Whole
 -- The demands over a build of rules.
 pub mod Sums
 pub mod Deciding

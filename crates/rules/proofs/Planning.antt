@@ -34,7 +34,7 @@ use Rattle.choosers.proofs.ChooseTests.{table-prefixes, tests-scratch, tests-pa
 use Rattle.fields.specs.Runs.{sumFirst}
 use Rattle.rules.specs.Splitting.{CanPlan}
 
-inside : {x most : ℕ} → Within x most → outside x most ≡ false
+pub inside : {x most : ℕ} → Within x most → outside x most ≡ false
 inside {x} {most} w = outside-cases x most (λ (t : Bool). t ≡ false) (λ o. absurd (within-not w o)) (λ i. refl)
 
 module _ {W k : ℕ} {vs ls hs : List ℕ} (can : CanPlan W k vs ls hs) where

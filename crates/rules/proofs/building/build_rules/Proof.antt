@@ -1,3 +1,20 @@
+use Rattle.rules.specs.Splitting.{SplitRules, CanSplit}
+use Rattle.rules.specs.Building.{SplitBuilt}
+use Prim.Native.Nat.{ℕ, _+_, _-_, _≤_, _<_}
+use mathlib.Core.Path.{_≡_, refl, sym, ap, subst, _∙_}
+use mathlib.Core.Bool.{true, false}
+use mathlib.Core.List.{List}
+use native.Mathlib.Omega.{arith}
+use lib.ListN.{length, take}
+use Rattle.table.specs.Limits.{outside}
+use Rattle.walk.specs.Limits.{WIDTH, LEVELS, Within}
+use Rattle.walk.specs.Rows.{Lists, lists}
+use Rattle.choosers.specs.Kinds.{kindOf}
+use Rattle.choosers.proofs.ChooseTests.{within-levels}
+use Rattle.fields.specs.Rules.{Rules, rules, checkRulesOf, GoodRules}
+use Rattle.fields.proofs.Rules.{rules-good}
+use Rattle.rules.proofs.Meaning.{rules-mean}
+use Rattle.rules.proofs.Whole.{width-refused, levels-refused, rules-refused, held-can, held-lists, whole-built}
 use borrow.Author.Needs.{needs}
 use Rattle.rules.proofs.building.build_rules.Statement.{statement}
 use Rattle.rules.proofs.building.build_rules.Tie as tie
@@ -13,6 +30,24 @@ use Rattle.rules.proofs.room.first_rules.Reads as first-rules-reads
 use Rattle.rules.proofs.room.trie_numbers.Reads as trie-numbers-reads
 use Rattle.table.proofs.is_outside.Reads as is-outside-reads
 
+-- tests 1 and 2 passed
+width-in : (c : tie.Else1) → outside (c .before .before .before .before .before .before .before .before .before .before .before .before .before .args .width) WIDTH ≡ false
+width-in c = sym (c .before .is-outside .ensures) ∙ c .if1 .left
+
+levels-in : (c : tie.Else2) → outside (c .before .before .before .before .before .before .before .before .before .before .before .before .before .before .before .args .levels) LEVELS ≡ false
+levels-in c = sym (c .before .is-outside2 .ensures) ∙ c .if2 .left
+
+-- and so did the rules
+abbrev given : (c : tie.Start) → Rules
+given c = rules (c .args .dvals .now) (c .args .dlens .now) (c .args .svals .now) (c .args .slens .now) (c .args .actions .now)
+
+abbrev rowsLent : (c : tie.Start) → Lists
+rowsLent c = lists (c .args .rowhops .now) (c .args .rowlens .now) (c .args .rowlinks .now) (c .args .rowstrides .now)
+
+good : (c : tie.After-enum-told) → GoodRules (c .before .before .before .before .before .before .before .before .before .before .before .before .before .before .before .before .before .before .args .width) (given (c .before .before .before .before .before .before .before .before .before .before .before .before .before .before .before .before .before .before))
+unfolding checkRulesOf
+good c = rules-good (c .before .before .before .before .before .before .before .before .before .before .before .before .before .before .before .before .before .before .args .width) (given (c .before .before .before .before .before .before .before .before .before .before .before .before .before .before .before .before .before .before)) (sym (c .before .before .check-rules .ensures .0) ∙ c .enum-told .given .1)
+
 -- src/building.rt:246:8
 is-outside-requires : tie.Need-is-outside-requires
 is-outside-requires c κs = search needs
@@ -23,7 +58,11 @@ refused-requires c κs = search needs
 
 -- src/building.rt:247:9
 returns : tie.Need-returns
-returns c = ?
+returns c =
+    let S = c .before .before .before .before .before .before .before .before .before .before .before .before .before .before in
+    let b = width-refused (kindOf (S .args .kind)) (S .args .width) (S .args .levels) (given S) (S .args .scratch .now) (rowsLent S) (S .args .list .now)
+    (sym (c .before .before .is-outside .ensures) ∙ c .before .if1 .taken) (c .refused .ensures .0) (c .refused .ensures .1) in
+    (b, rules-mean b)
 
 -- src/building.rt:249:8
 is-outside-requires-2 : tie.Need-is-outside-requires-2
@@ -35,7 +74,11 @@ refused-requires-2 c κs = search needs
 
 -- src/building.rt:250:9
 returns-2 : tie.Need-returns-2
-returns-2 c = ?
+returns-2 c =
+    let S = c .before .before .before .before .before .before .before .before .before .before .before .before .before .before .before .before in
+    let b = levels-refused (kindOf (S .args .kind)) (S .args .width) (S .args .levels) (given S) (S .args .scratch .now) (rowsLent S) (S .args .list .now)
+    (width-in (c .before .before .before)) (sym (c .before .before .is-outside2 .ensures) ∙ c .before .if2 .taken) (c .refused2 .ensures .0) (c .refused2 .ensures .1) in
+    (b, rules-mean b)
 
 -- src/building.rt:252:9
 check-rules-requires : tie.Need-check-rules-requires
@@ -51,7 +94,11 @@ refused-requires-3 c κs = search needs
 
 -- src/building.rt:254:9
 returns-3 : tie.Need-returns-3
-returns-3 c = ?
+returns-3 c =
+    let S = c .before .before .before .before .before .before .before .before .before .before .before .before .before .before .before .before .before .before .before .before in
+    let b = rules-refused (kindOf (S .args .kind)) (S .args .width) (S .args .levels) (given S) (S .args .scratch .now) (rowsLent S) (S .args .list .now)
+    (width-in (c .before .before .before .before .before .before .before)) (levels-in (c .before .before .before .before .before)) (sym (c .before .before .before .before .check-rules .ensures .0) ∙ c .before .before .checked .given .1) (c .refused3 .ensures .0) (c .refused3 .ensures .1) in
+    (b, rules-mean b)
 
 enum-told : tie.Need-enum-told
 enum-told c = search needs
@@ -90,7 +137,11 @@ slice-aggregate-gather-4 c = search needs
 
 -- src/building.rt:260:9
 gather-requires : tie.Need-gather-requires
-gather-requires c κs = ?
+gather-requires c κs =
+    let g = good (c .before .before .before .before .before .before .before .before) in (
+      (g .lengths .dlengths, g .few, omega (arith, g .few, c .before .before .before .before .before .before .before .first-rules .ensures)),
+      (omega (arith, g .few, c .before .before .before .before .before .before .destination-values .ensures), omega (arith, g .few, c .before .before .before .before .before .destination-lengths .ensures), omega (arith, g .few, c .before .before .before .before .trie-numbers .ensures)),
+    )
 
 -- src/building.rt:265:9
 slice-aggregate-build-split : tie.Need-slice-aggregate-build-split
@@ -106,7 +157,9 @@ part-build-split-start c = search needs
 
 -- src/building.rt:266:9
 part-build-split-end : tie.Need-part-build-split-end
-part-build-split-end c = ?
+part-build-split-end c =
+    let g = good (c .before .before .before .before .before .before .before .before .before .before .before .before .before .before .before) in
+    omega (arith, c .before .before .before .before .before .before .gather .ensures .few, g .few, c .before .before .before .before .before .before .before .before .before .before .before .before .before .destination-values .ensures, c .before .before .before .before .before .before .gather .kept)
 
 -- src/building.rt:267:9
 sub-build-split-2 : tie.Need-sub-build-split-2
@@ -118,7 +171,9 @@ part-build-split-start-2 c = search needs
 
 -- src/building.rt:267:9
 part-build-split-end-2 : tie.Need-part-build-split-end-2
-part-build-split-end-2 c = ?
+part-build-split-end-2 c =
+    let g = good (c .before .before .before .before .before .before .before .before .before .before .before .before .before .before .before .before .before) in
+    omega (arith, c .before .before .before .before .before .before .before .before .gather .ensures .few, g .few, c .before .before .before .before .before .before .before .before .before .before .before .before .before .before .destination-lengths .ensures, c .before .before .before .before .before .before .before .before .gather .kept)
 
 -- src/building.rt:268:9
 sub-build-split-3 : tie.Need-sub-build-split-3
@@ -130,11 +185,25 @@ part-build-split-start-3 c = search needs
 
 -- src/building.rt:268:9
 part-build-split-end-3 : tie.Need-part-build-split-end-3
-part-build-split-end-3 c = ?
+part-build-split-end-3 c =
+    let g = good (c .before .before .before .before .before .before .before .before .before .before .before .before .before .before .before .before .before .before .before) in
+    omega (arith, c .before .before .before .before .before .before .before .before .before .before .gather .ensures .few, g .few, c .before .before .before .before .before .before .before .before .before .before .before .before .before .before .before .trie-numbers .ensures, c .before .before .before .before .before .before .before .before .before .before .gather .kept)
+
+-- the destinations that were gathered
+enough : (c : tie.After-gather) → c .gather .result < length (c .gather .last .1 .1 .0)
+enough c = omega (arith, c .gather .ensures .few, good (c .before .before .before .before .before .before .before .before .before) .few, c .before .before .before .before .before .before .before .before .first-rules .ensures, c .gather .kept)
+
+levels-good : (c : tie.After-enum-told) → Within (c .before .before .before .before .before .before .before .before .before .before .before .before .before .before .before .before .before .before .args .levels) LEVELS
+levels-good c = within-levels (c .before .before .before .before .before .before .before .before .before .before .before .before .before .before .before .before .before .before .args .levels) LEVELS (levels-in (c .before .before .before))
 
 -- src/building.rt:261:5
 build-split-requires : tie.Need-build-split-requires
-build-split-requires c κs = ?
+build-split-requires c κs =
+    let S = c .before .before .before .before .before .before .before .before .before .before .before .before .before .before .before .before .before .before .before .before .before .before .before .before .before .before .before .before .before .before .before .before .before .before .before .before .before .before .before .before .before .before .before .before in
+    let G = c .before .before .before .before .before .before .before .before .before .before .before .before .before .before .before .before .before .gather in
+    subst (CanSplit (S .args .width) (S .args .levels))
+    (sym (held-lists (S .args .width) (S .args .levels) (given S) (good (c .before .before .before .before .before .before .before .before .before .before .before .before .before .before .before .before .before .before .before .before .before .before .before .before .before .before)) (levels-good (c .before .before .before .before .before .before .before .before .before .before .before .before .before .before .before .before .before .before .before .before .before .before .before .before .before .before)) (G .result) (G .last .1 .1 .0) (G .ensures .runs) (enough (c .before .before .before .before .before .before .before .before .before .before .before .before .before .before .before .before .before)) (G .ensures)))
+    (held-can (S .args .width) (S .args .levels) (given S) (good (c .before .before .before .before .before .before .before .before .before .before .before .before .before .before .before .before .before .before .before .before .before .before .before .before .before .before)) (levels-good (c .before .before .before .before .before .before .before .before .before .before .before .before .before .before .before .before .before .before .before .before .before .before .before .before .before .before)) (G .result) (G .last .1 .1 .0) (G .ensures .runs) (enough (c .before .before .before .before .before .before .before .before .before .before .before .before .before .before .before .before .before)))
 
 -- src/building.rt:219:1
 same-length : tie.Need-same-length
@@ -162,7 +231,18 @@ same-length-6 c = search needs
 
 -- src/building.rt:219:1
 returns-4 : tie.Need-returns-4
-returns-4 c = ?
+returns-4 c =
+    let S = c .before .before .before .before .before .before .before .before .before .before .before .before .before .before .before .before .before .before .before .before .before .before .before .before .before .before .before .before .before .before .before .before .before .before .before .before .before .before .before .before .before .before .before .before .before .before .before .before .before .before .before .before .before .before .before .before .before in
+    let G = c .before .before .before .before .before .before .before .before .before .before .before .before .before .before .before .before .before .before .before .before .before .before .before .before .before .before .before .before .before .before .gather in
+    let B = c .before .before .before .before .before .before .before .before .before .before .before .before .build-split in
+    let b = whole-built (S .args .width) (S .args .levels) (given S) (good (c .before .before .before .before .before .before .before .before .before .before .before .before .before .before .before .before .before .before .before .before .before .before .before .before .before .before .before .before .before .before .before .before .before .before .before .before .before .before .before)) (levels-good (c .before .before .before .before .before .before .before .before .before .before .before .before .before .before .before .before .before .before .before .before .before .before .before .before .before .before .before .before .before .before .before .before .before .before .before .before .before .before .before)) (G .result) (G .last .1 .1 .0) (G .ensures .runs) (enough (c .before .before .before .before .before .before .before .before .before .before .before .before .before .before .before .before .before .before .before .before .before .before .before .before .before .before .before .before .before .before))
+    (subst (λ (s : SplitRules). SplitBuilt (kindOf (S .args .kind)) (S .args .width) (S .args .levels) s (S .args .scratch .now) (rowsLent S) (S .args .list .now)
+    (B .result .outcome) (B .result .«record») (B .last .1 .1 .1 .1 .1 .1 .1 .1 .1 .1 .0)
+    (lists (B .last .1 .1 .1 .1 .1 .1 .1 .1 .1 .1 .1 .0) (B .last .1 .1 .1 .1 .1 .1 .1 .1 .1 .1 .1 .1 .0) (B .last .1 .1 .1 .1 .1 .1 .1 .1 .1 .1 .1 .1 .1 .0) (B .last .1 .1 .1 .1 .1 .1 .1 .1 .1 .1 .1 .1 .1 .1 .0))
+    (B .last .1 .1 .1 .1 .1 .1 .1 .1 .1 .1 .1 .1 .1 .1 .1 .0))
+    (held-lists (S .args .width) (S .args .levels) (given S) (good (c .before .before .before .before .before .before .before .before .before .before .before .before .before .before .before .before .before .before .before .before .before .before .before .before .before .before .before .before .before .before .before .before .before .before .before .before .before .before .before)) (levels-good (c .before .before .before .before .before .before .before .before .before .before .before .before .before .before .before .before .before .before .before .before .before .before .before .before .before .before .before .before .before .before .before .before .before .before .before .before .before .before .before)) (G .result) (G .last .1 .1 .0) (G .ensures .runs) (enough (c .before .before .before .before .before .before .before .before .before .before .before .before .before .before .before .before .before .before .before .before .before .before .before .before .before .before .before .before .before .before)) (G .ensures))
+    (B .ensures)) in
+    (b, rules-mean b)
 
 pub build-rules-spec : {M : Type 1} → statement M
 build-rules-spec =
