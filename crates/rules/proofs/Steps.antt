@@ -12,7 +12,7 @@ use Rattle.table.specs.Refusals.{Test, outcome}
 use Rattle.table.specs.declared.entry.Outcome.{Outcome}
 use Rattle.table.specs.declared.entry.Outcome.the-variants.{Accepted, Refused}
 use Rattle.table.proofs.Bools.{or-false}
-use Rattle.table.proofs.Refusals.{outcome-fails, outcome-passes, refused-not-accepted}
+use Rattle.table.proofs.Refusals.{outcome-fails, outcome-passes, accepted-passes, refused-not-accepted}
 use Rattle.strides.specs.Trie.{size}
 use Rattle.strides.specs.Cheapest.{Kind}
 use Rattle.strides.specs.Recurrence.{plain, leastBy}
@@ -32,7 +32,7 @@ use Rattle.verdicts.specs.declared.record.RuleRecord.{RuleRecord}
 use Rattle.rules.specs.Build.{nodesTest, listTest, NoRuleRecord, RulesKept}
 use Rattle.rules.specs.Splitting.{SplitRules, splitTable, splitTrie, splitNodes, splitCosts, CanSplit, Roomy}
 use Rattle.rules.specs.Laying.{SameRoom, CanLayAt, LaysAt, sourceCost, placeOf, SourceStands, CanLaySources, LaidTo}
-use Rattle.rules.specs.Building.{SplitLaid, SplitWritten, TriesBuilt, SplitBuilt}
+use Rattle.rules.specs.Building.{CanLayAll, SplitLaid, SplitWritten, TriesBuilt, SplitBuilt}
 use Rattle.rules.proofs.Planning.{sum-part}
 use Rattle.rules.proofs.Standing.{laid-kept, same-shortest}
 
@@ -64,99 +64,91 @@ nothing-written kind W k s rows list e z = record {
   };
 }
 
-module _ (kind : Kind) (W k : ℕ) (s : SplitRules) (rows : Lists) (list : List ℕ) {out : Outcome} {rec : RuleRecord} where
-  -- by 7 for elements
-  pub crowded-tries : {cost : ℕ} → cost ≡ splitCosts kind W k s → (ltb (shortest rows) cost || ltb ELEMENTS cost) ≡ true → out ≡ Refused 7 cost
-      → NoRuleRecord rec → TriesBuilt kind W k s rows list out rec rows list
-  unfolding outcome
-  crowded-tries {cost} c f e z = record {
-    tests = e ∙ sym (rw (sym c) (outcome-fails (roomTest cost (shortest rows)) (listTest (length list) (length (s .vals)) ∷ []) f));
-    written = nothing-written kind W k s rows list e z;
-  }
+-- ---- all tries laid
 
-  -- by 7 for the list
-  pub short-list : {cost : ℕ} → cost ≡ splitCosts kind W k s → (ltb (shortest rows) cost || ltb ELEMENTS cost) ≡ false → length list / TRIE-ROW < (length (s .vals))
-      → out ≡ Refused 7 (length (s .vals)) → NoRuleRecord rec → TriesBuilt kind W k s rows list out rec rows list
-  unfolding outcome
-  short-list {cost} c f l e z = record {
-    tests = e ∙ sym (rw (sym c) (outcome-passes (roomTest cost (shortest rows)) (listTest (length list) (length (s .vals)) ∷ []) f
-        ∙ outcome-fails (listTest (length list) (length (s .vals))) [] (lt-ltb (length list / TRIE-ROW) (length (s .vals)) l)));
-    written = nothing-written kind W k s rows list e z;
-  }
-
--- ---- built
-
-module _ (kind : Kind) (W k : ℕ) (s : SplitRules) (can : CanSplit W k s) {words : ℕ} (roomy : Roomy W s words) (rows : Lists) (list : List ℕ) {cost : ℕ}
-    (costs : cost ≡ splitCosts kind W k s) (fits : (ltb (shortest rows) cost || ltb ELEMENTS cost) ≡ false) where
+module _ (kind : Kind) (W k : ℕ) (s : SplitRules) {words : ℕ} {rows : Lists} {list : List ℕ} (can : CanLayAll kind W k s words rows list) where
   abbrev own : ℕ
   own = leastBy plain kind k (splitTrie W s 0)
 
-  room-fits : cost ≤ shortest rows
-  room-fits = ltb-false (shortest rows) cost (or-false (ltb (shortest rows) cost) (ltb ELEMENTS cost) fits .0)
-
-  few-rows : cost ≤ ELEMENTS
-  few-rows = ltb-false ELEMENTS cost (or-false (ltb (shortest rows) cost) (ltb ELEMENTS cost) fits .1)
-
   -- the destination trie and all source tries
-  both-costs : cost ≡ own + sumFirst (sourceCost kind W k s) (length (s .vals))
-  both-costs = costs ∙ sum-shift (λ g. leastBy plain kind k (splitTrie W s g)) (length (s .vals))
+  both-costs : splitCosts kind W k s ≡ own + sumFirst (sourceCost kind W k s) (length (s .vals))
+  both-costs = sum-shift (λ g. leastBy plain kind k (splitTrie W s g)) (length (s .vals))
 
   pub may-lay-dest : CanLayAt kind W k (s .vals) (s .lens) (s .nums) words 0 rows
   may-lay-dest = record {
-    plan = can .plans 0 (omega arith);
-    roomy = roomy 0 (omega arith);
-    fits = le-trans (omega (arith, both-costs)) room-fits;
-    few = omega (arith, both-costs, few-rows);
+    plan = can .split .plans 0 (omega arith);
+    roomy = can .roomy 0 (omega arith);
+    fits = le-trans (omega (arith, both-costs)) (can .fits);
+    few = omega (arith, both-costs, can .few);
   }
 
-  module _ (listed : length (s .vals) ≤ length list / TRIE-ROW) {rows1 : Lists} {dest : Record}
-      (l : LaysAt kind W k (s .vals) (s .lens) (s .nums) 0 rows dest rows1) where
-    same-place : placeOf kind W k s (dest .elements) (length (s .vals)) ≡ cost
+  module _ {rows1 : Lists} {dest : Record} (l : LaysAt kind W k (s .vals) (s .lens) (s .nums) 0 rows dest rows1) where
+    same-place : placeOf kind W k s (dest .elements) (length (s .vals)) ≡ splitCosts kind W k s
     same-place = rw (l .count) (sym both-costs)
 
     pub may-lay-sources : CanLaySources kind W k s (dest .elements) words rows1 list
     may-lay-sources = record {
-      split = can;
-      roomy = roomy;
-      fits = rw (same-place, same-shortest (l .room)) room-fits;
-      few = rw same-place few-rows;
-      places = omega arith;
+      split = can .split;
+      roomy = can .roomy;
+      fits = rw (same-place, same-shortest (l .room)) (can .fits);
+      few = rw same-place (can .few);
+      places = can .places;
     }
 
     module _ {e : ℕ} {rows2 : Lists} {list2 : List ℕ} (t : LaidTo kind W k s (dest .elements) rows1 list (length (s .vals)) e rows2 list2) where
       pub elements-few : e ≤ ELEMENTS
-      elements-few = omega (arith, t .reached, same-place, few-rows)
+      elements-few = omega (arith, t .reached, same-place, can .few)
 
       -- the destination's rows stay
       dest-kept : Laid WIDTH W (s .vals) (s .lens) (s .nums) (chosenBy plain kind k (splitTrie W s 0)) k dest rows2
       dest-kept = laid-kept 0 rows1 rows2 (same-shortest (t .room)) (λ i a b. t .before i (omega arith)) (l .laid)
 
-      pub tries-built : {out : Outcome} {rec : RuleRecord} → out ≡ Accepted → rec .dest ≡ dest → rec .elements ≡ e
-          → TriesBuilt kind W k s rows list out rec rows2 list2
-      unfolding outcome
-      tries-built {out} {rec} o d q = record {
-        tests = o ∙ sym (rw (sym costs) (outcome-passes (roomTest cost (shortest rows)) (listTest (length list) (length (s .vals)) ∷ []) fits
-            ∙ outcome-passes (listTest (length list) (length (s .vals))) [] (le-ltb (length list / TRIE-ROW) (length (s .vals)) listed)));
-        written = record {
-          laid = λ a. record {
-            dest = rw d dest-kept;
-            named = rw d (l .named);
-            sources = λ g h. rw d (t .stands g h);
-            all = rw d (q ∙ t .reached);
-            rest = t .rest;
-            places = omega (arith, t .long, listed);
-          };
-          keeps = record {
-            hops = t .room .hops ∙ l .room .hops;
-            lens = t .room .lens ∙ l .room .lens;
-            links = t .room .links ∙ l .room .links;
-            strides = t .room .strides ∙ l .room .strides;
-            places = t .long;
-            later = λ a i h. t .after i (omega (arith, q)) ∙ l .after i (omega (arith, q, t .reached));
-            refused = λ ne. absurd (ne o);
-          };
+      pub all-laid : {rec : RuleRecord} → rec .dest ≡ dest → rec .elements ≡ e → SplitWritten kind W k s rows list Accepted rec rows2 list2
+      all-laid {rec} d q = record {
+        laid = λ a. record {
+          dest = rw d dest-kept;
+          named = rw d (l .named);
+          sources = λ g h. rw d (t .stands g h);
+          all = rw d (q ∙ t .reached);
+          rest = t .rest;
+          places = omega (arith, t .long, can .places);
+        };
+        keeps = record {
+          hops = t .room .hops ∙ l .room .hops;
+          lens = t .room .lens ∙ l .room .lens;
+          links = t .room .links ∙ l .room .links;
+          strides = t .room .strides ∙ l .room .strides;
+          places = t .long;
+          later = λ a i h. t .after i (omega (arith, q)) ∙ l .after i (omega (arith, q, t .reached));
+          refused = λ ne. absurd (ne refl);
         };
       }
+
+-- ---- test 7 before that
+
+module _ (kind : Kind) (W k : ℕ) (s : SplitRules) (rows : Lists) (list : List ℕ) {cost : ℕ} (costs : cost ≡ splitCosts kind W k s) {o : Outcome}
+    (tested : o ≡ outcome (roomTest cost (shortest rows) ∷ listTest (length list) (length (s .vals)) ∷ [])) where
+  pub room-lacks : {n d : ℕ} {out : Outcome} {rec : RuleRecord} → o ≡ Refused n d → out ≡ Refused n d → NoRuleRecord rec
+      → TriesBuilt kind W k s rows list out rec rows list
+  room-lacks f e z = record { tests = e ∙ sym f ∙ rw (sym costs) tested; written = nothing-written kind W k s rows list e z }
+
+  module _ (passed : o ≡ Accepted) where
+    pub may-lay-all : {words : ℕ} → CanSplit W k s → Roomy W s words → CanLayAll kind W k s words rows list
+    may-lay-all split roomy =
+        let p = accepted-passes (roomTest cost (shortest rows)) (listTest (length list) (length (s .vals)) ∷ []) (sym tested ∙ passed) in
+        let q = accepted-passes (listTest (length list) (length (s .vals))) [] (p .1) in
+        let r = or-false (ltb (shortest rows) cost) (ltb ELEMENTS cost) (p .0) in
+        record {
+          split = split;
+          roomy = roomy;
+          fits = rw (sym costs) (ltb-false (shortest rows) cost (r .0));
+          few = rw (sym costs) (ltb-false ELEMENTS cost (r .1));
+          places = omega (arith, ltb-false (length list / TRIE-ROW) (length (s .vals)) (q .0));
+        }
+
+    pub tries-built : {rec : RuleRecord} {rows′ : Lists} {list′ : List ℕ} → SplitWritten kind W k s rows list Accepted rec rows′ list′
+        → TriesBuilt kind W k s rows list o rec rows′ list′
+    tries-built w = record { tests = rw (sym costs) tested; written = rw passed w }
 
 -- ---- test 6 before that
 

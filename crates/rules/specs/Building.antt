@@ -16,10 +16,11 @@ use Rattle.walk.specs.Rows.{Lists, shortest}
 use Rattle.layout.specs.Laid.{Laid}
 use Rattle.choosers.specs.Chooser.{ifAccepted}
 use Rattle.tries.specs.Build.{roomTest}
+use Rattle.tries.specs.Limits.{ELEMENTS}
 use Rattle.verdicts.specs.Limits.{TRIE-ROW}
 use Rattle.verdicts.specs.declared.record.RuleRecord.{RuleRecord}
 use Rattle.rules.specs.Build.{nodesTest, listTest, RulesKept}
-use Rattle.rules.specs.Splitting.{SplitRules, splitTrie, splitNodes, splitCosts}
+use Rattle.rules.specs.Splitting.{SplitRules, splitTrie, splitNodes, splitCosts, CanSplit, Roomy}
 use Rattle.rules.specs.Laying.{placeOf, SourceStands}
 
 -- the destination trie, and the source tries behind it
@@ -36,8 +37,17 @@ pub record SplitWritten (kind : Kind) (W k : ℕ) (s : SplitRules) (rows : Lists
   pub laid : out ≡ Accepted → SplitLaid kind W k s list rec rows′ list′
   pub keeps : RulesKept rows list out rec rows′ list′
 
+-- the tests have passed
+pub record CanLayAll (kind : Kind) (W k : ℕ) (s : SplitRules) (words : ℕ) (rows : Lists) (list : List ℕ) : Type 0 where
+  pub split : CanSplit W k s
+  pub roomy : Roomy W s words
+  pub fits : splitCosts kind W k s ≤ shortest rows
+  pub few : splitCosts kind W k s ≤ ELEMENTS
+  pub places : length (s .vals) * TRIE-ROW ≤ length list
+
 -- past test 6: 7 for elements, then for the list
-pub record TriesBuilt (kind : Kind) (W k : ℕ) (s : SplitRules) (rows : Lists) (list : List ℕ) (out : Outcome) (rec : RuleRecord) (rows′ : Lists) (list′ : List ℕ)
+pub record TriesBuilt (kind : Kind) (W k : ℕ) (s : SplitRules) (rows : Lists) (list : List ℕ) (out : Outcome) (rec : RuleRecord) (rows′ : Lists)
+    (list′ : List ℕ)
     : Type 0 where
   pub tests : out ≡ outcome (roomTest (splitCosts kind W k s) (shortest rows) ∷ listTest (length list) (length (s .vals)) ∷ [])
   pub written : SplitWritten kind W k s rows list out rec rows′ list′

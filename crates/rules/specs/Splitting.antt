@@ -51,7 +51,8 @@ pub record CanPart (W k : ℕ) (first svals slens actions : List ℕ) (g : ℕ) 
   pub svalues : at first (g + 1) ≤ length svals
   pub slengths : at first (g + 1) ≤ length slens
   pub acts : at first (g + 1) ≤ length actions
-  pub plan : CanPlan W k (part (at first g) (at first (g + 1)) svals) (part (at first g) (at first (g + 1)) slens) (part (at first g) (at first (g + 1)) actions)
+  pub plan : CanPlan W k (part (at first g) (at first (g + 1)) svals) (part (at first g) (at first (g + 1)) slens) (part (at first g) (at first
+      (g + 1)) actions)
 
 abbrev pub partTrie : (W : ℕ) (first svals slens actions : List ℕ) → ℕ → Trie
 partTrie W first svals slens actions g =

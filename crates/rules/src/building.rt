@@ -1,13 +1,16 @@
 // The build of rules (02, [6]): a destination trie whose entries lead to source tries, all in lent arrays.
 ghost use mathlib.Core.Path.{_≡_};
 ghost use lib.ListN.{length};
-ghost use Rattle.table.specs.declared.entry.Outcome.the-variants.{Refused};
-ghost use Rattle.walk.specs.Rows.{lists};
+ghost use mathlib.Core.List.{[], _∷_};
+ghost use Rattle.table.specs.Refusals.{outcome};
+ghost use Rattle.table.specs.declared.entry.Outcome.the-variants.{Accepted, Refused};
+ghost use Rattle.walk.specs.Rows.{lists, shortest};
+ghost use Rattle.tries.specs.Build.{roomTest};
 ghost use Rattle.choosers.specs.Kinds.{kindOf};
 ghost use Rattle.fields.specs.Rules.{rules};
-ghost use Rattle.rules.specs.Build.{NoRuleRecord, RulesAre, RuleBuilds};
+ghost use Rattle.rules.specs.Build.{listTest, NoRuleRecord, RulesAre, RuleBuilds};
 ghost use Rattle.rules.specs.Splitting.{splitRules, CanSplit, Roomy};
-ghost use Rattle.rules.specs.Building.{TriesBuilt, SplitBuilt};
+ghost use Rattle.rules.specs.Building.{CanLayAll, SplitWritten, TriesBuilt, SplitBuilt};
 use crate::counting::all_costs;
 use crate::counting::all_nodes;
 use crate::grouping::gather;
@@ -55,8 +58,45 @@ fn refused(number: u32, detail: u64) -> BuiltRules
     }
 }
 
-// Past test 6: refuses for room, of elements or of the list (7), or lays all tries.
-fn build_tries(
+// Test 7 for elements, where all tries cost so many, then for the list of tries, which has a row for each destination.
+fn room_outcome(
+    cost: u64,
+    vals: &[u32],
+    rowhops: &[u16],
+    rowlens: &[u8],
+    rowlinks: &[u32],
+    rowstrides: &[u8],
+    list: &[u32],
+) -> Outcome
+    ensures { λ r. ⌜
+        r ≡ outcome
+        (roomTest cost (shortest (lists (now (rowhops .entry)) (now (rowlens .entry)) (now (rowlinks .entry)) (now (rowstrides .entry))))
+        ∷ listTest (length (now (list .entry))) (length (now (vals .entry))) ∷ []) ⌝ }
+{
+    if is_crowded(
+        cost,
+        rowhops.len(),
+        rowlens.len(),
+        rowlinks.len(),
+        rowstrides.len(),
+    ) {
+        return Outcome::Refused {
+            number: 7,
+            detail: cost,
+        };
+    }
+    let m = vals.len();
+    if list.len() / TRIE_ROW < m {
+        return Outcome::Refused {
+            number: 7,
+            detail: m as u64,
+        };
+    }
+    Outcome::Accepted
+}
+
+// Past test 7: lays the destination trie, and the source tries behind it.
+fn lay_all(
     kind: Kind,
     width: u32,
     levels: u32,
@@ -73,41 +113,17 @@ fn build_tries(
     rowlinks: &mut [u32],
     rowstrides: &mut [u8],
     list: &mut [u32],
-) -> BuiltRules
-    requires { ⌜ CanSplit width levels (splitRules (now first) (now vals) (now lens) (now nums) (now svals) (now slens) (now actions)) ⌝ }
-    requires { ⌜ Roomy width (splitRules (now first) (now vals) (now lens) (now nums) (now svals) (now slens) (now actions)) (length (now scratch)) ⌝ }
+) -> RuleRecord
+    requires { ⌜
+        CanLayAll (kindOf kind) width levels (splitRules (now first) (now vals) (now lens) (now nums) (now svals) (now slens) (now actions))
+        (length (now scratch)) (lists (now rowhops) (now rowlens) (now rowlinks) (now rowstrides)) (now list) ⌝ }
     ensures { λ r. ⌜
-        TriesBuilt (kindOf kind) width levels
-        (splitRules (now (first .entry)) (now (vals .entry)) (now (lens .entry)) (now (nums .entry)) (now (svals .entry)) (now (slens .entry)) (now (actions .entry)))
-        (lists (now (rowhops .entry)) (now (rowlens .entry)) (now (rowlinks .entry)) (now (rowstrides .entry))) (now (list .entry)) (r .outcome) (r .record)
+        SplitWritten (kindOf kind) width levels
+        (splitRules (now (first .entry)) (now (vals .entry)) (now (lens .entry)) (now (nums .entry)) (now (svals .entry)) (now (slens .entry))
+        (now (actions .entry)))
+        (lists (now (rowhops .entry)) (now (rowlens .entry)) (now (rowlinks .entry)) (now (rowstrides .entry))) (now (list .entry)) Accepted r
         (lists (now (rowhops .exit)) (now (rowlens .exit)) (now (rowlinks .exit)) (now (rowstrides .exit))) (now (list .exit)) ⌝ }
 {
-    let cost = all_costs(
-        kind,
-        width,
-        levels,
-        first,
-        vals,
-        lens,
-        nums,
-        svals,
-        slens,
-        actions,
-        scratch,
-    );
-    if is_crowded(
-        cost,
-        rowhops.len(),
-        rowlens.len(),
-        rowlinks.len(),
-        rowstrides.len(),
-    ) {
-        return refused(7, cost);
-    }
-    let m = vals.len();
-    if list.len() / TRIE_ROW < m {
-        return refused(7, m as u64);
-    }
     let dest = lay_at(
         kind,
         width,
@@ -141,13 +157,76 @@ fn build_tries(
         list,
         dest.elements as usize,
     );
-    BuiltRules {
-        outcome: Outcome::Accepted,
-        record: RuleRecord {
-            dest,
-            elements: elements as u32,
-        },
+    RuleRecord {
+        dest,
+        elements: elements as u32,
     }
+}
+
+// Past test 6: refuses for room, of elements or of the list (7), or lays all tries.
+fn build_tries(
+    kind: Kind,
+    width: u32,
+    levels: u32,
+    first: &[u16],
+    vals: &[u32],
+    lens: &[u8],
+    nums: &[u16],
+    svals: &[u32],
+    slens: &[u8],
+    actions: &[u16],
+    scratch: &mut [u64],
+    rowhops: &mut [u16],
+    rowlens: &mut [u8],
+    rowlinks: &mut [u32],
+    rowstrides: &mut [u8],
+    list: &mut [u32],
+) -> BuiltRules
+    requires { ⌜ CanSplit width levels (splitRules (now first) (now vals) (now lens) (now nums) (now svals) (now slens) (now actions)) ⌝ }
+    requires { ⌜ Roomy width (splitRules (now first) (now vals) (now lens) (now nums) (now svals) (now slens) (now actions)) (length (now scratch)) ⌝ }
+    ensures { λ r. ⌜
+        TriesBuilt (kindOf kind) width levels
+        (splitRules (now (first .entry)) (now (vals .entry)) (now (lens .entry)) (now (nums .entry)) (now (svals .entry)) (now (slens .entry))
+        (now (actions .entry)))
+        (lists (now (rowhops .entry)) (now (rowlens .entry)) (now (rowlinks .entry)) (now (rowstrides .entry))) (now (list .entry)) (r .outcome) (r .record)
+        (lists (now (rowhops .exit)) (now (rowlens .exit)) (now (rowlinks .exit)) (now (rowstrides .exit))) (now (list .exit)) ⌝ }
+{
+    let cost = all_costs(
+        kind,
+        width,
+        levels,
+        first,
+        vals,
+        lens,
+        nums,
+        svals,
+        slens,
+        actions,
+        scratch,
+    );
+    let outcome = room_outcome(cost, vals, rowhops, rowlens, rowlinks, rowstrides, list);
+    if let Outcome::Refused { number, detail } = outcome {
+        return refused(number, detail);
+    }
+    let record = lay_all(
+        kind,
+        width,
+        levels,
+        first,
+        vals,
+        lens,
+        nums,
+        svals,
+        slens,
+        actions,
+        scratch,
+        rowhops,
+        rowlens,
+        rowlinks,
+        rowstrides,
+        list,
+    );
+    BuiltRules { outcome, record }
 }
 
 // Past test 5, with the destinations gathered: refuses for scratch (6), or goes on and leaves scratch all 0.
@@ -172,7 +251,8 @@ fn build_split(
     requires { ⌜ CanSplit width levels (splitRules (now first) (now vals) (now lens) (now nums) (now svals) (now slens) (now actions)) ⌝ }
     ensures { λ r. ⌜
         SplitBuilt (kindOf kind) width levels
-        (splitRules (now (first .entry)) (now (vals .entry)) (now (lens .entry)) (now (nums .entry)) (now (svals .entry)) (now (slens .entry)) (now (actions .entry)))
+        (splitRules (now (first .entry)) (now (vals .entry)) (now (lens .entry)) (now (nums .entry)) (now (svals .entry)) (now (slens .entry))
+        (now (actions .entry)))
         (now (scratch .entry)) (lists (now (rowhops .entry)) (now (rowlens .entry)) (now (rowlinks .entry)) (now (rowstrides .entry))) (now (list .entry))
         (r .outcome) (r .record) (now (scratch .exit))
         (lists (now (rowhops .exit)) (now (rowlens .exit)) (now (rowlinks .exit)) (now (rowstrides .exit))) (now (list .exit)) ⌝ }

@@ -123,7 +123,9 @@ pub(crate) fn all_nodes(
 ) -> usize
     requires { ⌜ CanSplit width levels (splitRules (now first) (now vals) (now lens) (now nums) (now svals) (now slens) (now actions)) ⌝ }
     ensures { λ r. ⌜
-        r ≡ splitNodes width (splitRules (now (first .entry)) (now (vals .entry)) (now (lens .entry)) (now (nums .entry)) (now (svals .entry)) (now (slens .entry)) (now (actions .entry))) ⌝ }
+        r ≡ splitNodes width (splitRules (now (first .entry)) (now (vals .entry)) (now (lens .entry)) (now (nums .entry)) (now (svals .entry)) (now
+        (slens .entry))
+        (now (actions .entry))) ⌝ }
 {
     let m = vals.len();
     let mut nodes = nodes_of(width, levels, vals, lens, nums);
@@ -153,7 +155,8 @@ pub(crate) fn all_costs(
     requires { ⌜ Roomy width (splitRules (now first) (now vals) (now lens) (now nums) (now svals) (now slens) (now actions)) (length (now scratch)) ⌝ }
     ensures { λ r. ⌜
         r ≡ splitCosts (kindOf kind) width levels
-        (splitRules (now (first .entry)) (now (vals .entry)) (now (lens .entry)) (now (nums .entry)) (now (svals .entry)) (now (slens .entry)) (now (actions .entry))) ⌝ }
+        (splitRules (now (first .entry)) (now (vals .entry)) (now (lens .entry)) (now (nums .entry)) (now (svals .entry)) (now (slens .entry))
+        (now (actions .entry))) ⌝ }
 {
     let m = vals.len();
     let mut cost = cost_of(kind, width, levels, vals, lens, nums, scratch);

@@ -20,7 +20,8 @@ use Rattle.walk.proofs.Unique.{path-unique, on-path-unique}
 use Rattle.verdicts.specs.Limits.{TRIE-ROW, VISITS}
 use Rattle.verdicts.specs.Tries.{TrieRow, trieRow, sourceRecord, fromPlace, atPlace}
 use Rattle.verdicts.specs.Verdicts.{verdictNumber, actionOf, verdictReads}
-use Rattle.verdicts.specs.Meaning.{BadTrie, past-list, past-rows, breaks-rule, SourcePath, actionOn, VisitsTries, no-more, too-many, broken-off, matched-in, goes-on, calledFirst, RuleDamage, short-lists, past-all, breaks-dest, breaks-source, Way, RuleTested, Classified}
+use Rattle.verdicts.specs.Meaning.{BadTrie, past-list, past-rows, breaks-rule, SourcePath, actionOn, VisitsTries, no-more, too-many, broken-off}
+use Rattle.verdicts.specs.Meaning.{matched-in, goes-on, calledFirst, RuleDamage, short-lists, past-all, breaks-dest, breaks-source, Way, RuleTested, Classified}
 use Rattle.verdicts.specs.declared.record.RuleRecord.{RuleRecord}
 use Rattle.verdicts.specs.declared.visiting.Verdict.{Verdict}
 use Rattle.verdicts.proofs.Answers.{refusal-bare}

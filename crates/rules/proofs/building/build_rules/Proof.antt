@@ -44,9 +44,14 @@ given c = rules (c .args .dvals .now) (c .args .dlens .now) (c .args .svals .now
 abbrev rowsLent : (c : tie.Start) → Lists
 rowsLent c = lists (c .args .rowhops .now) (c .args .rowlens .now) (c .args .rowlinks .now) (c .args .rowstrides .now)
 
-good : (c : tie.After-enum-told) → GoodRules (c .before .before .before .before .before .before .before .before .before .before .before .before .before .before .before .before .before .before .args .width) (given (c .before .before .before .before .before .before .before .before .before .before .before .before .before .before .before .before .before .before))
+good : (c : tie.After-enum-told) → GoodRules
+    (c .before .before .before .before .before .before .before .before .before .before .before .before .before .before .before .before .before .before .args .width) (given
+    (c .before .before .before .before .before .before .before .before .before .before .before .before .before .before .before .before .before .before))
 unfolding checkRulesOf
-good c = rules-good (c .before .before .before .before .before .before .before .before .before .before .before .before .before .before .before .before .before .before .args .width) (given (c .before .before .before .before .before .before .before .before .before .before .before .before .before .before .before .before .before .before)) (sym (c .before .before .check-rules .ensures .0) ∙ c .enum-told .given .1)
+good c =
+    let c16 = c .before .before .before .before .before .before .before .before .before .before .before .before .before .before .before .before in
+    let c18 = c16 .before .before in
+    rules-good (c18 .args .width) (given (c18)) (sym (c .before .before .check-rules .ensures .0) ∙ c .enum-told .given .1)
 
 -- src/building.rt:246:8
 is-outside-requires : tie.Need-is-outside-requires
@@ -95,9 +100,12 @@ refused-requires-3 c κs = search needs
 -- src/building.rt:254:9
 returns-3 : tie.Need-returns-3
 returns-3 c =
-    let S = c .before .before .before .before .before .before .before .before .before .before .before .before .before .before .before .before .before .before .before .before in
+    let c16 = c .before .before .before .before .before .before .before .before .before .before .before .before .before .before .before .before in
+    let c20 = c16 .before .before .before .before in
+    let S = c20 in
     let b = rules-refused (kindOf (S .args .kind)) (S .args .width) (S .args .levels) (given S) (S .args .scratch .now) (rowsLent S) (S .args .list .now)
-    (width-in (c .before .before .before .before .before .before .before)) (levels-in (c .before .before .before .before .before)) (sym (c .before .before .before .before .check-rules .ensures .0) ∙ c .before .before .checked .given .1) (c .refused3 .ensures .0) (c .refused3 .ensures .1) in
+    (width-in (c .before .before .before .before .before .before .before)) (levels-in (c .before .before .before .before .before)) (sym (c .before .before .before .before .check-rules .ensures .0)
+    ∙ c .before .before .checked .given .1) (c .refused3 .ensures .0) (c .refused3 .ensures .1) in
     (b, rules-mean b)
 
 enum-told : tie.Need-enum-told
@@ -138,9 +146,15 @@ slice-aggregate-gather-4 c = search needs
 -- src/building.rt:260:9
 gather-requires : tie.Need-gather-requires
 gather-requires c κs =
-    let g = good (c .before .before .before .before .before .before .before .before) in (
+    let c8 = c .before .before .before .before .before .before .before .before in
+    let g = good (c8) in (
       (g .lengths .dlengths, g .few, omega (arith, g .few, c .before .before .before .before .before .before .before .first-rules .ensures)),
-      (omega (arith, g .few, c .before .before .before .before .before .before .destination-values .ensures), omega (arith, g .few, c .before .before .before .before .before .destination-lengths .ensures), omega (arith, g .few, c .before .before .before .before .trie-numbers .ensures)),
+      (
+        omega (arith, g .few, c .before .before .before .before .before .before .destination-values .ensures),
+        omega
+            (arith, g .few, c .before .before .before .before .before .destination-lengths .ensures),
+        omega (arith, g .few, c .before .before .before .before .trie-numbers .ensures),
+      ),
     )
 
 -- src/building.rt:265:9
@@ -158,8 +172,10 @@ part-build-split-start c = search needs
 -- src/building.rt:266:9
 part-build-split-end : tie.Need-part-build-split-end
 part-build-split-end c =
-    let g = good (c .before .before .before .before .before .before .before .before .before .before .before .before .before .before .before) in
-    omega (arith, c .before .before .before .before .before .before .gather .ensures .few, g .few, c .before .before .before .before .before .before .before .before .before .before .before .before .before .destination-values .ensures, c .before .before .before .before .before .before .gather .kept)
+    let c13 = c .before .before .before .before .before .before .before .before .before .before .before .before .before in
+    let c15 = c13 .before .before in
+    let g = good (c15) in
+    omega (arith, c .before .before .before .before .before .before .gather .ensures .few, g .few, c13 .destination-values .ensures, c .before .before .before .before .before .before .gather .kept)
 
 -- src/building.rt:267:9
 sub-build-split-2 : tie.Need-sub-build-split-2
@@ -172,8 +188,11 @@ part-build-split-start-2 c = search needs
 -- src/building.rt:267:9
 part-build-split-end-2 : tie.Need-part-build-split-end-2
 part-build-split-end-2 c =
-    let g = good (c .before .before .before .before .before .before .before .before .before .before .before .before .before .before .before .before .before) in
-    omega (arith, c .before .before .before .before .before .before .before .before .gather .ensures .few, g .few, c .before .before .before .before .before .before .before .before .before .before .before .before .before .before .destination-lengths .ensures, c .before .before .before .before .before .before .before .before .gather .kept)
+    let c8 = c .before .before .before .before .before .before .before .before in
+    let c14 = c8 .before .before .before .before .before .before in
+    let c17 = c14 .before .before .before in
+    let g = good (c17) in
+    omega (arith, c8 .gather .ensures .few, g .few, c14 .destination-lengths .ensures, c8 .gather .kept)
 
 -- src/building.rt:268:9
 sub-build-split-3 : tie.Need-sub-build-split-3
@@ -186,24 +205,39 @@ part-build-split-start-3 c = search needs
 -- src/building.rt:268:9
 part-build-split-end-3 : tie.Need-part-build-split-end-3
 part-build-split-end-3 c =
-    let g = good (c .before .before .before .before .before .before .before .before .before .before .before .before .before .before .before .before .before .before .before) in
-    omega (arith, c .before .before .before .before .before .before .before .before .before .before .gather .ensures .few, g .few, c .before .before .before .before .before .before .before .before .before .before .before .before .before .before .before .trie-numbers .ensures, c .before .before .before .before .before .before .before .before .before .before .gather .kept)
+    let c10 = c .before .before .before .before .before .before .before .before .before .before in
+    let c15 = c10 .before .before .before .before .before in
+    let c19 = c15 .before .before .before .before in
+    let g = good (c19) in
+    omega (arith, c10 .gather .ensures .few, g .few, c15 .trie-numbers .ensures, c10 .gather .kept)
 
 -- the destinations that were gathered
 enough : (c : tie.After-gather) → c .gather .result < length (c .gather .last .1 .1 .0)
-enough c = omega (arith, c .gather .ensures .few, good (c .before .before .before .before .before .before .before .before .before) .few, c .before .before .before .before .before .before .before .before .first-rules .ensures, c .gather .kept)
+enough c =
+    let c8 = c .before .before .before .before .before .before .before .before in
+    let c9 = c8 .before in
+    omega (arith, c .gather .ensures .few, good (c9) .few, c8 .first-rules .ensures, c .gather .kept)
 
-levels-good : (c : tie.After-enum-told) → Within (c .before .before .before .before .before .before .before .before .before .before .before .before .before .before .before .before .before .before .args .levels) LEVELS
-levels-good c = within-levels (c .before .before .before .before .before .before .before .before .before .before .before .before .before .before .before .before .before .before .args .levels) LEVELS (levels-in (c .before .before .before))
+levels-good : (c : tie.After-enum-told) → Within
+    (c .before .before .before .before .before .before .before .before .before .before .before .before .before .before .before .before .before .before .args .levels) LEVELS
+levels-good c =
+    let c16 = c .before .before .before .before .before .before .before .before .before .before .before .before .before .before .before .before in
+    let c18 = c16 .before .before in
+    within-levels (c18 .args .levels) LEVELS (levels-in (c .before .before .before))
 
 -- src/building.rt:261:5
 build-split-requires : tie.Need-build-split-requires
 build-split-requires c κs =
-    let S = c .before .before .before .before .before .before .before .before .before .before .before .before .before .before .before .before .before .before .before .before .before .before .before .before .before .before .before .before .before .before .before .before .before .before .before .before .before .before .before .before .before .before .before .before in
-    let G = c .before .before .before .before .before .before .before .before .before .before .before .before .before .before .before .before .before .gather in
+    let c16 = c .before .before .before .before .before .before .before .before .before .before .before .before .before .before .before .before in
+    let c17 = c16 .before in
+    let c26 = c17 .before .before .before .before .before .before .before .before .before in
+    let c42 = c26 .before .before .before .before .before .before .before .before .before .before .before .before .before .before .before .before in
+    let c44 = c42 .before .before in
+    let S = c44 in
+    let G = c17 .gather in
     subst (CanSplit (S .args .width) (S .args .levels))
-    (sym (held-lists (S .args .width) (S .args .levels) (given S) (good (c .before .before .before .before .before .before .before .before .before .before .before .before .before .before .before .before .before .before .before .before .before .before .before .before .before .before)) (levels-good (c .before .before .before .before .before .before .before .before .before .before .before .before .before .before .before .before .before .before .before .before .before .before .before .before .before .before)) (G .result) (G .last .1 .1 .0) (G .ensures .runs) (enough (c .before .before .before .before .before .before .before .before .before .before .before .before .before .before .before .before .before)) (G .ensures)))
-    (held-can (S .args .width) (S .args .levels) (given S) (good (c .before .before .before .before .before .before .before .before .before .before .before .before .before .before .before .before .before .before .before .before .before .before .before .before .before .before)) (levels-good (c .before .before .before .before .before .before .before .before .before .before .before .before .before .before .before .before .before .before .before .before .before .before .before .before .before .before)) (G .result) (G .last .1 .1 .0) (G .ensures .runs) (enough (c .before .before .before .before .before .before .before .before .before .before .before .before .before .before .before .before .before)))
+    (sym (held-lists (S .args .width) (S .args .levels) (given S) (good (c26)) (levels-good (c26)) (G .result) (G .last .1 .1 .0) (G .ensures .runs) (enough (c17)) (G .ensures)))
+    (held-can (S .args .width) (S .args .levels) (given S) (good (c26)) (levels-good (c26)) (G .result) (G .last .1 .1 .0) (G .ensures .runs) (enough (c17)))
 
 -- src/building.rt:219:1
 same-length : tie.Need-same-length
@@ -232,15 +266,22 @@ same-length-6 c = search needs
 -- src/building.rt:219:1
 returns-4 : tie.Need-returns-4
 returns-4 c =
-    let S = c .before .before .before .before .before .before .before .before .before .before .before .before .before .before .before .before .before .before .before .before .before .before .before .before .before .before .before .before .before .before .before .before .before .before .before .before .before .before .before .before .before .before .before .before .before .before .before .before .before .before .before .before .before .before .before .before .before in
-    let G = c .before .before .before .before .before .before .before .before .before .before .before .before .before .before .before .before .before .before .before .before .before .before .before .before .before .before .before .before .before .before .gather in
-    let B = c .before .before .before .before .before .before .before .before .before .before .before .before .build-split in
-    let b = whole-built (S .args .width) (S .args .levels) (given S) (good (c .before .before .before .before .before .before .before .before .before .before .before .before .before .before .before .before .before .before .before .before .before .before .before .before .before .before .before .before .before .before .before .before .before .before .before .before .before .before .before)) (levels-good (c .before .before .before .before .before .before .before .before .before .before .before .before .before .before .before .before .before .before .before .before .before .before .before .before .before .before .before .before .before .before .before .before .before .before .before .before .before .before .before)) (G .result) (G .last .1 .1 .0) (G .ensures .runs) (enough (c .before .before .before .before .before .before .before .before .before .before .before .before .before .before .before .before .before .before .before .before .before .before .before .before .before .before .before .before .before .before))
+    let c12 = c .before .before .before .before .before .before .before .before .before .before .before .before in
+    let c28 = c12 .before .before .before .before .before .before .before .before .before .before .before .before .before .before .before .before in
+    let c30 = c28 .before .before in
+    let c39 = c30 .before .before .before .before .before .before .before .before .before in
+    let c55 = c39 .before .before .before .before .before .before .before .before .before .before .before .before .before .before .before .before in
+    let c57 = c55 .before .before in
+    let S = c57 in
+    let G = c30 .gather in
+    let B = c12 .build-split in
+    let b = whole-built (S .args .width) (S .args .levels) (given S) (good (c39)) (levels-good (c39)) (G .result) (G .last .1 .1 .0) (G .ensures .runs) (enough (c30))
     (subst (λ (s : SplitRules). SplitBuilt (kindOf (S .args .kind)) (S .args .width) (S .args .levels) s (S .args .scratch .now) (rowsLent S) (S .args .list .now)
     (B .result .outcome) (B .result .«record») (B .last .1 .1 .1 .1 .1 .1 .1 .1 .1 .1 .0)
-    (lists (B .last .1 .1 .1 .1 .1 .1 .1 .1 .1 .1 .1 .0) (B .last .1 .1 .1 .1 .1 .1 .1 .1 .1 .1 .1 .1 .0) (B .last .1 .1 .1 .1 .1 .1 .1 .1 .1 .1 .1 .1 .1 .0) (B .last .1 .1 .1 .1 .1 .1 .1 .1 .1 .1 .1 .1 .1 .1 .0))
+    (lists (B .last .1 .1 .1 .1 .1 .1 .1 .1 .1 .1 .1 .0) (B .last .1 .1 .1 .1 .1 .1 .1 .1 .1 .1 .1 .1 .0) (B .last .1 .1 .1 .1 .1 .1 .1 .1 .1 .1 .1 .1 .1 .0)
+    (B .last .1 .1 .1 .1 .1 .1 .1 .1 .1 .1 .1 .1 .1 .1 .0))
     (B .last .1 .1 .1 .1 .1 .1 .1 .1 .1 .1 .1 .1 .1 .1 .1 .0))
-    (held-lists (S .args .width) (S .args .levels) (given S) (good (c .before .before .before .before .before .before .before .before .before .before .before .before .before .before .before .before .before .before .before .before .before .before .before .before .before .before .before .before .before .before .before .before .before .before .before .before .before .before .before)) (levels-good (c .before .before .before .before .before .before .before .before .before .before .before .before .before .before .before .before .before .before .before .before .before .before .before .before .before .before .before .before .before .before .before .before .before .before .before .before .before .before .before)) (G .result) (G .last .1 .1 .0) (G .ensures .runs) (enough (c .before .before .before .before .before .before .before .before .before .before .before .before .before .before .before .before .before .before .before .before .before .before .before .before .before .before .before .before .before .before)) (G .ensures))
+    (held-lists (S .args .width) (S .args .levels) (given S) (good (c39)) (levels-good (c39)) (G .result) (G .last .1 .1 .0) (G .ensures .runs) (enough (c30)) (G .ensures))
     (B .ensures)) in
     (b, rules-mean b)
 

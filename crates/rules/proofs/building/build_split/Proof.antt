@@ -37,9 +37,14 @@ returns c =
 -- src/building.rt:194:9
 build-tries-requires : tie.Need-build-tries-requires
 build-tries-requires c κs =
-    let a = c .before .before .before .before .before .before .before .before .before .before .before .before .before .before .before .before .before .before .before .before .before .args in
-    let s = splitRules (a .first .now) (a .vals .now) (a .lens .now) (a .nums .now) (a .svals .now) (a .slens .now) (a .actions .now) in
-    (c .before .before .before .before .before .before .before .before .before .before .before .before .before .before .before .before .before .before .before .before .before .pre, all-roomy (a .width) s (length (a .scratch .now)) (omega (arith, c .before .before .before .before .before .before .before .all-nodes .ensures, c .before .before .before .before .before .before .if1 .left)))
+    let c16 = c .before .before .before .before .before .before .before .before .before .before .before .before .before .before .before .before in
+    let c21 = c16 .before .before .before .before .before in
+    let a = c21 .args in
+    let s = splitRules (a .first .now) (a .vals .now) (a .lens .now) (a .nums .now) (a .svals .now) (a .slens .now) (a .actions .now) in (
+      c21 .pre,
+      all-roomy (a .width) s (length (a .scratch .now)) (omega
+          (arith, c .before .before .before .before .before .before .before .all-nodes .ensures, c .before .before .before .before .before .before .if1 .left)),
+    )
 
 -- src/building.rt:212:5
 zero-requires : tie.Need-zero-requires
@@ -72,12 +77,16 @@ same-length-6 c = search needs
 -- src/building.rt:154:1
 returns-2 : tie.Need-returns-2
 returns-2 c =
-    let a = c .before .before .before .before .before .before .before .before .before .before .before .before .before .before .before .before .before .before .before .before .before .before .before .before .before .before .before .before .before .before .before .before .before .before .before .before .before .before .args in
+    let c16 = c .before .before .before .before .before .before .before .before .before .before .before .before .before .before .before .before in
+    let c23 = c16 .before .before .before .before .before .before .before in
+    let c24 = c23 .before in
+    let c38 = c24 .before .before .before .before .before .before .before .before .before .before .before .before .before .before in
+    let a = c38 .args in
     let s = splitRules (a .first .now) (a .vals .now) (a .lens .now) (a .nums .now) (a .svals .now) (a .slens .now) (a .actions .now) in
     let rows = lists (a .rowhops .now) (a .rowlens .now) (a .rowlinks .now) (a .rowstrides .now) in
-    let long : length (c .before .before .before .before .before .before .before .before .before .before .before .before .before .before .before .before .build-tries .last .1 .1 .1 .1 .1 .1 .1 .1 .1 .1 .0) ≡ length (a .scratch .now) = omega (arith, c .before .before .before .before .before .before .before .before .before .before .before .before .before .before .before .before .build-tries .kept) in
-    split-built (kindOf (a .kind)) (a .width) (a .levels) s (a .scratch .now) rows (a .list .now) (c .before .before .before .before .before .before .before .before .before .before .before .before .before .before .before .before .before .before .before .before .before .before .before .before .all-nodes .ensures) (c .before .before .before .before .before .before .before .before .before .before .before .before .before .before .before .before .before .before .before .before .before .before .before .if1 .left)
-    (c .before .before .before .before .before .before .before .before .before .before .before .before .before .before .before .before .build-tries .ensures) (c .before .before .zero .ensures ∙ ap (λ (n : ℕ). replicate n 0) long)
+    let long : length (c16 .build-tries .last .1 .1 .1 .1 .1 .1 .1 .1 .1 .1 .0) ≡ length (a .scratch .now) = omega (arith, c16 .build-tries .kept) in
+    split-built (kindOf (a .kind)) (a .width) (a .levels) s (a .scratch .now) rows (a .list .now) (c24 .all-nodes .ensures) (c23 .if1 .left)
+    (c16 .build-tries .ensures) (c .before .before .zero .ensures ∙ ap (λ (n : ℕ). replicate n 0) long)
 
 pub build-split-spec : {M : Type 1} → statement M
 build-split-spec =

@@ -1,156 +1,149 @@
-use Prim.Native.Nat.{ℕ, _+_, _*_, _/_, _≤_, _<_}
-use mathlib.Core.Path.{_≡_, refl, sym, ap, subst, _∙_}
-use native.Mathlib.Omega.{arith}
-use lib.ListN.{length}
-use Rattle.walk.specs.Rows.{lists}
+use Prim.Native.Nat.{ℕ, _+_, _*_, _≤_}
+use mathlib.Core.Path.{_≡_, refl, sym, _∙_}
+use Rattle.walk.specs.Rows.{Lists, lists}
 use Rattle.choosers.specs.Kinds.{kindOf}
-use Rattle.rules.specs.Splitting.{splitRules}
-use Rattle.rules.proofs.Steps.{crowded-tries, short-list, may-lay-dest, may-lay-sources, elements-few, tries-built}
+use Rattle.rules.specs.Splitting.{SplitRules, splitRules}
+use Rattle.rules.proofs.Steps.{room-lacks, may-lay-all, tries-built}
 use borrow.Author.Needs.{needs}
 use Rattle.rules.proofs.building.build_tries.Statement.{statement}
 use Rattle.rules.proofs.building.build_tries.Tie as tie
 use Rattle.rules.proofs.building.build_tries.Reads as reads
 use Rattle.rules.proofs.building.build_tries.Lts as lts
+use Rattle.rules.proofs.building.lay_all.Reads as lay-all-reads
 use Rattle.rules.proofs.building.refused.Reads as refused-reads
+use Rattle.rules.proofs.building.room_outcome.Reads as room-outcome-reads
 use Rattle.rules.proofs.counting.all_costs.Reads as all-costs-reads
-use Rattle.rules.proofs.laying.lay_at.Reads as lay-at-reads
-use Rattle.rules.proofs.laying.lay_sources.Reads as lay-sources-reads
-use Rattle.tries.proofs.is_crowded.Reads as is-crowded-reads
 
--- src/building.rt:85:9
+-- src/building.rt:194:9
 all-costs-requires : tie.Need-all-costs-requires
 all-costs-requires c κs = search needs
 
--- src/building.rt:98:8
-is-crowded-requires : tie.Need-is-crowded-requires
-is-crowded-requires c κs = search needs
+-- src/building.rt:207:9
+room-outcome-requires : tie.Need-room-outcome-requires
+room-outcome-requires c κs = search needs
 
--- src/building.rt:105:9
+-- src/building.rt:208:31
+enum-known-outcome : tie.Need-enum-known-outcome
+enum-known-outcome c = search needs
+
+-- src/building.rt:209:9
 refused-requires : tie.Need-refused-requires
 refused-requires c κs = search needs
 
--- src/building.rt:105:9
+-- src/building.rt:209:9
 same-length : tie.Need-same-length
 same-length c = search needs
 
--- src/building.rt:105:9
-returns : tie.Need-returns
-returns c =
-    let a = c .before .before .before .before .before .before .before .before .before .before .before .before .before .before .before .before .before .before .before .before .args in
-    let s = splitRules (a .first .now) (a .vals .now) (a .lens .now) (a .nums .now) (a .svals .now) (a .slens .now) (a .actions .now) in
-    let rows = lists (a .rowhops .now) (a .rowlens .now) (a .rowlinks .now) (a .rowstrides .now) in
-    crowded-tries (kindOf (a .kind)) (a .width) (a .levels) s rows (a .list .now) (c .before .before .before .before .before .all-costs .ensures) (sym (c .before .before .is-crowded .ensures) ∙ c .before .if1 .taken)
-    (c .refused .ensures .0) (c .refused .ensures .1)
-
--- src/building.rt:109:9
-refused-requires-2 : tie.Need-refused-requires-2
-refused-requires-2 c κs = search needs
-
--- src/building.rt:109:9
+-- src/building.rt:209:9
 same-length-2 : tie.Need-same-length-2
 same-length-2 c = search needs
 
--- src/building.rt:109:9
-returns-2 : tie.Need-returns-2
-returns-2 c =
-    let a = c .before .before .before .before .before .before .before .before .before .before .before .before .before .before .before .before .before .before .before .before .before .args in
-    let s = splitRules (a .first .now) (a .vals .now) (a .lens .now) (a .nums .now) (a .svals .now) (a .slens .now) (a .actions .now) in
-    let rows = lists (a .rowhops .now) (a .rowlens .now) (a .rowlinks .now) (a .rowstrides .now) in
-    short-list (kindOf (a .kind)) (a .width) (a .levels) s rows (a .list .now) (c .before .before .before .before .before .before .all-costs .ensures) (sym (c .before .before .before .is-crowded .ensures) ∙ c .before .before .if1 .left)
-    (c .before .if2 .taken) (c .refused2 .ensures .0) (c .refused2 .ensures .1)
-
--- src/building.rt:111:9
-lay-at-requires : tie.Need-lay-at-requires
-lay-at-requires c κs =
-    let a = c .before .before .before .before .before .before .before .before .before .before .before .before .before .before .before .before .before .before .before .before .before .before .before .before .before .args in
-    let s = splitRules (a .first .now) (a .vals .now) (a .lens .now) (a .nums .now) (a .svals .now) (a .slens .now) (a .actions .now) in
-    let rows = lists (a .rowhops .now) (a .rowlens .now) (a .rowlinks .now) (a .rowstrides .now) in
-    rw (c .before .before .before .before .before .before .before .before .before .before .all-costs .kept .1 .1 .1 .1 .1 .1 .1 .1 .1 .1 .0)
-    (may-lay-dest (kindOf (a .kind)) (a .width) (a .levels) s (c .before .before .before .before .before .before .before .before .before .before .before .before .before .before .before .before .before .before .before .before .before .before .before .before .before .pre .0) (c .before .before .before .before .before .before .before .before .before .before .before .before .before .before .before .before .before .before .before .before .before .before .before .before .before .pre .1) rows (a .list .now) (c .before .before .before .before .before .before .before .before .before .before .all-costs .ensures)
-    (sym (c .before .before .before .before .before .before .before .is-crowded .ensures) ∙ c .before .before .before .before .before .before .if1 .left))
-
--- src/building.rt:142:9
-cast-lay-sources : tie.Need-cast-lay-sources
-cast-lay-sources c = search needs
-
--- src/building.rt:125:9
-lay-sources-requires : tie.Need-lay-sources-requires
-lay-sources-requires c κs =
-    let a = c .before .before .before .before .before .before .before .before .before .before .before .before .before .before .before .before .before .before .before .before .before .before .before .before .before .before .before .before .before .before .before .before .before .before .before .before .before .before .before .before .before .before .before .args in
-    let s = splitRules (a .first .now) (a .vals .now) (a .lens .now) (a .nums .now) (a .svals .now) (a .slens .now) (a .actions .now) in
-    let rows = lists (a .rowhops .now) (a .rowlens .now) (a .rowlinks .now) (a .rowstrides .now) in
-    rw (c .before .before .before .before .before .before .before .before .before .before .before .before .before .before .before .before .before .lay-at .kept .1 .1 .1 .1 .1 .1 .0, c .before .before .before .before .before .before .before .before .before .before .before .before .before .before .before .before .before .before .before .before .before .before .before .before .before .before .before .before .all-costs .kept .1 .1 .1 .1 .1 .1 .1 .1 .1 .1 .0)
-    (may-lay-sources (kindOf (a .kind)) (a .width) (a .levels) s (c .before .before .before .before .before .before .before .before .before .before .before .before .before .before .before .before .before .before .before .before .before .before .before .before .before .before .before .before .before .before .before .before .before .before .before .before .before .before .before .before .before .before .before .pre .0) (c .before .before .before .before .before .before .before .before .before .before .before .before .before .before .before .before .before .before .before .before .before .before .before .before .before .before .before .before .before .before .before .before .before .before .before .before .before .before .before .before .before .before .before .pre .1) rows (a .list .now) (c .before .before .before .before .before .before .before .before .before .before .before .before .before .before .before .before .before .before .before .before .before .before .before .before .before .before .before .before .all-costs .ensures)
-    (sym (c .before .before .before .before .before .before .before .before .before .before .before .before .before .before .before .before .before .before .before .before .before .before .before .before .before .is-crowded .ensures) ∙ c .before .before .before .before .before .before .before .before .before .before .before .before .before .before .before .before .before .before .before .before .before .before .before .before .if1 .left) (c .before .before .before .before .before .before .before .before .before .before .before .before .before .before .before .before .before .before .before .before .before .before .before .if2 .left) (c .before .before .before .before .before .before .before .before .before .before .before .before .before .before .before .before .before .lay-at .ensures))
-
--- src/building.rt:148:23
-cast-t53 : tie.Need-cast-t53
-cast-t53 c =
-    let a = c .before .before .before .before .before .before .before .before .before .before .before .before .before .before .before .before .before .before .before .before .before .before .before .before .before .before .before .before .before .before .before .before .before .before .before .before .before .before .before .before .before .before .before .before .before .before .before .before .before .before .before .before .before .before .before .before .args in
-    let s = splitRules (a .first .now) (a .vals .now) (a .lens .now) (a .nums .now) (a .svals .now) (a .slens .now) (a .actions .now) in
-    let rows = lists (a .rowhops .now) (a .rowlens .now) (a .rowlinks .now) (a .rowstrides .now) in
-    record {
-      fits = omega (
-        arith,
-        elements-few (kindOf (a .kind)) (a .width) (a .levels) s (c .before .before .before .before .before .before .before .before .before .before .before .before .before .before .before .before .before .before .before .before .before .before .before .before .before .before .before .before .before .before .before .before .before .before .before .before .before .before .before .before .before .before .before .before .before .before .before .before .before .before .before .before .before .before .before .before .pre .0) (c .before .before .before .before .before .before .before .before .before .before .before .before .before .before .before .before .before .before .before .before .before .before .before .before .before .before .before .before .before .before .before .before .before .before .before .before .before .before .before .before .before .before .before .before .before .before .before .before .before .before .before .before .before .before .before .before .pre .1) rows (a .list .now) (c .before .before .before .before .before .before .before .before .before .before .before .before .before .before .before .before .before .before .before .before .before .before .before .before .before .before .before .before .before .before .before .before .before .before .before .before .before .before .before .before .before .all-costs .ensures)
-            (sym (c .before .before .before .before .before .before .before .before .before .before .before .before .before .before .before .before .before .before .before .before .before .before .before .before .before .before .before .before .before .before .before .before .before .before .before .before .before .before .is-crowded .ensures) ∙ c .before .before .before .before .before .before .before .before .before .before .before .before .before .before .before .before .before .before .before .before .before .before .before .before .before .before .before .before .before .before .before .before .before .before .before .before .before .if1 .left) (c .before .before .before .before .before .before .before .before .before .before .before .before .before .before .before .before .before .before .before .before .before .before .before .before .before .before .before .before .before .before .before .before .before .before .before .before .if2 .left) (c .before .before .before .before .before .before .before .before .before .before .before .before .before .before .before .before .before .before .before .before .before .before .before .before .before .before .before .before .before .before .lay-at .ensures) (c .before .before .before .before .before .before .before .before .before .before .before .before .lay-sources .ensures),
-      );
-    }
-
--- src/building.rt:59:1
+-- src/building.rt:209:9
 same-length-3 : tie.Need-same-length-3
-same-length-3 c =
-    c .before .before .before .before .before .before .before .before .before .before .before .before .lay-sources .kept .1 .1 .1 .1 .1 .1 .1 .1 .1 .1 .0 ∙ c .before .before .before .before .before .before .before .before .before .before .before .before .before .before .before .before .before .before .before .before .before .before .before .before .before .before .before .before .before .before .lay-at .kept .1 .1 .1 .1 .1 .1 .0 ∙ c .before .before .before .before .before .before .before .before .before .before .before .before .before .before .before .before .before .before .before .before .before .before .before .before .before .before .before .before .before .before .before .before .before .before .before .before .before .before .before .before .before .all-costs .kept .1 .1 .1 .1 .1 .1 .1 .1 .1 .1 .0
+same-length-3 c = search needs
 
--- src/building.rt:59:1
+-- src/building.rt:209:9
 same-length-4 : tie.Need-same-length-4
 same-length-4 c = search needs
 
--- src/building.rt:59:1
+-- src/building.rt:209:9
 same-length-5 : tie.Need-same-length-5
 same-length-5 c = search needs
 
--- src/building.rt:59:1
+-- src/building.rt:209:9
 same-length-6 : tie.Need-same-length-6
 same-length-6 c = search needs
 
--- src/building.rt:59:1
-same-length-7 : tie.Need-same-length-7
-same-length-7 c = search needs
+abbrev tables : (c : tie.Start) → SplitRules
+tables c = let a = c .args in splitRules (a .first .now) (a .vals .now) (a .lens .now) (a .nums .now) (a .svals .now) (a .slens .now) (a .actions .now)
 
--- src/building.rt:59:1
+abbrev rowsLent : (c : tie.Start) → Lists
+rowsLent c = lists (c .args .rowhops .now) (c .args .rowlens .now) (c .args .rowlinks .now) (c .args .rowstrides .now)
+
+-- src/building.rt:209:9
+returns : tie.Need-returns
+returns c =
+    let c12 = c .before .before .before .before .before .before .before .before .before .before .before .before in
+    let c27 = c12 .before .before .before .before .before .before .before .before .before .before .before .before .before .before .before in
+    let S = c27 in
+    room-lacks (kindOf (S .args .kind)) (S .args .width) (S .args .levels) (tables S) (rowsLent S) (S .args .list .now) (c12 .all-costs .ensures)
+    (c .before .before .before .before .room-outcome .ensures) (c .before .before .outcome .given .1) (c .refused .ensures .0) (c .refused .ensures .1)
+
+enum-told : tie.Need-enum-told
+enum-told c = search needs
+
+-- src/building.rt:211:9
+lay-all-requires : tie.Need-lay-all-requires
+lay-all-requires c κs =
+    let c8 = c .before .before .before .before .before .before .before .before in
+    let c16 = c8 .before .before .before .before .before .before .before .before in
+    let c31 = c16 .before .before .before .before .before .before .before .before .before .before .before .before .before .before .before in
+    let S = c31 in
+    rw (c16 .all-costs .kept .1 .1 .1 .1 .1 .1 .1 .1 .1 .1 .0)
+    (may-lay-all (kindOf (S .args .kind)) (S .args .width) (S .args .levels) (tables S) (rowsLent S) (S .args .list .now) (c16 .all-costs .ensures)
+    (c8 .room-outcome .ensures) (c .before .before .before .before .before .before .enum-told .given .1) (S .pre .0) (S .pre .1))
+
+-- src/building.rt:167:1
+same-length-7 : tie.Need-same-length-7
+same-length-7 c =
+    let c12 = c .before .before .before .before .before .before .before .before .before .before .before .before in
+    let c28 = c12 .before .before .before .before .before .before .before .before .before .before .before .before .before .before .before .before in
+    let c29 = c28 .before in
+    c12 .lay-all .kept .1 .1 .1 .1 .1 .1 .1 .1 .1 .1 .0 ∙ c29 .all-costs .kept .1 .1 .1 .1 .1 .1 .1 .1 .1 .1 .0
+
+-- src/building.rt:167:1
 same-length-8 : tie.Need-same-length-8
 same-length-8 c = search needs
 
--- src/building.rt:59:1
-returns-3 : tie.Need-returns-3
-returns-3 c =
-    let a = c .before .before .before .before .before .before .before .before .before .before .before .before .before .before .before .before .before .before .before .before .before .before .before .before .before .before .before .before .before .before .before .before .before .before .before .before .before .before .before .before .before .before .before .before .before .before .before .before .before .before .before .before .before .before .before .before .args in
-    let s = splitRules (a .first .now) (a .vals .now) (a .lens .now) (a .nums .now) (a .svals .now) (a .slens .now) (a .actions .now) in
-    let rows = lists (a .rowhops .now) (a .rowlens .now) (a .rowlinks .now) (a .rowstrides .now) in
-    tries-built (kindOf (a .kind)) (a .width) (a .levels) s (c .before .before .before .before .before .before .before .before .before .before .before .before .before .before .before .before .before .before .before .before .before .before .before .before .before .before .before .before .before .before .before .before .before .before .before .before .before .before .before .before .before .before .before .before .before .before .before .before .before .before .before .before .before .before .before .before .pre .0) (c .before .before .before .before .before .before .before .before .before .before .before .before .before .before .before .before .before .before .before .before .before .before .before .before .before .before .before .before .before .before .before .before .before .before .before .before .before .before .before .before .before .before .before .before .before .before .before .before .before .before .before .before .before .before .before .before .pre .1) rows (a .list .now) (c .before .before .before .before .before .before .before .before .before .before .before .before .before .before .before .before .before .before .before .before .before .before .before .before .before .before .before .before .before .before .before .before .before .before .before .before .before .before .before .before .before .all-costs .ensures)
-    (sym (c .before .before .before .before .before .before .before .before .before .before .before .before .before .before .before .before .before .before .before .before .before .before .before .before .before .before .before .before .before .before .before .before .before .before .before .before .before .before .is-crowded .ensures) ∙ c .before .before .before .before .before .before .before .before .before .before .before .before .before .before .before .before .before .before .before .before .before .before .before .before .before .before .before .before .before .before .before .before .before .before .before .before .before .if1 .left) (c .before .before .before .before .before .before .before .before .before .before .before .before .before .before .before .before .before .before .before .before .before .before .before .before .before .before .before .before .before .before .before .before .before .before .before .before .if2 .left) (c .before .before .before .before .before .before .before .before .before .before .before .before .before .before .before .before .before .before .before .before .before .before .before .before .before .before .before .before .before .before .lay-at .ensures) (c .before .before .before .before .before .before .before .before .before .before .before .before .lay-sources .ensures) refl refl refl
+-- src/building.rt:167:1
+same-length-9 : tie.Need-same-length-9
+same-length-9 c = search needs
+
+-- src/building.rt:167:1
+same-length-10 : tie.Need-same-length-10
+same-length-10 c = search needs
+
+-- src/building.rt:167:1
+same-length-11 : tie.Need-same-length-11
+same-length-11 c = search needs
+
+-- src/building.rt:167:1
+same-length-12 : tie.Need-same-length-12
+same-length-12 c = search needs
+
+-- src/building.rt:167:1
+returns-2 : tie.Need-returns-2
+returns-2 c =
+    let c12 = c .before .before .before .before .before .before .before .before .before .before .before .before in
+    let c19 = c12 .before .before .before .before .before .before .before in
+    let c21 = c19 .before .before in
+    let c29 = c21 .before .before .before .before .before .before .before .before in
+    let c44 = c29 .before .before .before .before .before .before .before .before .before .before .before .before .before .before .before in
+    let S = c44 in
+    tries-built (kindOf (S .args .kind)) (S .args .width) (S .args .levels) (tables S) (rowsLent S) (S .args .list .now) (c29 .all-costs .ensures)
+    (c21 .room-outcome .ensures) (c19 .enum-told .given .1) (c12 .lay-all .ensures)
 
 pub build-tries-spec : {M : Type 1} → statement M
 build-tries-spec =
     tie.close
     (tie.spec
     all-costs-requires
-    is-crowded-requires
+    room-outcome-requires
+    enum-known-outcome
     refused-requires
     same-length
-    returns
-    refused-requires-2
     same-length-2
-    returns-2
-    lay-at-requires
-    cast-lay-sources
-    lay-sources-requires
-    cast-t53
     same-length-3
     same-length-4
     same-length-5
     same-length-6
+    returns
+    enum-told
+    lay-all-requires
     same-length-7
     same-length-8
-    returns-3)
+    same-length-9
+    same-length-10
+    same-length-11
+    same-length-12
+    returns-2)

@@ -26,7 +26,8 @@ abbrev μ-loop : tie.MeasureT-loop
 -- src/counting.rt:159:9
 cost-of-requires : tie.Need-cost-of-requires Inv-loop μ-loop
 cost-of-requires c κs =
-    (c .before .before .before .before .before .before .before .before .before .pre .0 .plans 0 (omega arith), c .before .before .before .before .before .before .before .before .before .pre .1 0 (omega arith))
+    let c9 = c .before .before .before .before .before .before .before .before .before in
+    (c9 .pre .0 .plans 0 (omega arith), c9 .pre .1 0 (omega arith))
 
 -- src/counting.rt:161:5
 loop-holds : tie.Need-loop-holds Inv-loop μ-loop
@@ -44,15 +45,30 @@ source-cost-requires c κs =
 -- src/counting.rt:162:9
 add-cost : tie.Need-add-cost Inv-loop μ-loop
 add-cost c =
+    let c16 = c .before .before .before .before .before .before .before .before .before .before .before .before .before .before .before .before in
+    let c18 = c16 .before .before in
     let l = c .before .before .before .before .before .loop in
-    let p = c .before .before .before .before .before .before .before .before .before .before .before .before .before .before .before .before .before .before .pre .0 in
+    let p = c18 .pre .0 in
     let h = c .before .before .before .before .loop-test .taken in
-    record { fits = omega (arith, l .inv .2, costs-fit p (kindOf (c .before .before .before .before .before .before .before .before .before .before .before .before .before .before .before .before .before .before .args .kind)) (suc (l .g)) (omega (arith, h)), c .before .before .source-cost .ensures, part-least p (kindOf (c .before .before .before .before .before .before .before .before .before .before .before .before .before .before .before .before .before .before .args .kind)) (l .g) h, p .few, h) }
+    record {
+      fits = omega (
+        arith,
+        l .inv .2,
+        costs-fit p (kindOf (c18 .args .kind)) (suc (l .g)) (omega (arith, h)),
+        c .before .before .source-cost .ensures,
+        part-least p (kindOf (c18 .args .kind))
+            (l .g) h,
+        p .few,
+        h,
+      );
+    }
 
 -- src/counting.rt:173:9
 add-g : tie.Need-add-g Inv-loop μ-loop
 add-g c =
-    record { fits = omega (arith, c .before .before .before .before .loop-test .taken, c .before .before .before .before .before .before .before .before .before .before .before .before .before .before .before .before .before .before .pre .0 .few) }
+    let c16 = c .before .before .before .before .before .before .before .before .before .before .before .before .before .before .before .before in
+    let c18 = c16 .before .before in
+    record { fits = omega (arith, c .before .before .before .before .loop-test .taken, c18 .pre .0 .few) }
 
 -- src/counting.rt:161:5
 loop-less : tie.Need-loop-less Inv-loop μ-loop
@@ -61,10 +77,12 @@ loop-less c = omega (arith, c .before .before .before .before .loop-test .taken)
 -- src/counting.rt:161:5
 loop-again : tie.Need-loop-again Inv-loop μ-loop
 loop-again c =
+    let c16 = c .before .before .before .before .before .before .before .before .before .before .before .before .before .before .before .before in
+    let c18 = c16 .before .before in
     let l = c .before .before .before .before .before .loop in (
       omega (arith, c .before .before .before .before .loop-test .taken),
       c .before .before .source-cost .kept .1 .1 .1 .1 .1 .1 .1 .1 .0 ∙ l .inv .1,
-      sum-on _ (l .g) (l .inv .2) (c .before .before .source-cost .ensures ∙ ap (leastBy plain (kindOf (c .before .before .before .before .before .before .before .before .before .before .before .before .before .before .before .before .before .before .args .kind)) (c .before .before .before .before .before .before .before .before .before .before .before .before .before .before .before .before .before .before .args .levels)) (part-is (c .before .before .before .before .before .before .before .before .before .before .before .before .before .before .before .before .before .before .pre .0) (l .g))),
+      sum-on _ (l .g) (l .inv .2) (c .before .before .source-cost .ensures ∙ ap (leastBy plain (kindOf (c18 .args .kind)) (c18 .args .levels)) (part-is (c18 .pre .0) (l .g))),
     )
 
 -- src/counting.rt:139:1

@@ -36,9 +36,21 @@ source-nodes-requires c κs =
 -- src/counting.rt:132:9
 add-nodes : tie.Need-add-nodes Inv-loop μ-loop
 add-nodes c =
+    let c11 = c .before .before .before .before .before .before .before .before .before .before .before in
     let l = c .before .before .loop in
-    let p = c .before .before .before .before .before .before .before .before .before .before .before .pre in
-    record { fits = omega (arith, l .inv .1, nodes-fit p (suc (l .g)) (omega (arith, c .before .loop-test .taken)), c .source-nodes .ensures, part-size p (l .g) (c .before .loop-test .taken), p .few, c .before .loop-test .taken) }
+    let p = c11 .pre in
+    record {
+      fits = omega (
+        arith,
+        l .inv .1,
+        nodes-fit p (suc (l .g)) (omega (arith, c .before .loop-test .taken)),
+        c .source-nodes .ensures,
+        part-size p (l .g)
+            (c .before .loop-test .taken),
+        p .few,
+        c .before .loop-test .taken,
+      );
+    }
 
 -- src/counting.rt:133:9
 add-g : tie.Need-add-g Inv-loop μ-loop
@@ -52,8 +64,9 @@ loop-less c = omega (arith, c .before .loop-test .taken)
 -- src/counting.rt:131:5
 loop-again : tie.Need-loop-again Inv-loop μ-loop
 loop-again c =
+    let c11 = c .before .before .before .before .before .before .before .before .before .before .before in
     let l = c .before .before .loop in
-    (omega (arith, c .before .loop-test .taken), sum-on _ (l .g) (l .inv .1) (c .source-nodes .ensures ∙ ap size (part-is (c .before .before .before .before .before .before .before .before .before .before .before .pre) (l .g))))
+    (omega (arith, c .before .loop-test .taken), sum-on _ (l .g) (l .inv .1) (c .source-nodes .ensures ∙ ap size (part-is (c11 .pre) (l .g))))
 
 -- src/counting.rt:113:1
 returns : tie.Need-returns Inv-loop μ-loop

@@ -50,11 +50,12 @@ same-length c = search needs
 returns : tie.Need-returns
 unfolding ifAccepted
 returns c =
-    let a = c .before .before .before .before .before .before .before .before .before .args in
+    let c9 = c .before .before .before .before .before .before .before .before .before in
+    let a = c9 .args in
     let p = c .before .before .plan-choice .ensures .0 .chosen in
     let least = leastBy plain (kindOf (a .kind)) (a .levels) (tableTrie (a .width) (a .value .now) (a .lens .now) (a .hop .now)) in
     let long = length-take (c .before .before .before .before .nodes-of .result * ROW - 0) (a .scratch .now) in
-    p .costs ∙ ap (λ (o : Outcome). ifAccepted o least 0) (p .tests ∙ plan-passes (c .before .before .before .before .before .before .before .before .before .pre .0) _ (omega (arith, long, c .before .before .before .before .nodes-of .ensures, c .before .before .before .before .before .before .before .before .before .pre .1)))
+    p .costs ∙ ap (λ (o : Outcome). ifAccepted o least 0) (p .tests ∙ plan-passes (c9 .pre .0) _ (omega (arith, long, c .before .before .before .before .nodes-of .ensures, c9 .pre .1)))
 
 pub cost-of-spec : {M : Type 1} → statement M
 cost-of-spec =

@@ -31,7 +31,8 @@ returns c =
 -- src/counting.rt:18:1
 returns-2 : tie.Need-returns-2
 returns-2 c =
-    some-nodes (c .before .before .before .before .before .before .before .before .before .pre) (c .before .before .before .before .choose-fixed .ensures .0 .tests) (c .before .outcome .given .1)
+    let c9 = c .before .before .before .before .before .before .before .before .before in
+    some-nodes (c9 .pre) (c .before .before .before .before .choose-fixed .ensures .0 .tests) (c .before .outcome .given .1)
 
 pub nodes-of-spec : {M : Type 1} → statement M
 nodes-of-spec =

@@ -115,9 +115,12 @@ same-length-5 c = search needs
 -- src/laying.rt:20:1
 returns : tie.Need-returns
 returns c =
-    let s = c .before .before .before .before .before .before .before .before .before .before .before .before .before .before .before .before .before .before .before .before .before .before .before .before .before .before in
-    let long = length-take (c .before .before .before .before .before .before .before .before .before .before .before .before .before .before .before .before .before .nodes-of .result * ROW - 0) (s .args .scratch .now) in
-    lays-at (s .pre) (omega (arith, long, c .before .before .before .before .before .before .before .before .before .before .before .before .before .before .before .before .before .nodes-of .ensures, s .pre .roomy)) (c .before .before .before .before .before .before .before .before .before .before .before .build .ensures .0)
+    let c11 = c .before .before .before .before .before .before .before .before .before .before .before in
+    let c17 = c11 .before .before .before .before .before .before in
+    let c26 = c17 .before .before .before .before .before .before .before .before .before in
+    let s = c26 in
+    let long = length-take (c17 .nodes-of .result * ROW - 0) (s .args .scratch .now) in
+    lays-at (s .pre) (omega (arith, long, c17 .nodes-of .ensures, s .pre .roomy)) (c11 .build .ensures .0)
 
 pub lay-at-spec : {M : Type 1} → statement M
 lay-at-spec =

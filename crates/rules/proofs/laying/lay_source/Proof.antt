@@ -92,21 +92,30 @@ lay-at-requires c κs = search needs
 -- src/laying.rt:132:34
 nearest-requires : tie.Need-nearest-requires
 nearest-requires c κs =
-    let p = c .before .before .before .before .before .before .before .before .before .before .before .before .before .before .before .before .before .before .before .before .before .before .before .before .before .before .before .before .before .before .before .before .before .before .pre in
+    let c16 = c .before .before .before .before .before .before .before .before .before .before .before .before .before .before .before .before in
+    let c32 = c16 .before .before .before .before .before .before .before .before .before .before .before .before .before .before .before .before in
+    let c34 = c32 .before .before in
+    let p = c34 .pre in
     ((p .0 .plan .table .width, p .1 .1 .1 .0, p .1 .1 .1 .1), p .1 .1 .1 .3)
 
 -- src/laying.rt:132:5
 put-row-requires : tie.Need-put-row-requires
 put-row-requires c κs =
-    let p = c .before .before .before .before .before .before .before .before .before .before .before .before .before .before .before .before .before .before .before .before .before .before .before .before .before .before .before .before .before .before .before .before .before .before .before .pre in
-    let a = c .before .before .before .before .before .before .before .before .before .before .before .before .before .before .before .before .before .before .before .before .before .before .before .before .before .before .before .before .before .before .before .before .before .before .before .args in
+    let c16 = c .before .before .before .before .before .before .before .before .before .before .before .before .before .before .before .before in
+    let c32 = c16 .before .before .before .before .before .before .before .before .before .before .before .before .before .before .before .before in
+    let c35 = c32 .before .before .before in
+    let p = c35 .pre in
+    let a = c35 .args in
     let few = last-few (matches (a .width) (at (a .vals .now)) (at (a .lens .now)) (at (a .vals .now) (a .g))) (a .g) in
     (p .1 .1 .0 .0, omega (arith, p .1 .1 .0 .1), omega (arith, few, c .nearest .ensures, p .1 .1 .1 .1, p .1 .1 .1 .2))
 
 -- src/laying.rt:133:5
 cast-result : tie.Need-cast-result
 cast-result c =
-    record { fits = omega (arith, c .before .before .before .before .before .before .before .before .before .before .before .before .before .before .before .before .lay-at .ensures .count, c .before .before .before .before .before .before .before .before .before .before .before .before .before .before .before .before .before .before .before .before .before .before .before .before .before .before .before .before .before .before .before .before .before .before .before .before .before .before .before .pre .1 .0 .few) }
+    let c16 = c .before .before .before .before .before .before .before .before .before .before .before .before .before .before .before .before in
+    let c32 = c16 .before .before .before .before .before .before .before .before .before .before .before .before .before .before .before .before in
+    let c39 = c32 .before .before .before .before .before .before .before in
+    record { fits = omega (arith, c16 .lay-at .ensures .count, c39 .pre .1 .0 .few) }
 
 -- src/laying.rt:82:1
 same-length : tie.Need-same-length

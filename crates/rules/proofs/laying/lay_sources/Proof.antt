@@ -34,9 +34,11 @@ loop-holds c = (laid-none _ _ _ _ _ _ _, refl)
 lay-source-requires : tie.Need-lay-source-requires Inv-loop μ-loop
 lay-source-requires c κs =
     let l = c .before .before .before .before .before .before .before .loop in
-    let p = c .before .before .before .before .before .before .before .before .before .before .before .before .before .before .before .before .before .before .before .before .before .pre in
+    let c16 = c .before .before .before .before .before .before .before .before .before .before .before .before .before .before .before .before in
+    let p = c16 .before .before .before .before .before .pre in
     let h = c .before .before .before .before .before .before .loop-test .taken in
-    let a = c .before .before .before .before .before .before .before .before .before .before .before .before .before .before .before .before .before .before .before .before .before .args in
+    let c16 = c .before .before .before .before .before .before .before .before .before .before .before .before .before .before .before .before in
+    let a = c16 .before .before .before .before .before .args in
     let s = splitRules (a .first .now) (a .vals .now) (a .lens .now) (a .nums .now) (a .svals .now) (a .slens .now) (a .actions .now) in
     let t = p .split .plans 0 (omega arith) .table in (
       may-part (kindOf (a .kind)) (a .width) (a .levels) s p (l .inv .0) h,
@@ -50,25 +52,41 @@ lay-source-requires c κs =
     )
 
 -- the tries laid after this turn
-onward : (c : tie.After-slice-known12 Inv-loop μ-loop) → let a = c .before .before .before .before .before .before .before .before .before .before .before .before .before .before .before .before .before .before .before .before .before .before .before .before .before .before .before .before .before .before .before .before .before .before .args in
+onward : (c : tie.After-slice-known12 Inv-loop μ-loop)
+    → let a = c .before .before .before .before .before .before .before .before .before .before .before .before .before .before .before .before .before .before .before .before .before .before
+    .before .before .before .before .before .before .before .before .before .before .before .before .args in
     LaidTo (kindOf (a .kind)) (a .width) (a .levels)
     (splitRules (a .first .now) (a .vals .now) (a .lens .now) (a .nums .now) (a .svals .now) (a .slens .now) (a .actions .now)) (a .start)
-    (lists (a .rowhops .now) (a .rowlens .now) (a .rowlinks .now) (a .rowstrides .now)) (a .list .now) (c .before .before .before .before .before .before .before .before .before .before .before .before .before .before .before .before .before .before .before .before .loop .g + 1)
-    (c .before .before .before .before .before .before .before .before .before .before .before .before .before .before .before .before .before .before .before .before .loop .place + c .before .before .before .before .before .before .before .before .before .before .before .before .lay-source .result)
-    (lists (c .before .before .before .before .before .before .before .before .before .before .before .before .lay-source .last .1 .1 .1 .1 .1 .1 .1 .1 .1 .1 .1 .0) (c .before .before .before .before .before .before .before .before .before .before .before .before .lay-source .last .1 .1 .1 .1 .1 .1 .1 .1 .1 .1 .1 .1 .0) (c .before .before .before .before .before .before .before .before .before .before .before .before .lay-source .last .1 .1 .1 .1 .1 .1 .1 .1 .1 .1 .1 .1 .1 .0) (c .before .before .before .before .before .before .before .before .before .before .before .before .lay-source .last .1 .1 .1 .1 .1 .1 .1 .1 .1 .1 .1 .1 .1 .1 .0))
+    (lists (a .rowhops .now) (a .rowlens .now) (a .rowlinks .now) (a .rowstrides .now)) (a .list .now)
+    (c .before .before .before .before .before .before .before .before .before .before .before .before .before .before .before .before .before .before .before .before .loop .g + 1)
+    (c .before .before .before .before .before .before .before .before .before .before .before .before .before .before .before .before .before .before .before .before .loop .place + c .before
+    .before .before .before .before .before .before .before .before .before .before .before .lay-source .result)
+    (lists (c .before .before .before .before .before .before .before .before .before .before .before .before .lay-source .last .1 .1 .1 .1 .1 .1 .1 .1 .1 .1 .1 .0)
+    (c .before .before .before .before .before .before .before .before .before .before .before .before .lay-source .last .1 .1 .1 .1 .1 .1 .1 .1 .1 .1 .1 .1 .0)
+    (c .before .before .before .before .before .before .before .before .before .before .before .before .lay-source .last .1 .1 .1 .1 .1 .1 .1 .1 .1 .1 .1 .1 .1 .0)
+    (c .before .before .before .before .before .before .before .before .before .before .before .before .lay-source .last .1 .1 .1 .1 .1 .1 .1 .1 .1 .1 .1 .1 .1 .1 .0))
     (c .before .before .before .before .before .before .before .before .before .before .before .before .lay-source .last .1 .1 .1 .1 .1 .1 .1 .1 .1 .1 .1 .1 .1 .1 .1 .0)
 onward c =
-    laid-next _ _ _ _ _ (c .before .before .before .before .before .before .before .before .before .before .before .before .before .before .before .before .before .before .before .loop-test .taken) (c .before .before .before .before .before .before .before .before .before .before .before .before .before .before .before .before .before .before .before .before .loop .inv .0) (c .before .before .before .before .before .before .before .before .before .before .before .before .lay-source .ensures) (c .before .before .before .before .before .before .before .before .before .before .before .before .lay-source .kept .1 .1 .1 .1 .1 .1 .1 .1 .1 .1 .1 .1 .1 .1 .1 .0)
+    let c12 = c .before .before .before .before .before .before .before .before .before .before .before .before in
+    let c19 = c12 .before .before .before .before .before .before .before in
+    let c20 = c19 .before in
+    laid-next _ _ _ _ _ (c19 .loop-test .taken) (c20 .loop .inv .0) (c12 .lay-source .ensures) (c12 .lay-source .kept .1 .1 .1 .1 .1 .1 .1 .1 .1 .1 .1 .1 .1 .1 .1 .0)
 
 -- src/laying.rt:170:9
 add-place : tie.Need-add-place Inv-loop μ-loop
 add-place c =
-    record { fits = omega (arith, place-few _ _ _ _ (c .before .before .before .before .before .before .before .before .before .before .before .before .before .before .before .before .before .before .before .before .before .before .before .before .before .before .before .before .before .before .before .before .before .before .pre) (onward c)) }
+    let c16 = c .before .before .before .before .before .before .before .before .before .before .before .before .before .before .before .before in
+    let c32 = c16 .before .before .before .before .before .before .before .before .before .before .before .before .before .before .before .before in
+    let c34 = c32 .before .before in
+    record { fits = omega (arith, place-few _ _ _ _ (c34 .pre) (onward c)) }
 
 -- src/laying.rt:189:9
 add-g : tie.Need-add-g Inv-loop μ-loop
 add-g c =
-    record { fits = omega (arith, c .before .before .before .before .before .before .before .before .before .before .before .before .before .before .before .before .before .before .before .loop-test .taken, c .before .before .before .before .before .before .before .before .before .before .before .before .before .before .before .before .before .before .before .before .before .before .before .before .before .before .before .before .before .before .before .before .before .before .pre .split .few) }
+    let c16 = c .before .before .before .before .before .before .before .before .before .before .before .before .before .before .before .before in
+    let c19 = c16 .before .before .before in
+    let c34 = c19 .before .before .before .before .before .before .before .before .before .before .before .before .before .before .before in
+    record { fits = omega (arith, c19 .loop-test .taken, c34 .pre .split .few) }
 
 -- src/laying.rt:169:5
 loop-less : tie.Need-loop-less Inv-loop μ-loop
@@ -78,7 +96,9 @@ loop-less c =
 -- src/laying.rt:169:5
 loop-again : tie.Need-loop-again Inv-loop μ-loop
 loop-again c =
-    (onward c, c .before .before .before .before .before .before .before .before .before .before .before .before .lay-source .kept .1 .1 .1 .1 .1 .1 .1 .1 .1 .1 .0 ∙ c .before .before .before .before .before .before .before .before .before .before .before .before .before .before .before .before .before .before .before .before .loop .inv .1)
+    let c12 = c .before .before .before .before .before .before .before .before .before .before .before .before in
+    let c20 = c12 .before .before .before .before .before .before .before .before in
+    (onward c, c12 .lay-source .kept .1 .1 .1 .1 .1 .1 .1 .1 .1 .1 .0 ∙ c20 .loop .inv .1)
 
 -- src/laying.rt:137:1
 same-length : tie.Need-same-length Inv-loop μ-loop

@@ -104,14 +104,16 @@ visit-tries-requires c κs =
 -- src/classifying.rt:81:1
 returns-3 : tie.Need-returns-3
 returns-3 c =
-    let a = c .before .before .before .before .before .before .before .before .before .before .before .before .before .before .before .before .args in
+    let c16 = c .before .before .before .before .before .before .before .before .before .before .before .before .before .before .before .before in
+    let a = c16 .args in
     let ls = lists (a .hops .now) (a .lens .now) (a .links .now) (a .strides .now) in
     let found = c .before .before .before .before .lookup .ensures .0 in
     verdict-promised (a .rec) ls (a .list .now) (a .dest) (a .source)
     (c .visit-tries .ensures
     ∙ ap₂ (λ (n reads : ℕ). throughTries WIDTH (a .rec .elements) (a .rec .dest .width) (a .rec .dest .levels) ls (a .list .now) (a .source) VISITS n reads)
     (c .before .before .called .ensures ∙ ap hopOf found) (c .before .reads-of .ensures ∙ ap readsOf found)
-    ∙ classify-on (a .rec) ls (a .list .now) (a .dest) (a .source) (zero-number (c .before .before .before .before .before .before)) (sym (ap numberOf found) ∙ not-refused (c .before .before .before .before .lookup .result) (c .before .before .before .match .keys2)))
+    ∙ classify-on (a .rec) ls (a .list .now) (a .dest) (a .source) (zero-number (c .before .before .before .before .before .before)) (sym (ap numberOf found) ∙ not-refused
+    (c .before .before .before .before .lookup .result) (c .before .before .before .match .keys2)))
 
 pub classify-spec : {M : Type 1} → statement M
 classify-spec =

@@ -28,7 +28,8 @@ levels-in c = sym (c .before .is-outside2 .ensures) ∙ c .if2 .left
 dest-in : (c : tie.Else3) → leb (2 ^ c .before .before .before .before .before .before .args .rec .dest .width) (c .before .before .before .before .before .before .args .dest) ≡ false
 dest-in c = sym (c .before .is-beyond .ensures) ∙ c .if3 .left
 
-source-in : (c : tie.Else4) → leb (2 ^ c .before .before .before .before .before .before .before .before .args .rec .dest .width) (c .before .before .before .before .before .before .before .before .args .source) ≡ false
+source-in : (c : tie.Else4) → leb (2 ^ c .before .before .before .before .before .before .before .before .args .rec .dest .width)
+    (c .before .before .before .before .before .before .before .before .args .source) ≡ false
 source-in c = sym (c .before .is-beyond2 .ensures) ∙ c .if4 .left
 
 -- src/classifying.rt:25:9
@@ -62,7 +63,13 @@ is-beyond-requires-2 c κs = search needs
 returns-4 : tie.Need-returns-4
 unfolding earlyRefusal
 returns-4 c =
-    simp (width-in (c .before .before .before .before .before .before), levels-in (c .before .before .before .before), dest-in (c .before .before), sym (c .before .is-beyond2 .ensures) ∙ c .if4 .taken)
+    simp (
+      width-in (c .before .before .before .before .before .before),
+      levels-in (c .before .before .before .before),
+      dest-in (c .before .before),
+      sym (c .before .is-beyond2 .ensures)
+          ∙ c .if4 .taken,
+    )
 
 -- src/classifying.rt:36:15
 cast-if5 : tie.Need-cast-if5
@@ -72,19 +79,40 @@ cast-if5 c = search needs
 returns-5 : tie.Need-returns-5
 unfolding earlyRefusal
 returns-5 c =
-    simp (width-in (c .before .before .before .before .before .before .before .before), levels-in (c .before .before .before .before .before .before), dest-in (c .before .before .before .before), source-in (c .before .before), lt-ltb _ _ (c .if5 .taken))
+    let c8 = c .before .before .before .before .before .before .before .before in
+    simp (width-in (c8), levels-in (c .before .before .before .before .before .before), dest-in (c .before .before .before .before), source-in (c .before .before), lt-ltb _ _ (c .if5 .taken))
 
 -- src/classifying.rt:40:9
 returns-6 : tie.Need-returns-6
 unfolding earlyRefusal
 returns-6 c =
-    simp (width-in (c .before .before .before .before .before .before .before .before .before .before), levels-in (c .before .before .before .before .before .before .before .before), dest-in (c .before .before .before .before .before .before), source-in (c .before .before .before .before), le-ltb _ _ (c .before .before .if5 .left), lt-ltb _ _ (c .if6 .taken))
+    let c8 = c .before .before .before .before .before .before .before .before in
+    let c10 = c8 .before .before in
+    simp (
+      width-in (c10),
+      levels-in (c8),
+      dest-in (c .before .before .before .before .before .before),
+      source-in (c .before .before .before .before),
+      le-ltb _ _
+          (c .before .before .if5 .left),
+      lt-ltb _ _ (c .if6 .taken),
+    )
 
 -- src/classifying.rt:20:1
 returns-7 : tie.Need-returns-7
 unfolding earlyRefusal
 returns-7 c =
-    simp (width-in (c .before .before .before .before .before .before .before .before .before .before), levels-in (c .before .before .before .before .before .before .before .before), dest-in (c .before .before .before .before .before .before), source-in (c .before .before .before .before), le-ltb _ _ (c .before .before .if5 .left), le-ltb _ _ (c .if6 .left))
+    let c8 = c .before .before .before .before .before .before .before .before in
+    let c10 = c8 .before .before in
+    simp (
+      width-in (c10),
+      levels-in (c8),
+      dest-in (c .before .before .before .before .before .before),
+      source-in (c .before .before .before .before),
+      le-ltb _ _
+          (c .before .before .if5 .left),
+      le-ltb _ _ (c .if6 .left),
+    )
 
 pub early-refusal-spec : {M : Type 1} → statement M
 early-refusal-spec =

@@ -44,9 +44,11 @@ loop-holds c = (refl, omega (arith, c .before .before .before .before .before .p
 -- src/visiting.rt:169:13
 returns : tie.Need-returns Inv-loop μ-loop
 returns c =
+    let c8 = c .before .before .before .before .before .before .before .before in
     let l = c .before .before .loop in
-    let a = c .before .before .before .before .before .before .before .before .args in
-    sym (through-spent (a .elements) (a .width) (a .levels) (lists (a .hops .now) (a .lens .now) (a .links .now) (a .strides .now)) (a .list .now) (a .source) (l .left) (l .n) (l .reads) (c .before .loop-test .taken) (c .if1 .taken)) ∙ l .inv .0
+    let a = c8 .args in
+    sym (through-spent (a .elements) (a .width) (a .levels) (lists (a .hops .now) (a .lens .now) (a .links .now) (a .strides .now)) (a .list .now) (a .source) (l .left) (l .n) (l .reads)
+    (c .before .loop-test .taken) (c .if1 .taken)) ∙ l .inv .0
 
 -- src/visiting.rt:171:17
 sub-g : tie.Need-sub-g Inv-loop μ-loop
@@ -87,12 +89,15 @@ told : (c : tie.After-known-told Inv-loop μ-loop)
     c .before .before .before .judged .result
     ≡ onward (sourceOf WIDTH (a .elements) (a .width) (a .levels) (lists (a .hops .now) (a .lens .now) (a .links .now) (a .strides .now)) (a .list .now) (a .source)
     (c .before .before .before .before .before .before .before .loop .n - 1)) (c .before .before .before .before .before .before .before .loop .reads) NoRule
-told c = c .before .before .before .judged .ensures ∙ ap (λ (f : Answer). onward f (c .before .before .before .before .before .before .before .loop .reads) NoRule) (c .before .before .before .before .source-answer .ensures)
+told c = c .before .before .before .judged .ensures ∙ ap (λ (f : Answer). onward f (c .before .before .before .before .before .before .before .loop .reads) NoRule)
+    (c .before .before .before .before .source-answer .ensures)
 
 -- so that its row stands in the list
-next-inside : (c : tie.After-known-told Inv-loop μ-loop) → (c .before .before .before .before .before .before .before .loop .n - 1) * TRIE-ROW + TRIE-ROW ≤ length (c .before .before .before .before .before .before .before .before .before .before .before .before .before .args .list .now)
+next-inside : (c : tie.After-known-told Inv-loop μ-loop) → (c .before .before .before .before .before .before .before .loop .n - 1) * TRIE-ROW + TRIE-ROW ≤ length
+    (c .before .before .before .before .before .before .before .before .before .before .before .before .before .args .list .now)
 next-inside c =
-    let a = c .before .before .before .before .before .before .before .before .before .before .before .before .before .args in
+    let c13 = c .before .before .before .before .before .before .before .before .before .before .before .before .before in
+    let a = c13 .args in
     on-visitable (a .elements) (a .width) (a .levels) (lists (a .hops .now) (a .lens .now) (a .links .now) (a .strides .now)) (a .list .now) (a .source)
     (c .before .before .before .before .before .before .before .loop .n - 1) (c .before .before .before .before .before .before .before .loop .reads) _ (told c) (c .before .verdict .given .1) .listed
 
@@ -127,17 +132,20 @@ loop-less c = omega (arith, c .before .before .before .before .before .before .i
 -- src/visiting.rt:167:5
 loop-again : tie.Need-loop-again Inv-loop μ-loop
 loop-again c =
-    let l = c .before .before .before .before .before .before .before .before .loop in
-    let a = c .before .before .before .before .before .before .before .before .before .before .before .before .before .before .args in
+    let c8 = c .before .before .before .before .before .before .before .before in
+    let c14 = c8 .before .before .before .before .before .before in
+    let l = c8 .loop in
+    let a = c14 .args in
     let ls = lists (a .hops .now) (a .lens .now) (a .links .now) (a .strides .now) in (
-      through-on (a .elements) (a .width) (a .levels) ls (a .list .now) (a .source) (l .left) (l .n) (l .reads) _ (c .before .before .before .before .before .before .before .loop-test .taken) (c .before .before .before .before .before .before .if1 .left)
+      through-on (a .elements) (a .width) (a .levels) ls (a .list .now) (a .source) (l .left) (l .n) (l .reads) _ (c .before .before .before .before .before .before .before .loop-test .taken)
+          (c .before .before .before .before .before .before .if1 .left)
           (told (c .before)) (c .before .before .verdict .given .1) ∙ l .inv .0,
       omega (
         arith,
         reads-on (a .elements) (a .width) (a .levels) ls (a .list .now) (a .source) (l .n - 1) (l .reads) _ (told (c .before)) (c .before .before .verdict .given .1),
         l .inv .1,
         c .before .before .before .before .before .before .if1 .left,
-        c .before .before .before .before .before .before .before .before .before .before .before .before .before .before .pre .0 .levels .1,
+        c14 .pre .0 .levels .1,
       ),
     )
 
