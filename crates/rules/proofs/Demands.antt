@@ -33,13 +33,13 @@ use Rattle.fields.proofs.Chain.{Falls}
 use Rattle.verdicts.specs.Limits.{TRIE-ROW}
 use Rattle.verdicts.specs.Tries.{trieRow}
 use Rattle.verdicts.specs.Verdicts.{verdictNumber, actionOf, verdictReads}
-use Rattle.verdicts.specs.Meaning.{Way, Classified}
+use Rattle.verdicts.specs.Meaning.{Way, Classified, SameTries, SameRows}
 use Rattle.verdicts.specs.declared.record.RuleRecord.{RuleRecord}
 use Rattle.verdicts.specs.declared.visiting.Verdict.{Verdict}
 use Rattle.verdicts.specs.declared.visiting.Verdict.the-variants.{Discard, NoRule}
 use Rattle.verdicts.proofs.Answers.{verdict-number, verdict-action}
 use Rattle.verdicts.proofs.Unique.{way-unique}
-use Rattle.verdicts.proofs.Alone.{SameTries, SameRows, verdict-path, verdict-few, verdict-alone}
+use Rattle.verdicts.proofs.Alone.{verdict-path, verdict-few, verdict-alone}
 use Rattle.rules.specs.Build.{RunsOf, ruleTrie, listTest, ruleScratchTests, ruleBuildTests, NoRuleRecord, RuleBuilds}
 use Rattle.rules.specs.Deciding.{ActionIs, TopDiscards, Calls, rowsOnWay}
 use Rattle.rules.proofs.Actions.{action-unique, action-none, action-discards, none-by-action, discard-by-action}

@@ -21,7 +21,7 @@ use Rattle.verdicts.specs.Limits.{TRIE-ROW, VISITS}
 use Rattle.verdicts.specs.Tries.{TrieRow, trieRow, sourceRecord, fromPlace, atPlace}
 use Rattle.verdicts.specs.Verdicts.{verdictNumber, actionOf, verdictReads}
 use Rattle.verdicts.specs.Meaning.{BadTrie, past-list, past-rows, breaks-rule, SourcePath, actionOn, VisitsTries, no-more, too-many, broken-off}
-use Rattle.verdicts.specs.Meaning.{matched-in, goes-on, calledFirst, RuleDamage, short-lists, past-all, breaks-dest, breaks-source, Way, RuleTested, Classified}
+use Rattle.verdicts.specs.Meaning.{matched-in, goes-on, calledFirst, RuleDamage, short-lists, past-all, breaks-dest, breaks-source, Way, RuleTested, Classified, SameTries, SameRows}
 use Rattle.verdicts.specs.declared.record.RuleRecord.{RuleRecord}
 use Rattle.verdicts.specs.declared.visiting.Verdict.{Verdict}
 use Rattle.verdicts.proofs.Answers.{refusal-bare}
@@ -120,13 +120,6 @@ module _ {rec : RuleRecord} {ls : Lists} {list : List ℕ} {dest source most : �
   ]
 
 -- ---- what the verdict depends on
-
--- the other list has the rows of these tries as this one has them
-abbrev pub SameTries : (tries list list′ : List ℕ) → Type 0
-SameTries tries list list′ = (g : ℕ) → List·Memᴰ g tries → (g < length list′ / TRIE-ROW) × (trieRow list g ≡ trieRow list′ g)
-
-abbrev pub SameRows : (rows : List ℕ) → Lists → Lists → Type 0
-SameRows rows ls ls′ = (i : ℕ) → List·Memᴰ i rows → rowAt ls i ≡ rowAt ls′ i
 
 -- the same visiting under other names for its rows and its action
 renamed : {rec : RuleRecord} {ls : Lists} {list : List ℕ} {source f n : ℕ} {ts rows rows′ : List ℕ} {a a′ : ℕ} {w : Bool} → rows ≡ rows′ → a ≡ a′

@@ -6,7 +6,7 @@
 use Prim.Native.Nat.{ℕ, zero, suc, _+_, _/_, _^_, _≤_, _<_}
 use mathlib.Core.Path.{_≡_}
 use mathlib.Core.Bool.{Bool, true, false}
-use mathlib.Core.List.{List, [], _∷_, _++_}
+use mathlib.Core.List.{List, [], _∷_, _++_, List·Memᴰ}
 use mathlib.Core.Logic.{_⊎_}
 use lib.ListN.{length}
 use Rattle.walk.specs.Limits.{LEVELS, Outside}
@@ -91,3 +91,13 @@ module _ (rec : RuleRecord) (ls : Lists) (list : List ℕ) (dest source : ℕ) w
       pub tested : RuleTested (verdictNumber v)
       pub told : verdictNumber v ≡ 0 → (tries : List ℕ) × (rows : List ℕ) × Way tries rows (actionOf v) × (verdictReads v ≡ length rows)
       pub case : VerdictCase v
+
+-- ---- what a verdict may depend on (02: "those tries' rows in their list, floors and links included")
+
+-- another list of tries has the rows of these tries, as this one has them
+abbrev pub SameTries : (tries list list′ : List ℕ) → Type 0
+SameTries tries list list′ = (g : ℕ) → List·Memᴰ g tries → (g < length list′ / TRIE-ROW) × (trieRow list g ≡ trieRow list′ g)
+
+-- other element lists agree with these at these rows
+abbrev pub SameRows : (rows : List ℕ) → Lists → Lists → Type 0
+SameRows rows ls ls′ = (i : ℕ) → List·Memᴰ i rows → rowAt ls i ≡ rowAt ls′ i
