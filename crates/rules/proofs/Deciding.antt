@@ -46,7 +46,7 @@ use Rattle.verdicts.proofs.Answers.{verdict-number, verdict-action, verdict-rea
 use Rattle.verdicts.proofs.Unique.{visits-unique, classified-unique}
 use Rattle.rules.specs.Build.{RunsOf, ruleTrie, TriesLaid}
 use Rattle.rules.specs.Deciding.{ActionIs, no-rule, top-rule, Calls, rowsThrough, rowsOnWay}
-use Rattle.rules.proofs.Standing.{sum-mono}
+use Rattle.rules.proofs.Sums.{sum-mono}
 
 -- a winner's number is no greater than there are entries
 wins-within : {p : ℕ → Bool} {len : ℕ → ℕ} {n b : ℕ} → Wins p len n b → b ≤ n

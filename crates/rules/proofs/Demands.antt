@@ -42,7 +42,8 @@ use Rattle.verdicts.proofs.Unique.{way-unique}
 use Rattle.verdicts.proofs.Alone.{verdict-path, verdict-few, verdict-alone}
 use Rattle.rules.specs.Build.{RunsOf, ruleTrie, listTest, ruleScratchTests, ruleBuildTests, NoRuleRecord, RuleBuilds}
 use Rattle.rules.specs.Deciding.{ActionIs, TopDiscards, Calls, rowsOnWay}
-use Rattle.rules.proofs.Actions.{action-unique, action-none, action-discards, none-by-action, discard-by-action}
+use Rattle.verdicts.proofs.Answers.{none-by-action, discard-by-action}
+use Rattle.rules.proofs.Actions.{action-unique, action-none, action-discards}
 use Rattle.rules.proofs.RuleTests.{scratch-tests-good, numbered-rule-scratch, rule-tests-early, rule-tests-late, rule-tests-scratch}
 use Rattle.rules.proofs.Deciding.{triesVisited, actionFound, laid-way, verdict-found, laid-decides, tries-called, tries-fall}
 

@@ -1,5 +1,5 @@
 -- One table, whose tests have passed: what a chooser says of it that is lent no row of scratch, or just enough; and how large its numbers
--- can be. And sums over tries.
+-- can be.
 use mathlib.Core.Path.{_≡_, refl, sym, ap, _∙_}
 use mathlib.Core.Bool.{Bool, true, false, cond}
 use mathlib.Core.List.{List, [], _∷_}
@@ -98,18 +98,3 @@ module _ {W k : ℕ} {vs ls hs : List ℕ} (can : CanPlan W k vs ls hs) where
       = omega (arith, trie-depth-width W (at vs) (at ls) (entryMarks ls hs) (length vs) (table-prefixes W vs ls hs (can .table) .prefix), can .table .width) in
       let p : 2 ^ depth (tableTrie W vs ls hs) ≤ 2 ^ WIDTH = pow-mono d in
       cap-never-bites COST-CAP kind k (tableTrie W vs ls hs) (omega (arith, p))
-
--- ---- sums
-
-pub sum-few : (f : ℕ → ℕ) (n most : ℕ) → ((g : ℕ) → g < n → f g ≤ most) → sumFirst f n ≤ n * most
-unfolding sumFirst
-sum-few f zero most h = omega arith
-sum-few f (suc n) most h = omega (arith, sum-few f n most (λ g l. h g (omega arith)), h n (omega arith), suc-mul n most)
-
-pub sum-part : (f : ℕ → ℕ) (n g : ℕ) → g < n → f g ≤ sumFirst f n
-unfolding sumFirst
-sum-part f zero g h = absurd (omega arith)
-sum-part f (suc n) g h = elim (decLe (suc g) n) [
-  | yes l ↦ omega (arith, sum-part f n g l)
-  | no l ↦ let e : g ≡ n = omega arith in rw e (omega arith)
-]

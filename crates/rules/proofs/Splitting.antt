@@ -14,7 +14,8 @@ use Rattle.choosers.specs.Scratch.{ROW}
 use Rattle.fields.specs.Limits.{ruleLimit}
 use Rattle.fields.specs.Runs.{part, EntryLists, sumFirst}
 use Rattle.rules.specs.Splitting.{SplitRules, splitTable, splitTrie, partTrie, CanPlan, CanPart, CanSplit, Roomy}
-use Rattle.rules.proofs.Planning.{size-few, least-few, sum-few}
+use Rattle.rules.proofs.Planning.{size-few, least-few}
+use Rattle.rules.proofs.Sums.{sum-few}
 
 add-one : (g : ℕ) → g + 1 ≡ suc g
 add-one g = omega arith
@@ -49,12 +50,3 @@ module _ {W k : ℕ} {s : SplitRules} (can : CanSplit W k s) where
   pub costs-fit : (kind : Kind) (n : ℕ) → n ≤ suc (length (s .vals)) → sumFirst (λ g. leastBy plain kind k (splitTrie W s g)) n ≤ n * COST-CAP
   costs-fit kind n h =
       sum-few (λ g. leastBy plain kind k (splitTrie W s g)) n COST-CAP (λ g l. omega (arith, least-few (can .plans g (omega arith)) kind))
-
--- a sum that grew by one
-pub sum-first : (f : ℕ → ℕ) {x : ℕ} → x ≡ f 0 → x ≡ sumFirst f 1
-unfolding sumFirst
-sum-first f e = e ∙ sym (zero-add (f 0))
-
-pub sum-on : (f : ℕ → ℕ) (g : ℕ) {x y : ℕ} → x ≡ sumFirst f (suc g) → y ≡ f (suc g) → x + y ≡ sumFirst f (suc (g + 1))
-unfolding sumFirst
-sum-on f g e d = rw (add-one g, e, d) refl

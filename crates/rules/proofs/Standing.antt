@@ -27,6 +27,7 @@ use Rattle.tries.specs.Limits.{ELEMENTS}
 use Rattle.rules.specs.Splitting.{SplitRules, splitTable, splitTrie, CanPart, CanSplit}
 use Rattle.rules.specs.Laying.{SameRoom, CanLayAt, LaysAt, PutsRow, LaysSource, nextOf, sourceCost, placeOf, SourceStands, CanLaySources, LaidTo}
 use Rattle.rules.proofs.Splitting.{part-can}
+use Rattle.rules.proofs.Sums.{sum-mono}
 
 -- the last one before g is at most g
 pub last-few : (P : ℕ → Bool) (g : ℕ) → lastBefore P g ≤ g
@@ -106,12 +107,6 @@ same-row list list′ g same =
       same (g * TRIE-ROW + 3) (omega arith),
       same (g * TRIE-ROW + 4) (omega arith),
     ) refl
-
-pub sum-mono : (f : ℕ → ℕ) (i j : ℕ) → i < j → sumFirst f i + f i ≤ sumFirst f j
-unfolding sumFirst
-sum-mono f i zero h = absurd (omega arith)
-sum-mono f i (suc j) h =
-    ⊎-elim (λ (e : i ≡ j). rw e (omega arith)) (λ (l : i < j). omega (arith, sum-mono f i j l)) (eq-or-lt-of-le (le-of-suc-le-suc h))
 
 module _ (kind : Kind) (W k : ℕ) (s : SplitRules) where
   abbrev cost : ℕ → ℕ

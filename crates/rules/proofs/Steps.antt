@@ -33,19 +33,13 @@ use Rattle.rules.specs.Build.{nodesTest, listTest, NoRuleRecord, RulesKe
 use Rattle.rules.specs.Splitting.{SplitRules, splitTable, splitTrie, splitNodes, splitCosts, CanSplit, Roomy}
 use Rattle.rules.specs.Laying.{SameRoom, CanLayAt, LaysAt, sourceCost, placeOf, SourceStands, CanLaySources, LaidTo}
 use Rattle.rules.specs.Building.{CanLayAll, SplitLaid, SplitWritten, TriesBuilt, SplitBuilt}
-use Rattle.rules.proofs.Planning.{sum-part}
 use Rattle.rules.proofs.Standing.{laid-kept, same-shortest}
-
--- a sum without its first
-pub sum-shift : (f : ℕ → ℕ) (n : ℕ) → sumFirst f (suc n) ≡ f 0 + sumFirst (λ j. f (suc j)) n
-unfolding sumFirst
-sum-shift f zero = omega arith
-sum-shift f (suc n) = omega (arith, sum-shift f n)
+use Rattle.rules.proofs.Sums.{sum-mono, sum-shift}
 
 -- scratch with a row for each node of all tries has one for each node of each
 pub all-roomy : (W : ℕ) (s : SplitRules) (words : ℕ) → splitNodes W s ≤ words / ROW → Roomy W s words
 all-roomy W s words h g l =
-    let one = sum-part (λ x. size (splitTrie W s x)) (suc (length (s .vals))) g (omega arith) in omega (arith, one)
+    let one = sum-mono (λ x. size (splitTrie W s x)) g (suc (length (s .vals))) (omega arith) in omega (arith, one)
 
 -- ---- refused: nothing is written
 

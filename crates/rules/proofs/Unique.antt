@@ -9,6 +9,8 @@ use native.Mathlib.Decide.{decLe}
 use native.Mathlib.Omega.{arith}
 use lib.ListN.{length}
 use lib.Seq.{ext-getD}
+use Rattle.tries.proofs.Laying.{same-rows-one}
+use Rattle.tries.proofs.Unique.{record-same}
 use Rattle.table.specs.Table.{at}
 use Rattle.table.specs.Refusals.{Test, outcome, Gives}
 use Rattle.table.specs.declared.entry.Outcome.{Outcome}
@@ -200,15 +202,8 @@ laid-at {kind} {W} {k} {rs} {list} {m} {from} {rec} {rows′} {list′} l r =
 
 -- ---- one result
 
-records-same : {w w′ l l′ e e′ f f′ : ℕ} {t t′ : List ℕ} → w ≡ w′ → l ≡ l′ → e ≡ e′ → f ≡ f′ → t ≡ t′
-    → _≡_ {A = Record} (record { width = w; levels = l; elements = e; floor = f; strides = t }) (record { width = w′; levels = l′; elements = e′; floor = f′; strides = t′ })
-records-same a b c d e = rw (a, b, c, d, e)
-
 rule-records-same : {d d′ : Record} {e e′ : ℕ} → d ≡ d′ → e ≡ e′ → _≡_ {A = RuleRecord} (record { dest = d; elements = e }) (record { dest = d′; elements = e′ })
 rule-records-same p q = rw (p, q)
-
-lists-same : {a a′ b b′ c c′ d d′ : List ℕ} → a ≡ a′ → b ≡ b′ → c ≡ c′ → d ≡ d′ → lists a b c d ≡ lists a′ b′ c′ d′
-lists-same p q r s = rw (p, q, r, s)
 
 module _ (kind : Kind) (W k : ℕ) (rs : Rules) (scratch : List ℕ) (rows : Lists) (list : List ℕ) where
   abbrev m : ℕ
@@ -249,7 +244,7 @@ module _ (kind : Kind) (W k : ℕ) (rs : Rules) (scratch : List ℕ) (rows : Lis
         let r′ = d .keeps .refused ne′ in
         let z = r .0 .dest in
         let z′ = r′ .0 .dest in (
-          rule-records-same (records-same (z .width ∙ sym (z′ .width)) (z .levels ∙ sym (z′ .levels)) (z .elements ∙ sym (z′ .elements)) (z .floor ∙ sym (z′ .floor))
+          rule-records-same (record-same (rec .dest) (rec′ .dest) (z .width ∙ sym (z′ .width)) (z .levels ∙ sym (z′ .levels)) (z .elements ∙ sym (z′ .elements)) (z .floor ∙ sym (z′ .floor))
               (z .strides ∙ sym (z′ .strides))) (r .0 .elements ∙ sym (r′ .0 .elements)),
           r .1 ∙ sym (r′ .1),
           r .2 ∙ sym (r′ .2),
@@ -272,7 +267,7 @@ module _ (kind : Kind) (W k : ℕ) (rs : Rules) (scratch : List ℕ) (rows : Lis
       dest-one =
           let l = one .tries .dest in
           let l′ = both .dest in
-          records-same (l .width ∙ sym (l′ .width)) (l .levels ∙ sym (l′ .levels)) (elements-one l l′) (floor-one l l′)
+          record-same (rec .dest) (rec′ .dest) (l .width ∙ sym (l′ .width)) (l .levels ∙ sym (l′ .levels)) (elements-one l l′) (floor-one l l′)
           (one .named .2 ∙ ap (padded LEVELS) (named-unique kind k (trie 0) (one .named .0) (other .named .0) (one .named .1) (other .named .1)) ∙ sym (other .named .2))
 
       row-at-one : (i : ℕ) → rowAt rows1 i ≡ rowAt rows2 i
@@ -292,11 +287,7 @@ module _ (kind : Kind) (W k : ℕ) (rs : Rules) (scratch : List ℕ) (rows : Lis
           let p = c .keeps in
           let q = d .keeps in (
             rule-records-same dest-one (all-one (one .tries) both),
-            lists-same
-                (ext-getD 0 (rows1 .hop) (rows2 .hop) (p .hops ∙ sym (q .hops)) (λ i h. ap (λ (v : Row). v .hop) (row-at-one i)))
-                (ext-getD 0 (rows1 .len) (rows2 .len) (p .lens ∙ sym (q .lens)) (λ i h. ap (λ (v : Row). v .len) (row-at-one i)))
-                (ext-getD 0 (rows1 .link) (rows2 .link) (p .links ∙ sym (q .links)) (λ i h. ap (λ (v : Row). v .link) (row-at-one i)))
-                (ext-getD 0 (rows1 .stride) (rows2 .stride) (p .strides ∙ sym (q .strides)) (λ i h. ap (λ (v : Row). v .stride) (row-at-one i))),
+            same-rows-one (p .hops ∙ sym (q .hops)) (p .lens ∙ sym (q .lens)) (p .links ∙ sym (q .links)) (p .strides ∙ sym (q .strides)) row-at-one,
             ext-getD 0 list1 list2 (p .places ∙ sym (q .places)) (λ i h. number-at-one i),
           )
 

@@ -34,6 +34,16 @@ lays-built rec g o s pw pk ew ek ee er = record {
 lists-same : {a a′ b b′ c c′ d d′ : List ℕ} → a ≡ a′ → b ≡ b′ → c ≡ c′ → d ≡ d′ → lists a b c d ≡ lists a′ b′ c′ d′
 lists-same p q r s = rw (p, q, r, s)
 
+-- lists of the same lengths that have the same rows are one
+pub same-rows-one : {ls1 ls2 : Lists} → length (ls1 .hop) ≡ length (ls2 .hop) → length (ls1 .len) ≡ length (ls2 .len) → length (ls1 .link) ≡ length (ls2 .link)
+    → length (ls1 .stride) ≡ length (ls2 .stride) → ((i : ℕ) → rowAt ls1 i ≡ rowAt ls2 i) → ls1 ≡ ls2
+same-rows-one {ls1} {ls2} a b c d one =
+    lists-same
+    (ext-getD 0 (ls1 .hop) (ls2 .hop) a (λ i l. ap (λ (v : Row). v .hop) (one i)))
+    (ext-getD 0 (ls1 .len) (ls2 .len) b (λ i l. ap (λ (v : Row). v .len) (one i)))
+    (ext-getD 0 (ls1 .link) (ls2 .link) c (λ i l. ap (λ (v : Row). v .link) (one i)))
+    (ext-getD 0 (ls1 .stride) (ls2 .stride) d (λ i l. ap (λ (v : Row). v .stride) (one i)))
+
 module _ {σ : Strides} {t : Trie} where
   -- two builds with as many levels have the same rows
   module _ {k : ℕ} {ls : Lists} where
@@ -47,12 +57,4 @@ module _ {σ : Strides} {t : Trie} where
     pub lay-unique : {e e′ : ℕ} {ls1 ls2 : Lists} → LayGives σ t k ls e ls1 → LayGives σ t k ls e′ ls2
         → length (ls1 .hop) ≡ length (ls2 .hop) → length (ls1 .len) ≡ length (ls2 .len) → length (ls1 .link) ≡ length (ls2 .link) → length (ls1 .stride) ≡ length (ls2 .stride)
         → (e ≡ e′) × (ls1 ≡ ls2)
-    lay-unique {ls1 = ls1} {ls2 = ls2} g h a b c d =
-        let one = rows-one g h in (
-          g .count ∙ sym (h .count),
-          lists-same
-              (ext-getD 0 (ls1 .hop) (ls2 .hop) a (λ i l. ap (λ (v : Row). v .hop) (one i)))
-              (ext-getD 0 (ls1 .len) (ls2 .len) b (λ i l. ap (λ (v : Row). v .len) (one i)))
-              (ext-getD 0 (ls1 .link) (ls2 .link) c (λ i l. ap (λ (v : Row). v .link) (one i)))
-              (ext-getD 0 (ls1 .stride) (ls2 .stride) d (λ i l. ap (λ (v : Row). v .stride) (one i))),
-        )
+    lay-unique g h a b c d = (g .count ∙ sym (h .count), same-rows-one a b c d (rows-one g h))

@@ -27,7 +27,7 @@ use Rattle.tries.specs.Build.{buildTests, Builds}
 use Rattle.layout.proofs.Agreeing.{same-agree, good-agree, rows-same, count-same}
 use Rattle.tries.proofs.Laying.{lay-unique}
 
-record-same : (r s : Record) → r .width ≡ s .width → r .levels ≡ s .levels → r .elements ≡ s .elements → r .floor ≡ s .floor → r .strides ≡ s .strides → r ≡ s
+pub record-same : (r s : Record) → r .width ≡ s .width → r .levels ≡ s .levels → r .elements ≡ s .elements → r .floor ≡ s .floor → r .strides ≡ s .strides → r ≡ s
 record-same r s w l e f t =
     ap (λ (x : ℕ). record { width = x; levels = r .levels; elements = r .elements; floor = r .floor; strides = r .strides }) w
     ∙ ap (λ (x : ℕ). record { width = s .width; levels = x; elements = r .elements; floor = r .floor; strides = r .strides }) l

@@ -2,6 +2,7 @@
 use Prim.Native.Nat.{ℕ, zero, suc, _+_, _≤_, _<_}
 use mathlib.Core.Path.{_≡_, refl, sym, ap, _∙_}
 use mathlib.Core.Bool.{Bool, true, false, cond}
+use mathlib.Core.Logic.{_↔_}
 use native.Mathlib.Omega.{arith}
 use native.Mathlib.Decide.{decLe}
 use native.Mathlib.Nat.{pos-of-ne-zero}
@@ -67,6 +68,19 @@ verdict-unique v w n a r c d = elim (decLe (verdictNumber v) 0) [
   | yes z ↦ verdict-is v (omega arith) c ∙ ap (λ (x : ℕ). verdict x (verdictReads v)) a ∙ ap (verdict (actionOf w)) r ∙ sym (verdict-is w (omega arith) d)
   | no s ↦ refused-is v (omega arith) ∙ ap Refused n ∙ sym (refused-is w (omega arith))
 ]
+
+-- of the accepted verdicts no rule is told from every other by its action, and so is a discard
+pub none-by-action : (v : Verdict) → verdictNumber v ≡ 0 → VerdictCase v → (v ≡ NoRule (verdictReads v)) ↔ (actionOf v ≡ 0)
+none-by-action (Act a r) z c = (λ (e : Act a r ≡ NoRule r). ap actionOf e, λ (e : a ≡ 0). absurd (omega (arith, c .0)))
+none-by-action (Discard r) z c = (λ (e : Discard r ≡ NoRule r). ap actionOf e, λ (e : discardHop ≡ 0). absurd (omega arith))
+none-by-action (NoRule r) z c = (λ e. refl, λ e. refl)
+none-by-action (Refused n) z c = absurd (omega (arith, c))
+
+pub discard-by-action : (v : Verdict) → VerdictCase v → (v ≡ Discard (verdictReads v)) ↔ (actionOf v ≡ discardHop)
+discard-by-action (Act a r) c = (λ (e : Act a r ≡ Discard r). ap actionOf e, λ (e : a ≡ discardHop). absurd (c .1 e))
+discard-by-action (Discard r) c = (λ e. refl, λ e. refl)
+discard-by-action (NoRule r) c = (λ (e : NoRule r ≡ Discard r). ap actionOf e, λ (e : 0 ≡ discardHop). absurd (omega arith))
+discard-by-action (Refused n) c = (λ (e : Refused n ≡ Discard 0). ap actionOf e, λ (e : 0 ≡ discardHop). absurd (omega arith))
 
 -- what the answer of a source trie leads to, by its hop
 pub onward-none : (len r reads : ℕ) (go : ℕ → Verdict) {h : ℕ} → h ≡ 0 → onward (answer h len r) reads go ≡ go (reads + r)

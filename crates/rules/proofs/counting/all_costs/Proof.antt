@@ -7,13 +7,14 @@ use Rattle.strides.specs.Recurrence.{plain, leastBy}
 use Rattle.choosers.specs.Kinds.{kindOf}
 use Rattle.fields.specs.Runs.{sumFirst}
 use Rattle.rules.specs.Splitting.{splitRules, splitTrie}
-use Rattle.rules.proofs.Splitting.{part-can, part-is, part-roomy, part-least, costs-fit, sum-first, sum-on}
+use Rattle.rules.proofs.Splitting.{part-can, part-is, part-roomy, part-least, costs-fit}
 use Rattle.rules.proofs.counting.all_costs.Statement.{statement}
 use Rattle.rules.proofs.counting.all_costs.Tie as tie
 use Rattle.rules.proofs.counting.all_costs.Reads as reads
 use Rattle.rules.proofs.counting.all_costs.Lts as lts
 use Rattle.rules.proofs.counting.cost_of.Reads as cost-of-reads
 use Rattle.rules.proofs.counting.source_cost.Reads as source-cost-reads
+use Rattle.rules.proofs.Sums.{sum-first, sum-on}
 
 abbrev Inv-loop : tie.InvT-loop
 Inv-loop kind width levels first vals lens nums svals slens actions scratch₀ m cost₀ g₀ scratch cost g =

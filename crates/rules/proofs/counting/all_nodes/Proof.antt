@@ -5,13 +5,14 @@ use lib.ListN.{length}
 use Rattle.strides.specs.Trie.{size}
 use Rattle.fields.specs.Runs.{sumFirst}
 use Rattle.rules.specs.Splitting.{splitRules, splitTrie}
-use Rattle.rules.proofs.Splitting.{part-can, part-is, part-size, nodes-fit, sum-first, sum-on}
+use Rattle.rules.proofs.Splitting.{part-can, part-is, part-size, nodes-fit}
 use Rattle.rules.proofs.counting.all_nodes.Statement.{statement}
 use Rattle.rules.proofs.counting.all_nodes.Tie as tie
 use Rattle.rules.proofs.counting.all_nodes.Reads as reads
 use Rattle.rules.proofs.counting.all_nodes.Lts as lts
 use Rattle.rules.proofs.counting.nodes_of.Reads as nodes-of-reads
 use Rattle.rules.proofs.counting.source_nodes.Reads as source-nodes-reads
+use Rattle.rules.proofs.Sums.{sum-first, sum-on}
 
 abbrev Inv-loop : tie.InvT-loop
 Inv-loop width levels first vals lens nums svals slens actions m nodes₀ g₀ nodes g =
