@@ -1,18 +1,16 @@
 -- A trie laid in the parts of the element lists from a place on, by a build that knows nothing of the place: what the lists then hold.
 use mathlib.Core.Path.{_≡_, refl, sym, ap, subst, _∙_}
-use mathlib.Core.Bool.{Bool, true, false, _||_}
 use mathlib.Core.List.{List, [], _∷_, _++_}
-use Prim.Native.Nat.{ℕ, zero, suc, _+_, _-_, _*_, min, _≤_, _<_}
+use Prim.Native.Nat.{ℕ, zero, suc, _+_, _-_, _*_, _≤_, _<_}
 use native.Mathlib.Omega.{arith}
 use native.Mathlib.Nat.{le-trans}
-use lib.Dec.{ltb}
 use lib.ListN.{length, take, drop, getD, length-append, length-take, length-drop, take-append-drop, drop-of-length-le, List·getD-append}
 use borrow.Author.Tests.{le-ltb}
 use Rattle.table.specs.Refusals.{outcome}
 use Rattle.table.specs.declared.entry.Outcome.{Outcome}
 use Rattle.table.specs.declared.entry.Outcome.the-variants.{Accepted}
 use Rattle.table.proofs.Refusals.{outcome-passes}
-use Rattle.strides.specs.Trie.{Trie, size}
+use Rattle.strides.specs.Trie.{size}
 use Rattle.strides.specs.Cheapest.{Kind}
 use Rattle.strides.specs.Recurrence.{plain, leastBy}
 use Rattle.strides.specs.Strides.{chosenBy}
@@ -23,14 +21,13 @@ use Rattle.walk.specs.declared.record.Record.{Record}
 use Rattle.layout.specs.Laid.{tableTrie, Laid}
 use Rattle.layout.proofs.Laid.{elements-cost}
 use Rattle.choosers.specs.Scratch.{ROW}
-use Rattle.tries.specs.Build.{roomTest, buildTests, BuildIs}
+use Rattle.tries.specs.Build.{roomTest, BuildIs}
 use Rattle.tries.specs.Limits.{ELEMENTS}
 use Rattle.tries.proofs.BuildSteps.{late}
 use Rattle.verdicts.specs.Tries.{fromPlace}
 use Rattle.verdicts.proofs.Sources.{part-to-end}
 use Rattle.verdicts.proofs.Alone.{row-from, room-from}
-use Rattle.rules.specs.Splitting.{CanPlan}
-use Rattle.rules.specs.Laying.{SameRoom, CanLayAt, LaysAt}
+use Rattle.rules.specs.Laying.{CanLayAt, LaysAt}
 use Rattle.rules.proofs.Planning.{plan-passes}
 
 -- what is left of a list from place p on was lent, and ys came back

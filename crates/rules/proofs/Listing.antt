@@ -1,15 +1,15 @@
 -- A row of the list of tries, written number by number: what stands there then, and what stands elsewhere as it did.
-use mathlib.Core.Path.{_≡_, refl, sym, ap, ap₂, _∙_}
+use mathlib.Core.Path.{_≡_, refl, ap, _∙_}
 use mathlib.Core.List.{List}
-use Prim.Native.Nat.{ℕ, zero, suc, _+_, _*_, _%_, _≤_, _<_}
+use Prim.Native.Nat.{ℕ, _+_, _*_, _%_, _≤_, _<_}
 use native.Mathlib.Nat.{mod-eq-of-lt}
 use native.Mathlib.Omega.{arith}
-use lib.ListN.{length, set, getD, length-set}
+use lib.ListN.{length, set, length-set}
 use lib.Seq.{getD-set-same, getD-set-other}
 use Rattle.table.specs.Table.{at}
 use Rattle.walk.specs.Limits.{HOPS}
 use Rattle.verdicts.specs.Limits.{TRIE-ROW}
-use Rattle.verdicts.specs.Tries.{TrieRow, trieRow}
+use Rattle.verdicts.specs.Tries.{TrieRow}
 use Rattle.rules.specs.Laying.{PutsRow}
 
 -- five numbers from place r on

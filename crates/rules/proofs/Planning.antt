@@ -1,29 +1,28 @@
 -- One table, whose tests have passed: what a chooser says of it that is lent no row of scratch, or just enough; and how large its numbers
 -- can be.
 use mathlib.Core.Path.{_≡_, refl, sym, ap, _∙_}
-use mathlib.Core.Bool.{Bool, true, false, cond}
-use mathlib.Core.List.{List, [], _∷_}
-use Prim.Native.Nat.{ℕ, zero, suc, _+_, _-_, _*_, _/_, _^_, _≤_, _<_}
+use mathlib.Core.Bool.{Bool, false}
+use mathlib.Core.List.{List}
+use Prim.Native.Nat.{ℕ, zero, suc, _-_, _*_, _/_, _^_, _≤_, _<_}
 use native.Mathlib.Nat.{le-refl, le-trans, sub-le, suc-mul, mul-le-mul}
-use native.Mathlib.Decide.{decLe}
 use native.Mathlib.Omega.{arith}
 use lib.ListN.{length}
 use lib.Pow.{pow-mono}
-use Rattle.table.specs.Limits.{outside, entryLimit}
+use Rattle.table.specs.Limits.{outside}
 use Rattle.table.specs.Refusals.{outcome}
-use Rattle.table.specs.Table.{at, checkOf, Table}
+use Rattle.table.specs.Table.{at, checkOf}
 use Rattle.table.specs.declared.entry.Outcome.{Outcome}
 use Rattle.table.specs.declared.entry.Outcome.the-variants.{Accepted, Refused}
 use Rattle.table.proofs.Refusals.{refused-not-accepted}
 use Rattle.table.proofs.Table.{table-accepted}
-use Rattle.strides.specs.Trie.{Trie, size, depth}
+use Rattle.strides.specs.Trie.{size, depth}
 use Rattle.strides.specs.Insertion.{newAfter, newNodes, nodeCount}
 use Rattle.strides.specs.Cheapest.{Kind}
 use Rattle.strides.specs.Recurrence.{plain, leastBy}
 use Rattle.strides.proofs.Capped.{cap-never-bites}
 use Rattle.strides.proofs.Counting.{node-count}
 use Rattle.strides.proofs.Insertion.{trie-depth-width}
-use Rattle.walk.specs.Limits.{WIDTH, LEVELS, Outside, Within}
+use Rattle.walk.specs.Limits.{WIDTH, Within}
 use Rattle.walk.proofs.Tests.{outside-cases, within-not}
 use Rattle.layout.specs.Marks.{entryMarks}
 use Rattle.layout.specs.Laid.{tableTrie}
@@ -31,7 +30,6 @@ use Rattle.choosers.specs.Chooser.{chooseTests}
 use Rattle.choosers.specs.Limits.{COST-CAP}
 use Rattle.choosers.specs.Scratch.{ROW}
 use Rattle.choosers.proofs.ChooseTests.{table-prefixes, tests-scratch, tests-pass}
-use Rattle.fields.specs.Runs.{sumFirst}
 use Rattle.rules.specs.Splitting.{CanPlan}
 
 pub inside : {x most : ℕ} → Within x most → outside x most ≡ false

@@ -1,19 +1,15 @@
 -- The tables of all tries as the build holds them: one of them taken out, and sums that grow by one.
-use mathlib.Core.Path.{_≡_, refl, sym, ap, subst, _∙_}
-use mathlib.Core.List.{List}
-use Prim.Native.Nat.{ℕ, zero, suc, _+_, _*_, _≤_, _<_}
-use native.Mathlib.Nat.{zero-add}
+use mathlib.Core.Path.{_≡_, refl}
+use Prim.Native.Nat.{ℕ, suc, _+_, _*_, _≤_, _<_}
 use native.Mathlib.Omega.{arith}
 use lib.ListN.{length}
-use Rattle.table.specs.Table.{at}
-use Rattle.strides.specs.Trie.{Trie, size}
+use Rattle.strides.specs.Trie.{size}
 use Rattle.strides.specs.Cheapest.{Kind}
 use Rattle.strides.specs.Recurrence.{plain, leastBy}
 use Rattle.choosers.specs.Limits.{COST-CAP}
 use Rattle.choosers.specs.Scratch.{ROW}
-use Rattle.fields.specs.Limits.{ruleLimit}
-use Rattle.fields.specs.Runs.{part, EntryLists, sumFirst}
-use Rattle.rules.specs.Splitting.{SplitRules, splitTable, splitTrie, partTrie, CanPlan, CanPart, CanSplit, Roomy}
+use Rattle.fields.specs.Runs.{sumFirst}
+use Rattle.rules.specs.Splitting.{SplitRules, splitTrie, partTrie, CanPart, CanSplit, Roomy}
 use Rattle.rules.proofs.Planning.{size-few, least-few}
 use Rattle.rules.proofs.Sums.{sum-few}
 

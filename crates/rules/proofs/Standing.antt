@@ -10,22 +10,22 @@ use lib.ListN.{length}
 use Rattle.table.specs.Table.{at}
 use Rattle.table.specs.Lists.{padded}
 use Rattle.strides.specs.Cheapest.{Kind}
-use Rattle.strides.specs.Recurrence.{plain, leastBy}
+use Rattle.strides.specs.Recurrence.{plain}
 use Rattle.strides.specs.Strides.{chosenBy}
-use Rattle.walk.specs.Limits.{WIDTH, LEVELS, HOPS}
+use Rattle.walk.specs.Limits.{WIDTH, HOPS}
 use Rattle.walk.specs.Rows.{Row, Lists, shortest, rowAt, root}
 use Rattle.walk.specs.declared.record.Record.{Record}
-use Rattle.layout.specs.Blocks.{Strides, rowsOf, rowCount, Hold}
-use Rattle.layout.specs.Laid.{LaidTrie, tableTrie, Laid}
+use Rattle.layout.specs.Blocks.{Strides, rowsOf, Hold}
+use Rattle.layout.specs.Laid.{tableTrie, Laid}
 use Rattle.layout.proofs.Blocks.{rows-length}
-use Rattle.fields.specs.Runs.{part, EntryLists, sumFirst}
+use Rattle.fields.specs.Runs.{part, sumFirst}
 use Rattle.fields.proofs.Nearest.{lastBefore}
 use Rattle.verdicts.specs.Limits.{TRIE-ROW}
 use Rattle.verdicts.specs.Tries.{TrieRow, trieRow, sourceRecord, fromPlace}
 use Rattle.verdicts.proofs.Alone.{row-from, shortest-from}
 use Rattle.tries.specs.Limits.{ELEMENTS}
-use Rattle.rules.specs.Splitting.{SplitRules, splitTable, splitTrie, CanPart, CanSplit}
-use Rattle.rules.specs.Laying.{SameRoom, CanLayAt, LaysAt, PutsRow, LaysSource, nextOf, sourceCost, placeOf, SourceStands, CanLaySources, LaidTo}
+use Rattle.rules.specs.Splitting.{SplitRules, splitTable, splitTrie, CanPart}
+use Rattle.rules.specs.Laying.{SameRoom, CanLayAt, LaysSource, nextOf, sourceCost, placeOf, SourceStands, CanLaySources, LaidTo}
 use Rattle.rules.proofs.Splitting.{part-can}
 use Rattle.rules.proofs.Sums.{sum-mono}
 

@@ -1,8 +1,8 @@
 -- The build step by step: refused by 7 for elements or for the list, or built; and refused by 6 before that.
-use mathlib.Core.Path.{_≡_, refl, sym, ap, subst, _∙_}
-use mathlib.Core.Bool.{Bool, true, false, _||_}
+use mathlib.Core.Path.{_≡_, refl, sym, ap, _∙_}
+use mathlib.Core.Bool.{true, false}
 use mathlib.Core.List.{List, [], _∷_}
-use Prim.Native.Nat.{ℕ, zero, suc, _+_, _*_, _/_, _≤_, _<_}
+use Prim.Native.Nat.{ℕ, suc, _+_, _/_, _≤_, _<_}
 use native.Mathlib.Nat.{le-trans}
 use native.Mathlib.Omega.{arith}
 use lib.Dec.{ltb}
@@ -18,21 +18,20 @@ use Rattle.strides.specs.Cheapest.{Kind}
 use Rattle.strides.specs.Recurrence.{plain, leastBy}
 use Rattle.strides.specs.Strides.{chosenBy}
 use Rattle.walk.specs.Limits.{WIDTH}
-use Rattle.walk.specs.Rows.{Lists, shortest, rowAt}
+use Rattle.walk.specs.Rows.{Lists, shortest}
 use Rattle.walk.specs.declared.record.Record.{Record}
 use Rattle.layout.specs.Laid.{Laid}
 use Rattle.choosers.specs.Chooser.{ifAccepted}
 use Rattle.choosers.specs.Scratch.{ROW}
 use Rattle.tries.specs.Build.{roomTest}
 use Rattle.tries.specs.Limits.{ELEMENTS}
-use Rattle.fields.specs.Runs.{EntryLists, sumFirst}
+use Rattle.fields.specs.Runs.{sumFirst}
 use Rattle.verdicts.specs.Limits.{TRIE-ROW}
-use Rattle.verdicts.specs.Tries.{fromPlace}
 use Rattle.verdicts.specs.declared.record.RuleRecord.{RuleRecord}
-use Rattle.rules.specs.Build.{nodesTest, listTest, NoRuleRecord, RulesKept}
-use Rattle.rules.specs.Splitting.{SplitRules, splitTable, splitTrie, splitNodes, splitCosts, CanSplit, Roomy}
-use Rattle.rules.specs.Laying.{SameRoom, CanLayAt, LaysAt, sourceCost, placeOf, SourceStands, CanLaySources, LaidTo}
-use Rattle.rules.specs.Building.{CanLayAll, SplitLaid, SplitWritten, TriesBuilt, SplitBuilt}
+use Rattle.rules.specs.Build.{nodesTest, listTest, NoRuleRecord}
+use Rattle.rules.specs.Splitting.{SplitRules, splitTrie, splitNodes, splitCosts, CanSplit, Roomy}
+use Rattle.rules.specs.Laying.{CanLayAt, LaysAt, sourceCost, placeOf, CanLaySources, LaidTo}
+use Rattle.rules.specs.Building.{CanLayAll, SplitWritten, TriesBuilt, SplitBuilt}
 use Rattle.rules.proofs.Standing.{laid-kept, same-shortest}
 use Rattle.rules.proofs.Sums.{sum-mono, sum-shift}
 

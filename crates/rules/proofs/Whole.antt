@@ -1,16 +1,16 @@
 -- From the rules to the tables that the build holds, and back: what it promises of those is what it promises of the rules.
 use mathlib.Core.Path.{_≡_, refl, sym, ap, subst, _∙_}
-use mathlib.Core.Bool.{Bool, true, false}
+use mathlib.Core.Bool.{true, false}
 use mathlib.Core.List.{List, [], _∷_, _++_}
-use Prim.Native.Nat.{ℕ, zero, suc, _+_, _-_, _*_, _≤_, _<_}
+use Prim.Native.Nat.{ℕ, zero, suc, _+_, _-_, _≤_, _<_}
 use native.Mathlib.Omega.{arith}
 use lib.ListN.{length, replicate, take}
 use Rattle.table.specs.Limits.{outside}
 use Rattle.table.specs.Refusals.{Test, outcome, andThen}
-use Rattle.table.specs.Table.{at, widthTest, Table}
+use Rattle.table.specs.Table.{at, widthTest}
 use Rattle.table.specs.Longest.{Wins}
 use Rattle.table.specs.declared.entry.Outcome.{Outcome}
-use Rattle.table.specs.declared.entry.Outcome.the-variants.{Accepted, Refused}
+use Rattle.table.specs.declared.entry.Outcome.the-variants.{Refused}
 use Rattle.table.proofs.Refusals.{outcome-fails, outcome-passes, outcome-append, refused-not-accepted}
 use Rattle.strides.specs.Trie.{Trie, size}
 use Rattle.strides.specs.Cheapest.{Kind}
@@ -21,18 +21,17 @@ use Rattle.walk.specs.Rows.{Lists, shortest}
 use Rattle.layout.specs.Laid.{tableTrie}
 use Rattle.choosers.specs.Chooser.{levelsTest, ifAccepted}
 use Rattle.tries.specs.Build.{roomTest}
-use Rattle.fields.specs.Limits.{ruleLimit}
 use Rattle.fields.specs.Rules.{Rules, ruleCount, ruleListTests, ruleTests, checkRulesOf, GoodRules}
-use Rattle.fields.specs.Runs.{Runs, EntryLists, trieTable, sumFirst, startsShorter}
+use Rattle.fields.specs.Runs.{EntryLists, trieTable, sumFirst, startsShorter}
 use Rattle.fields.proofs.Runs.{runCount, runFrom, runs-exist, from-mono, from-within, runs-few}
 use Rattle.fields.proofs.Rules.{good-rules}
 use Rattle.fields.proofs.Tables.{dest-lengths, dest-table, source-table}
-use Rattle.verdicts.specs.Tries.{TrieRow, trieRow}
+use Rattle.verdicts.specs.Tries.{trieRow}
 use Rattle.verdicts.specs.declared.record.RuleRecord.{RuleRecord}
-use Rattle.rules.specs.Build.{RunsOf, ruleTrie, nodesTest, listTest, ruleScratchTests, ruleBuildTests, NoRuleRecord, RulesKept, TriesLaid, RulesAre}
+use Rattle.rules.specs.Build.{RunsOf, ruleTrie, nodesTest, listTest, ruleScratchTests, ruleBuildTests, NoRuleRecord, TriesLaid, RulesAre}
 use Rattle.rules.specs.Gathering.{Gathered}
 use Rattle.rules.specs.Splitting.{SplitRules, splitRules, splitTable, splitTrie, splitNodes, splitCosts, CanPlan, CanSplit}
-use Rattle.rules.specs.Laying.{sourceCost, placeOf, SourceStands}
+use Rattle.rules.specs.Laying.{sourceCost, SourceStands}
 use Rattle.rules.specs.Building.{SplitLaid, SplitBuilt}
 use Rattle.rules.proofs.Gathering.{gathered-values, gathered-lengths, gathered-numbers}
 use Rattle.rules.proofs.Links.{links-win}

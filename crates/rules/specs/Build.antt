@@ -23,9 +23,9 @@ use Rattle.choosers.specs.Chooser.{levelsTest, ifAccepted}
 use Rattle.choosers.specs.Scratch.{ROW}
 use Rattle.tries.specs.Build.{roomTest, NoRecord}
 use Rattle.fields.specs.Rules.{Rules, ruleCount, ruleListTests}
-use Rattle.fields.specs.Runs.{Runs, EntryLists, trieTable, sumFirst, startsShorter}
+use Rattle.fields.specs.Runs.{Runs, trieTable, sumFirst, startsShorter}
 use Rattle.verdicts.specs.Limits.{TRIE-ROW}
-use Rattle.verdicts.specs.Tries.{TrieRow, trieRow, sourceRecord, fromPlace}
+use Rattle.verdicts.specs.Tries.{trieRow, sourceRecord, fromPlace}
 use Rattle.verdicts.specs.declared.record.RuleRecord.{RuleRecord}
 
 -- the m destinations of the rules, and where the rules of each begin

@@ -1,7 +1,7 @@
 -- Past the tests of the rules: what the functions of the build ask and give, over the tables as they hold them.
 use mathlib.Core.Path.{_≡_}
 use mathlib.Core.List.{List, [], _∷_}
-use Prim.Native.Nat.{ℕ, suc, _+_, _*_, _≤_, _<_}
+use Prim.Native.Nat.{ℕ, _*_, _≤_, _<_}
 use lib.ListN.{length, replicate}
 use Rattle.table.specs.Refusals.{outcome}
 use Rattle.table.specs.Table.{at}
@@ -9,7 +9,7 @@ use Rattle.table.specs.Lists.{padded}
 use Rattle.table.specs.declared.entry.Outcome.{Outcome}
 use Rattle.table.specs.declared.entry.Outcome.the-variants.{Accepted}
 use Rattle.strides.specs.Cheapest.{Kind}
-use Rattle.strides.specs.Recurrence.{plain, leastBy, stridesBy}
+use Rattle.strides.specs.Recurrence.{plain, stridesBy}
 use Rattle.strides.specs.Strides.{chosenBy}
 use Rattle.walk.specs.Limits.{WIDTH, LEVELS}
 use Rattle.walk.specs.Rows.{Lists, shortest}

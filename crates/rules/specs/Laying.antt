@@ -7,7 +7,7 @@ use lib.ListN.{length}
 use Rattle.table.specs.Table.{at}
 use Rattle.table.specs.Lists.{padded}
 use Rattle.table.specs.Longest.{matches}
-use Rattle.strides.specs.Trie.{Trie, size}
+use Rattle.strides.specs.Trie.{size}
 use Rattle.strides.specs.Cheapest.{Kind}
 use Rattle.strides.specs.Recurrence.{plain, leastBy, stridesBy}
 use Rattle.strides.specs.Strides.{chosenBy}
@@ -17,7 +17,7 @@ use Rattle.walk.specs.declared.record.Record.{Record}
 use Rattle.layout.specs.Laid.{tableTrie, Laid}
 use Rattle.tries.specs.Limits.{ELEMENTS}
 use Rattle.choosers.specs.Scratch.{ROW}
-use Rattle.fields.specs.Runs.{part, EntryLists, sumFirst}
+use Rattle.fields.specs.Runs.{sumFirst}
 use Rattle.fields.proofs.Nearest.{lastBefore}
 use Rattle.verdicts.specs.Limits.{TRIE-ROW}
 use Rattle.verdicts.specs.Tries.{TrieRow, trieRow, sourceRecord, fromPlace}

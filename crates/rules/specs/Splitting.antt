@@ -1,7 +1,6 @@
 -- The tables of all tries as the build holds them: the destinations in lists of their own, with the numbers of their source tries, and the
 -- sources of destination g in the parts of the rules' lists from place `first g` to before `first (suc g)`. They are the tables that 02 speaks
 -- of (`trieTable`, fields).
-use mathlib.Core.Path.{_≡_}
 use mathlib.Core.List.{List}
 use Prim.Native.Nat.{ℕ, zero, suc, _+_, _*_, _≤_, _<_}
 use lib.ListN.{length}

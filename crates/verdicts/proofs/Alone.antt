@@ -1,17 +1,15 @@
 -- Demand 3's last sentence over two fields (02, [6]): the reads are the rows on the paths in all tries visited, at most 34 times k, and the
 -- verdict depends on the record, on those rows and on those tries' rows in their list alone; whatever record and lists are given.
-use Prim.Native.Nat.{ℕ, zero, suc, _+_, _-_, _*_, _/_, _^_, min, _≤_, _<_}
+use Prim.Native.Nat.{ℕ, zero, suc, _+_, _-_, _*_, _/_, min, _≤_, _<_}
 use mathlib.Core.Path.{_≡_, refl, sym, ap, subst, _∙_}
 use mathlib.Core.Bool.{Bool, true, false, true≢false}
-use mathlib.Core.List.{List, [], _∷_, _++_, map, List·Memᴰ, List·Memᴰ·head, List·Memᴰ·tail, List·Memᴰ·cases-cons, List·Memᴰ·not-nil, Memᴰ·append-left, Memᴰ·append-right}
-use mathlib.Core.Logic.{_⊎_, inl, inr, ⊎-elim}
+use mathlib.Core.List.{List, [], _∷_, _++_, List·Memᴰ, List·Memᴰ·head, List·Memᴰ·tail, Memᴰ·append-left, Memᴰ·append-right}
 use native.Mathlib.Omega.{arith}
 use native.Mathlib.Nat.{suc-mul, le-trans}
 use native.Mathlib.Decide.{decLe}
 use lib.ListN.{length, getD, drop, length-drop}
-use Rattle.walk.specs.Limits.{WIDTH, LEVELS}
-use Rattle.walk.specs.Refusals.{RefuseBy, fails, passes}
-use Rattle.walk.specs.Rows.{Row, Lists, shortest, rowAt, root}
+use Rattle.walk.specs.Refusals.{fails, passes}
+use Rattle.walk.specs.Rows.{Lists, shortest, rowAt, root}
 use Rattle.walk.specs.Answers.{HopLength, floorBest, latest}
 use Rattle.walk.specs.Meaning.{Damage, short, rootless, breaks, OnPath, empty, walked}
 use Rattle.walk.specs.declared.record.Record.{Record}

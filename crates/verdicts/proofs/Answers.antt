@@ -1,5 +1,5 @@
 -- Verdicts by their numbers: what an action and reads make, and that number, action, reads and case tell two verdicts apart.
-use Prim.Native.Nat.{ℕ, zero, suc, _+_, _≤_, _<_}
+use Prim.Native.Nat.{ℕ, _+_, _<_}
 use mathlib.Core.Path.{_≡_, refl, sym, ap, _∙_}
 use mathlib.Core.Bool.{Bool, true, false, cond}
 use mathlib.Core.Logic.{_↔_}
@@ -10,7 +10,7 @@ use lib.Dec.{eqb}
 use borrow.Author.Tests.{eqb-true, eqb-false, ne-eqb}
 use Rattle.table.specs.Limits.{discardHop}
 use Rattle.walk.specs.Answers.{answer}
-use Rattle.walk.specs.declared.walk.Answer.the-variants.{Match, NoRoute}
+use Rattle.walk.specs.declared.walk.Answer.the-variants.{Match}
 use Rattle.walk.specs.declared.walk.Answer as found
 use Rattle.verdicts.specs.Classify.{onward}
 use Rattle.verdicts.specs.Verdicts.{verdictNumber, actionOf, verdictReads, VerdictCase, verdict}

@@ -1,8 +1,8 @@
 -- The verdicts that the promise allows: the classification's is one (and there is no other, `classified-unique`).
-use Prim.Native.Nat.{ℕ, zero, suc, _+_, _^_, _≤_, _<_}
-use mathlib.Core.Path.{_≡_, refl, sym, ap, subst, _∙_}
+use Prim.Native.Nat.{ℕ, _+_, _^_, _≤_, _<_}
+use mathlib.Core.Path.{_≡_, refl, ap, subst, _∙_}
 use mathlib.Core.Bool.{Bool, true, false, cond, true≢false, _||_}
-use mathlib.Core.List.{List, [], _∷_, _++_}
+use mathlib.Core.List.{List, _++_}
 use mathlib.Core.Logic.{_⊎_, inl, inr, ⊎-elim}
 use native.Mathlib.Omega.{arith}
 use native.Mathlib.Decide.{decLe}
@@ -12,16 +12,16 @@ use borrow.Author.Tests.{ltb-true, ltb-false, leb-true, leb-false, ne-eqb}
 use Rattle.table.specs.Limits.{outside}
 use Rattle.walk.specs.Limits.{WIDTH, LEVELS, Outside, Within}
 use Rattle.walk.specs.Refusals.{fails, passes}
-use Rattle.walk.specs.Rows.{Lists, shortest, rowAt}
-use Rattle.walk.specs.Answers.{numberOf, hopOf, readsOf, floorBest, latest}
+use Rattle.walk.specs.Rows.{Lists, shortest}
+use Rattle.walk.specs.Answers.{numberOf, hopOf, readsOf}
 use Rattle.walk.specs.Lookup.{lookupOf}
-use Rattle.walk.specs.Meaning.{Damage, OnPath, Tested, Looked}
+use Rattle.walk.specs.Meaning.{Damage, OnPath, Tested}
 use Rattle.walk.specs.declared.walk.Answer.{Answer}
 use Rattle.walk.proofs.Tests.{outside-cases, within-not}
 use Rattle.walk.proofs.Looked.{looked, damage-refused}
 use Rattle.walk.proofs.Unique.{on-path-unique}
 use Rattle.verdicts.specs.Limits.{VISITS}
-use Rattle.verdicts.specs.Verdicts.{verdictNumber, actionOf, verdictReads, verdict}
+use Rattle.verdicts.specs.Verdicts.{verdict}
 use Rattle.verdicts.specs.Classify.{throughTries, earlyRefusal, fromDest, classifyOf}
 use Rattle.verdicts.specs.Meaning.{VisitsTries, calledFirst, RuleDamage, short-lists, past-all, breaks-dest, breaks-source, Way, RuleTested, Classified}
 use Rattle.verdicts.specs.Visiting.{CanVisit}

@@ -3,14 +3,14 @@
 use mathlib.Core.Path.{_≡_, refl, sym, ap, _∙_}
 use mathlib.Core.List.{List, [], _∷_}
 use mathlib.Core.Bool.{Bool, true, false, cond, not}
-use Prim.Native.Nat.{ℕ, zero, suc, _+_, _-_, _*_, _/_, _^_, _≤_, _<_}
+use Prim.Native.Nat.{ℕ, zero, suc, _+_, _-_, _/_, _≤_, _<_}
 use native.Mathlib.Omega.{arith}
 use lib.ListN.{length, take, drop, length-drop}
 use lib.Dec.{ltb, leb}
 use borrow.Author.Tests.{ltb-true, leb-true}
 use Rattle.table.proofs.Bools.{and-true}
 use Rattle.table.specs.Lists.{padded}
-use Rattle.walk.specs.Limits.{WIDTH, LEVELS, Within}
+use Rattle.walk.specs.Limits.{WIDTH}
 use Rattle.walk.specs.Rows.{Lists, lists}
 use Rattle.walk.specs.Answers.{readsOf}
 use Rattle.walk.specs.Lookup.{lookupOf}
@@ -20,7 +20,7 @@ use Rattle.walk.proofs.Reading.{reads-most}
 use Rattle.walk.specs.declared.walk.Answer.{Answer}
 use Rattle.walk.specs.declared.walk.Answer.the-variants.{Match, Discard, NoRoute, Refused}
 use Rattle.verdicts.specs.Limits.{TRIE-ROW}
-use Rattle.verdicts.specs.Tries.{TrieRow, trieRow, sourceRecord, fromPlace}
+use Rattle.verdicts.specs.Tries.{trieRow, sourceRecord, fromPlace}
 use Rattle.verdicts.specs.Classify.{visitable, onward, lookedUp, sourceOf, throughTries}
 use Rattle.verdicts.specs.Visiting.{CanVisit, Visitable}
 use Rattle.verdicts.specs.declared.visiting.Verdict.{Verdict}

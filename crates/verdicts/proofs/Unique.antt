@@ -1,19 +1,18 @@
 -- One classification, one verdict: two verdicts that the promise's meaning allows are equal. From the meaning alone; nothing here knows
 -- how a verdict is computed.
-use Prim.Native.Nat.{ℕ, zero, suc, _+_, _≤_, _<_}
+use Prim.Native.Nat.{ℕ, _+_}
 use mathlib.Core.Path.{_≡_, refl, sym, ap, ap₂, subst, _∙_}
-use mathlib.Core.Bool.{Bool, true, false}
-use mathlib.Core.List.{List, [], _∷_, _++_}
+use mathlib.Core.Bool.{Bool, true}
+use mathlib.Core.List.{List, _∷_, _++_}
 use native.Mathlib.Omega.{arith}
 use native.Mathlib.Decide.{decLe}
 use lib.ListN.{length}
 use Rattle.walk.specs.Rows.{Lists}
-use Rattle.walk.specs.Meaning.{OnPath}
 use Rattle.walk.proofs.Unique.{test-unique, on-path-unique}
 use Rattle.verdicts.specs.Limits.{VISITS}
-use Rattle.verdicts.specs.Tries.{TrieRow, trieRow, atPlace}
+use Rattle.verdicts.specs.Tries.{trieRow, atPlace}
 use Rattle.verdicts.specs.Verdicts.{verdictNumber, actionOf, verdictReads}
-use Rattle.verdicts.specs.Meaning.{BadTrie, SourcePath, actionOn, VisitsTries, no-more, too-many, broken-off, matched-in, goes-on, calledFirst, Way, RuleTested, Classified}
+use Rattle.verdicts.specs.Meaning.{SourcePath, actionOn, VisitsTries, no-more, too-many, broken-off, matched-in, goes-on, calledFirst, Way, RuleTested, Classified}
 use Rattle.verdicts.specs.declared.record.RuleRecord.{RuleRecord}
 use Rattle.verdicts.specs.declared.visiting.Verdict.{Verdict}
 use Rattle.verdicts.proofs.Answers.{refusal-bare, verdict-unique}

@@ -1,19 +1,17 @@
 -- The way through the source tries as the meaning has it: what the exact rule answers is what some visiting says.
-use Prim.Native.Nat.{ℕ, zero, suc, _+_, _*_, _/_, _≤_, _<_}
-use mathlib.Core.Path.{_≡_, refl, sym, ap, subst, _∙_}
+use Prim.Native.Nat.{ℕ, zero, suc, _+_, _/_, _<_}
+use mathlib.Core.Path.{_≡_, refl, sym, ap, _∙_}
 use mathlib.Core.Bool.{Bool, true, false, cond, true≢false}
-use mathlib.Core.List.{List, [], _∷_, _++_, map}
+use mathlib.Core.List.{List, [], _∷_, _++_}
 use native.Mathlib.Omega.{arith}
 use native.Mathlib.Decide.{decLe}
-use native.Mathlib.Nat.{add-zero, add-assoc}
-use lib.Dec.{ltb, leb}
+use native.Mathlib.Nat.{add-zero}
 use lib.ListN.{length}
 use borrow.Author.Tests.{lt-ltb, le-leb}
-use Rattle.table.specs.Limits.{widthLimit}
-use Rattle.walk.specs.Limits.{WIDTH, LEVELS}
-use Rattle.walk.specs.Rows.{Lists, rowAt}
-use Rattle.walk.specs.Answers.{numberOf, hopOf, lengthOf, readsOf, HopLength, Carries, floorBest, latest, answer}
-use Rattle.walk.specs.Meaning.{Damage, OnPath, Tested, Looked}
+use Rattle.walk.specs.Limits.{WIDTH}
+use Rattle.walk.specs.Rows.{Lists}
+use Rattle.walk.specs.Answers.{numberOf, lengthOf, answer}
+use Rattle.walk.specs.Meaning.{Damage, Tested, Looked}
 use Rattle.walk.specs.Refusals.{fails, passes}
 use Rattle.walk.specs.declared.record.Record.{Record}
 use Rattle.walk.specs.declared.walk.Answer.{Answer}
@@ -21,11 +19,11 @@ use Rattle.walk.proofs.Answers.{accepted-is}
 use Rattle.walk.proofs.Tests.{within-not}
 use Rattle.walk.proofs.Looked.{looked, tested-refused, damage-refused}
 use Rattle.verdicts.specs.Limits.{TRIE-ROW}
-use Rattle.verdicts.specs.Tries.{TrieRow, trieRow, sourceRecord, fromPlace, atPlace}
+use Rattle.verdicts.specs.Tries.{trieRow, sourceRecord, fromPlace, atPlace}
 use Rattle.verdicts.specs.Verdicts.{verdict}
 use Rattle.verdicts.specs.Classify.{visitable, onward, lookedUp, sourceOf, throughTries}
 use Rattle.verdicts.specs.Meaning.{BadTrie, past-list, past-rows, breaks-rule, SourcePath, actionOn, VisitsTries, no-more, too-many, broken-off, matched-in, goes-on}
-use Rattle.verdicts.specs.Visiting.{CanVisit, Visitable}
+use Rattle.verdicts.specs.Visiting.{CanVisit}
 use Rattle.verdicts.specs.declared.record.RuleRecord.{RuleRecord}
 use Rattle.verdicts.specs.declared.visiting.Verdict.{Verdict}
 use Rattle.verdicts.specs.declared.visiting.Verdict.the-variants.{NoRule, Refused}

@@ -13,7 +13,7 @@ use Rattle.walk.specs.Lookup.{lookupOf}
 use Rattle.walk.specs.declared.walk.Answer.{Answer}
 use Rattle.walk.specs.declared.walk.Answer.the-variants.{Match, Discard, NoRoute}
 use Rattle.verdicts.specs.Limits.{TRIE-ROW, VISITS}
-use Rattle.verdicts.specs.Tries.{TrieRow, trieRow, sourceRecord, fromPlace}
+use Rattle.verdicts.specs.Tries.{trieRow, sourceRecord, fromPlace}
 use Rattle.verdicts.specs.declared.record.RuleRecord.{RuleRecord}
 use Rattle.verdicts.specs.declared.visiting.Verdict.{Verdict}
 use Rattle.verdicts.specs.declared.visiting.Verdict.the-variants.{Act, NoRule, Refused}

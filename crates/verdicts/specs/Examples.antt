@@ -10,7 +10,7 @@ use Rattle.walk.specs.Limits.{WIDTH, LEVELS}
 use Rattle.walk.specs.Rows.{Lists, rowOf}
 use Rattle.walk.specs.Answers.{newBest, latest, answer}
 use Rattle.walk.specs.Lookup.{readable, trail, tell, pathOf, unfit, refusalOf, lookupOf}
-use Rattle.verdicts.specs.Tries.{TrieRow, trieRow}
+use Rattle.verdicts.specs.Tries.{trieRow}
 use Rattle.verdicts.specs.Classify.{visitable, onward, lookedUp, sourceOf, throughTries, earlyRefusal, fromDest, classifyOf}
 use Rattle.verdicts.specs.declared.record.RuleRecord.{RuleRecord}
 use Rattle.verdicts.specs.declared.visiting.Verdict.{Verdict}

@@ -16,7 +16,7 @@ use Rattle.walk.specs.Answers.{floorBest, latest}
 use Rattle.walk.specs.declared.record.Record.{Record}
 use Rattle.walk.specs.Meaning.{Damage, OnPath}
 use Rattle.verdicts.specs.Limits.{TRIE-ROW, VISITS}
-use Rattle.verdicts.specs.Tries.{TrieRow, trieRow, sourceRecord, fromPlace, atPlace}
+use Rattle.verdicts.specs.Tries.{trieRow, sourceRecord, fromPlace, atPlace}
 use Rattle.verdicts.specs.Verdicts.{verdictNumber, actionOf, verdictReads, VerdictCase}
 use Rattle.verdicts.specs.declared.record.RuleRecord.{RuleRecord}
 use Rattle.verdicts.specs.declared.visiting.Verdict.{Verdict}

@@ -5,7 +5,7 @@ use lib.ListN.{length}
 use Rattle.walk.specs.Limits.{WIDTH, LEVELS, Within}
 use Rattle.walk.specs.Rows.{Lists, shortest}
 use Rattle.verdicts.specs.Limits.{TRIE-ROW}
-use Rattle.verdicts.specs.Tries.{TrieRow, trieRow}
+use Rattle.verdicts.specs.Tries.{trieRow}
 
 -- e is the E of all tries
 pub record CanVisit (W k e : ℕ) (ls : Lists) (source : ℕ) : Type 0 where

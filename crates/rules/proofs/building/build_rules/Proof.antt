@@ -1,11 +1,10 @@
 use Rattle.rules.specs.Splitting.{SplitRules, CanSplit}
 use Rattle.rules.specs.Building.{SplitBuilt}
-use Prim.Native.Nat.{ℕ, _+_, _-_, _≤_, _<_}
-use mathlib.Core.Path.{_≡_, refl, sym, ap, subst, _∙_}
-use mathlib.Core.Bool.{true, false}
-use mathlib.Core.List.{List}
+use Prim.Native.Nat.{_-_, _<_}
+use mathlib.Core.Path.{_≡_, sym, subst, _∙_}
+use mathlib.Core.Bool.{false}
 use native.Mathlib.Omega.{arith}
-use lib.ListN.{length, take}
+use lib.ListN.{length}
 use Rattle.table.specs.Limits.{outside}
 use Rattle.walk.specs.Limits.{WIDTH, LEVELS, Within}
 use Rattle.walk.specs.Rows.{Lists, lists}

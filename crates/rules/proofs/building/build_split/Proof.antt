@@ -1,10 +1,9 @@
-use Prim.Native.Nat.{ℕ, _/_, _≤_, _<_}
-use mathlib.Core.Path.{_≡_, refl, sym, ap, _∙_}
+use Prim.Native.Nat.{ℕ, _/_}
+use mathlib.Core.Path.{_≡_, ap, _∙_}
 use native.Mathlib.Omega.{arith}
 use lib.ListN.{length, replicate}
 use Rattle.walk.specs.Rows.{lists}
 use Rattle.choosers.specs.Kinds.{kindOf}
-use Rattle.choosers.specs.Scratch.{ROW}
 use Rattle.rules.specs.Splitting.{splitRules}
 use Rattle.rules.proofs.Steps.{all-roomy, scratch-short, split-built}
 use borrow.Author.Needs.{needs}

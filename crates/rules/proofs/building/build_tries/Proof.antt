@@ -1,5 +1,4 @@
-use Prim.Native.Nat.{ℕ, _+_, _*_, _≤_}
-use mathlib.Core.Path.{_≡_, refl, sym, _∙_}
+use mathlib.Core.Path.{_∙_}
 use Rattle.walk.specs.Rows.{Lists, lists}
 use Rattle.choosers.specs.Kinds.{kindOf}
 use Rattle.rules.specs.Splitting.{SplitRules, splitRules}

@@ -1,7 +1,5 @@
-use Prim.Native.Nat.{ℕ, _+_, _*_, _≤_}
-use mathlib.Core.Path.{_≡_, refl, sym, _∙_}
+use mathlib.Core.Path.{refl}
 use native.Mathlib.Omega.{arith}
-use Rattle.walk.specs.Rows.{lists}
 use Rattle.choosers.specs.Kinds.{kindOf}
 use Rattle.rules.specs.Splitting.{SplitRules, splitRules}
 use Rattle.rules.proofs.Steps.{may-lay-dest, may-lay-sources, elements-few, all-laid}

@@ -2,7 +2,7 @@ use Rattle.tries.specs.Build.{roomTest}
 use Rattle.walk.specs.Rows.{lists, shortest}
 use Rattle.rules.specs.Build.{listTest}
 use Rattle.table.specs.Refusals.{outcome}
-use mathlib.Core.Path.{_≡_, refl, sym, _∙_}
+use mathlib.Core.Path.{sym, _∙_}
 use mathlib.Core.List.{[], _∷_}
 use lib.ListN.{length}
 use borrow.Author.Tests.{lt-ltb, le-ltb}

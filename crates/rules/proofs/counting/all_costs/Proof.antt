@@ -1,8 +1,7 @@
-use Prim.Native.Nat.{ℕ, suc, _+_, _-_, _*_, _≤_, _<_}
-use mathlib.Core.Path.{_≡_, refl, sym, ap, _∙_}
+use Prim.Native.Nat.{ℕ, suc, _-_, _≤_}
+use mathlib.Core.Path.{_≡_, refl, ap, _∙_}
 use native.Mathlib.Omega.{arith}
 use lib.ListN.{length}
-use Rattle.strides.specs.Trie.{Trie, size}
 use Rattle.strides.specs.Recurrence.{plain, leastBy}
 use Rattle.choosers.specs.Kinds.{kindOf}
 use Rattle.fields.specs.Runs.{sumFirst}

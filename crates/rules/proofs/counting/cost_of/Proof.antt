@@ -1,13 +1,12 @@
-use Prim.Native.Nat.{ℕ, _*_, _-_, _≤_}
+use Prim.Native.Nat.{_*_, _-_}
 use native.Mathlib.Omega.{arith}
-use lib.ListN.{length, take, drop, length-take}
+use lib.ListN.{length-take}
 use Rattle.strides.specs.Recurrence.{plain, leastBy}
 use Rattle.layout.specs.Laid.{tableTrie}
 use Rattle.choosers.specs.Kinds.{kindOf}
 use Rattle.choosers.specs.Scratch.{ROW}
-use Rattle.table.specs.Refusals.{outcome}
 use Rattle.table.specs.declared.entry.Outcome.{Outcome}
-use mathlib.Core.Path.{_≡_, refl, sym, ap, _∙_}
+use mathlib.Core.Path.{ap, _∙_}
 use Rattle.choosers.specs.Chooser.{ifAccepted}
 use Rattle.rules.proofs.Planning.{plan-passes}
 use borrow.Author.Needs.{needs}

@@ -1,5 +1,4 @@
-use mathlib.Core.Path.{_≡_, refl, sym, ap, _∙_}
-use Rattle.rules.proofs.Planning.{no-nodes, some-nodes, plan-passes}
+use Rattle.rules.proofs.Planning.{no-nodes, some-nodes}
 use borrow.Author.Needs.{needs}
 use Rattle.rules.proofs.counting.nodes_of.Statement.{statement}
 use Rattle.rules.proofs.counting.nodes_of.Tie as tie

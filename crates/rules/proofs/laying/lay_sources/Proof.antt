@@ -1,12 +1,10 @@
-use Prim.Native.Nat.{ℕ, suc, _+_, _-_, _*_, _≤_, _<_}
-use mathlib.Core.Path.{_≡_, refl, sym, ap, subst, _∙_}
-use mathlib.Core.List.{List}
+use Prim.Native.Nat.{ℕ, _+_, _-_}
+use mathlib.Core.Path.{_≡_, refl, subst, _∙_}
 use native.Mathlib.Omega.{arith}
 use lib.ListN.{length}
-use Rattle.table.specs.Table.{Table}
-use Rattle.walk.specs.Rows.{Lists, lists}
+use Rattle.walk.specs.Rows.{lists}
 use Rattle.choosers.specs.Kinds.{kindOf}
-use Rattle.rules.specs.Splitting.{SplitRules, splitRules}
+use Rattle.rules.specs.Splitting.{splitRules}
 use Rattle.rules.specs.Laying.{LaidTo}
 use Rattle.rules.proofs.Links.{table-short}
 use Rattle.rules.proofs.Standing.{laid-none, laid-next, may-part, may-lay, may-list, place-few}

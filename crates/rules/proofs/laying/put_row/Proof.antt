@@ -1,7 +1,5 @@
-use Prim.Native.Nat.{ℕ, _+_, _*_, _≤_, _<_}
-use mathlib.Core.Path.{_≡_, refl, sym, ap, _∙_}
 use native.Mathlib.Omega.{arith}
-use lib.ListN.{length, set, getD, length-set}
+use lib.ListN.{length-set}
 use Rattle.rules.proofs.Listing.{puts-row}
 use borrow.Author.Needs.{needs}
 use Rattle.rules.proofs.laying.put_row.Statement.{statement}

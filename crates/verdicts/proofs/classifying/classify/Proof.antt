@@ -1,14 +1,13 @@
-use Prim.Native.Nat.{ℕ, _≤_, _<_}
+use Prim.Native.Nat.{ℕ}
 use mathlib.Core.Path.{_≡_, refl, sym, ap, ap₂, _∙_}
 use mathlib.Core.List.{[], _∷_}
 use mathlib.Core.Logic.{_⊎_, ⊎-elim}
 use native.Mathlib.Omega.{arith}
 use types.Run.{OneOf}
 use denote.Enum.Declared.{tagOf}
-use Rattle.walk.specs.Limits.{WIDTH, LEVELS}
+use Rattle.walk.specs.Limits.{WIDTH}
 use Rattle.walk.specs.Rows.{lists, shortest}
 use Rattle.walk.specs.Answers.{numberOf, hopOf, readsOf}
-use Rattle.walk.specs.Lookup.{lookupOf}
 use Rattle.walk.specs.declared.walk.Answer.{Answer}
 use Rattle.walk.specs.declared.walk.Answer.the-variants.{Match, Discard, NoRoute, Refused}
 use Rattle.walk.proofs.walk.Answer as answers

@@ -1,7 +1,7 @@
 use Prim.Native.Nat.{_^_}
 use mathlib.Core.Path.{_≡_, sym, _∙_}
 use mathlib.Core.Bool.{false}
-use lib.Dec.{leb, ltb}
+use lib.Dec.{leb}
 use borrow.Author.Tests.{lt-ltb, le-ltb}
 use Rattle.walk.specs.Limits.{WIDTH, LEVELS}
 use Rattle.table.specs.Limits.{outside}

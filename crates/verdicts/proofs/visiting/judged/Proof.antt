@@ -1,7 +1,5 @@
-use Prim.Native.Nat.{ℕ, _+_, _<_, _^_}
-use mathlib.Core.Path.{_≡_, refl, sym, ap, _∙_}
+use mathlib.Core.Path.{refl}
 use native.Mathlib.Omega.{arith}
-use Rattle.walk.specs.Answers.{readsOf}
 use Rattle.verdicts.specs.Classify.{onward}
 use borrow.Author.Needs.{needs}
 use Rattle.verdicts.proofs.visiting.judged.Statement.{statement}

@@ -1,5 +1,4 @@
-use Prim.Native.Nat.{ℕ, _+_, _*_, _≤_, _<_}
-use mathlib.Core.Path.{_≡_, refl, sym, ap, _∙_}
+use mathlib.Core.Path.{sym, _∙_}
 use Rattle.table.specs.Lists.{padded}
 use Rattle.verdicts.proofs.Sources.{wide-root, looked-up}
 use borrow.Author.Needs.{needs}

@@ -1,6 +1,5 @@
-use mathlib.Core.Path.{_≡_, refl, sym, ap, _∙_}
-use mathlib.Core.Bool.{true}
-use Rattle.verdicts.specs.Classify.{visitable, sourceOf}
+use mathlib.Core.Path.{refl, sym, _∙_}
+use Rattle.verdicts.specs.Classify.{sourceOf}
 use Rattle.verdicts.proofs.Sources.{visitable-is, not-false, not-true}
 use borrow.Author.Needs.{needs}
 use Rattle.verdicts.proofs.visiting.source_answer.Statement.{statement}
