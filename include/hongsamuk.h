@@ -48,7 +48,7 @@
  * A build of rules needs a scratch row (HONGSAMUK_ROW numbers) for each node of all its tries, elements as the detail of 7 says with no
  * element lent, and a row of the list (HONGSAMUK_TRIE_ROW numbers) for each destination: never more than there are rules.
  *
- * A chooser or a build of elements takes some 50,000 bytes of stack, a build of rules some STACK, every other call little.
+ * A chooser or a build of elements takes some 50,000 bytes of stack, a build of rules some 60,000, every other call little.
  *
  * The layout of the structs, in bytes: where each field begins, then the size. The code behind the calls, this header and the calls
  * for Rust all have these numbers; the asserts at the end of this file hold a compiler of C11 or C++11 to them, and the tests of
