@@ -124,8 +124,8 @@ module _ (kind : Kind) (W k : ℕ) (rs : Rules) (scratch : List ℕ) where
       → ((g : ℕ) → g ≤ m → 1 ≤ k → Cheapest kind k (ruleTrie W rs m from g) (least g))
       → Tells (ruleBuildTests W k rs (length scratch) (shortest rows) (length list) m from least) (r .number) (r .detail)
   built-rules-tells {rows} {list = list} t m from least runs c =
-      rw (t .2)
-      (gives-tells 7 (ruleBuildTests W k rs (length scratch) (shortest rows) (length list) m from least) (numbered-rule-build (shortest rows) (length list) m from least) (t .0 .outcome) (t .1 .tested m from least runs c))
+      let numbered = numbered-rule-build (shortest rows) (length list) m from least in
+      rw (t .2) (gives-tells 7 (ruleBuildTests W k rs (length scratch) (shortest rows) (length list) m from least) numbered (t .0 .outcome) (t .1 .tested m from least runs c))
 
 pub classify-tells : (rec : RuleRecord) (ls : Lists) (list : List ℕ) (dest source : ℕ) {r : VerdictNumbers}
     → Told (Classified rec ls list dest source WIDTH) verdictNumbers r → RuleTested rec ls list dest source WIDTH (r .number)
