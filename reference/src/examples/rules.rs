@@ -345,6 +345,28 @@ fn nothing_off_the_paths_counts() {
     }
 }
 
+/// The same arrays with one row more in each element list.
+fn longer(left: &mut Left) -> &mut Left {
+    left.rows.hop.push(0);
+    left.rows.length.push(0);
+    left.rows.link.push(0);
+    left.rows.stride.push(0);
+    left
+}
+
+/// Rows past the E of all tries and numbers past the rows of the source tries stay, a part row of scratch is zeroed.
+#[test]
+fn later_rows_are_kept() {
+    for kind in KINDS {
+        let (exact, (outcome, left)) = (built(kind, 1, &figure(4)), tried(kind, 1, &figure(4), 14 * 72 + 71, 50, 24));
+        assert_eq!((outcome, left.record), (Ok(()), exact.record));
+        assert_eq!((&left.rows.hop[..44], &left.list[..15]), (&exact.rows.hop[..], &exact.list[..]));
+        assert_eq!((&left.rows.hop[44..], &left.rows.length[44..]), (&[9; 6][..], &[5; 6][..]));
+        assert_eq!((&left.rows.link[44..], &left.rows.stride[44..]), (&[9; 6][..], &[9; 6][..]));
+        assert_eq!(left.list[15..], [9; 9]);
+    }
+}
+
 /// Things to be changed in what the seven rules leave with one level at W = 4, and what a pair then meets that visits all three
 /// tries: destination 0001, source 0111.
 #[test]
@@ -362,6 +384,10 @@ fn damaged_arrays() {
     assert_eq!(damage(&|left| left.rows.length.truncate(43)), Err(Damage::ListsTooShort));
     assert_eq!(damage(&|left| left.record.dest.elements = 45), Err(Damage::DestinationPastEnd));
     assert_eq!(damage(&|left| left.record.dest.elements = 44), Ok(()));
+    // The lists are longer than all tries; the destinations' rows run past these.
+    assert_eq!(damage(&|left| longer(left).record.dest.elements = 45), Err(Damage::DestinationPastEnd));
+    assert_eq!(damage(&|left| longer(left).record.dest.elements = 44), Ok(()));
+    assert_eq!(damage(&|left| longer(left).list[13] = 9), Err(Damage::SourcePastEnd));
     assert_eq!(damage(&|left| left.record.dest.strides[0] = 0), outside(lookup::Damage::RootStrideZero));
     assert_eq!(damage(&|left| left.record.dest.strides[0] = 5), outside(lookup::Damage::StrideTooLong));
     assert_eq!(damage(&|left| left.record.dest.elements = 1), outside(lookup::Damage::RowPastEnd));
