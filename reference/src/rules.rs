@@ -5,7 +5,7 @@
 
 use crate::build::{lay, test_levels, Elements, Record, ELEMENTS, SCRATCH_ROW};
 use crate::choices::{choose, Choice, Kind, LEVELS};
-use crate::lookup::{self, walk, Path};
+use crate::lookup::{self, walk, walk_in, Path};
 use crate::table::{bits, malformed, refuse, test_width, Refusal, Table, DISCARD};
 use crate::trie::Trie;
 use std::collections::BTreeMap;
@@ -366,14 +366,8 @@ impl SourceTrie {
         if self.root > dest.width {
             return Err(lookup::Damage::StrideTooLong);
         }
-        let (first, end) = (self.place as usize, self.place as usize + self.elements as usize);
-        let part = Elements {
-            hop: rows.hop[first..end].to_vec(),
-            length: rows.length[first..end].to_vec(),
-            link: rows.link[first..end].to_vec(),
-            stride: rows.stride[first..end].to_vec(),
-        };
         let (width, levels, strides) = (dest.width, dest.levels, [self.root as u8; LEVELS]);
-        walk(&Record { width, levels, elements: self.elements, floor: self.floor, strides }, &part, source)
+        let record = Record { width, levels, elements: self.elements, floor: self.floor, strides };
+        walk_in(&record, rows.part(self.place as usize), source)
     }
 }
