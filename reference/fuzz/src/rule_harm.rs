@@ -60,7 +60,7 @@ fn harm_list(arrays: &mut Arrays, random: &mut Random) {
         }
         3 => row[3] = pick(random, &[0, row[3].wrapping_add(1), row[3].wrapping_sub(1), e, u32::MAX]),
         4 => (row[1], row[2], row[3]) = (0, pick(random, &[0, e, e.wrapping_add(1), u32::MAX]), 0),
-        5 => row[4] = pick(random, &[0, 1, own, last, last + 1, 1024, 65535, u32::MAX]),
+        5 => row[4] = pick(random, &[0, 1, own, last, last + 1, 1024, 65535, 65536, 65537, u32::MAX]),
         6 => row[4] = random.within(1, u64::from(last)) as u32,
         7 => row[random.within(0, 4) as usize] = random.next() as u32,
         _ => arrays.list.chunks_exact_mut(TRIE_ROW).for_each(|row| row[4] = own),
