@@ -8,9 +8,10 @@
 //!   with sevens), of the element lists hop, length, link and stride (the lengths filled with fives, the others with nines), and of
 //!   the list of tries, in numbers (filled with nines). The answer is the outcome; the destination's record: `width`, `levels`,
 //!   `elements`, `floor`, `strides` and its 32; `all`, the E of all tries; scratch's `zeros` and `sevens`; `kept`, how many
-//!   marks each element list has from row E of all tries on; and `nines`, how many there are in the whole list of tries.
+//!   marks each element list has from row E of all tries on, in the same order; and `nines`, how many there are in the whole
+//!   list of tries.
 //! - `print` prints `rows`, the element rows 0 to E - 1 of all tries as hop/length/link/stride, as far as the shortest list
-//!   goes, then `list` and every number of the list of tries as it was lent.
+//!   goes, then `list` and every number of the list of tries.
 //! - `look D S` asks for a destination and a source in the last record and lists. The answer is `act`, the action, `reads` and their
 //!   number; or `discard reads` and their number; or `none reads` and their number; or `refused` and the refusal.
 //! - `sweep D S` asks for all destinations below D, and with each for all sources below S, each answer as action/reads (d for
@@ -21,7 +22,8 @@
 //!   which may be past their ends. Its answer is `record`.
 //!
 //! A line with another word, or with a list longer than the program's room or than what the line gives for it, is answered `bad
-//! line` and changes nothing.
+//! line` and changes nothing. The room is 65,600 rules, 600,000 words of scratch, 20,000 rows of each element list and 8,740 numbers
+//! of the list of tries. Before the first line there are no rules, a record of zeros and empty lists.
 
 mod harmed;
 mod made;
