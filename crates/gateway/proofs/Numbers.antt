@@ -6,7 +6,7 @@ use mathlib.Core.Logic.{inl, inr}
 use Prim.Native.Nat.{ℕ, suc, _≤_}
 use native.Mathlib.Omega.{arith}
 use lib.ListN.{length}
-use Rattle.table.specs.Refusals.{outcomeNumber, outcomeDetail, Test, Gives, Tells, Numbered}
+use Rattle.table.specs.Refusals.{outcomeNumber, outcomeDetail, Gives, Tells, Numbered}
 use Rattle.table.specs.Table.{tableTests}
 use Rattle.table.specs.Answers.{Told, sharedOutcome, sharedTests, Shares, spanOutcome, zoneTests, Spans}
 use Rattle.table.specs.declared.entry.Outcome.{Outcome}
@@ -104,19 +104,13 @@ pub lookup-bitmap-tells : (rec : Bitmap) (rows : RowLists) (hops : List ℕ) (ad
     → Told (LookedBitmap WIDTH rec rows hops address) answerNumbers r → BitmapTested WIDTH rec rows hops address (r .number)
 lookup-bitmap-tells rec rows hops address t = rw (t .2) (t .1 .tested)
 
--- ---- rules of two fields
-
-numbered-higher : (a b : ℕ) (ts : List Test) → a ≤ b → Numbered a ts → Numbered b ts
-numbered-higher a b [] h p = tt
-numbered-higher a b (t ∷ ts) h p = ((p .0 .0, omega (arith, p .0 .1)), numbered-higher a b ts h (p .1))
-
 module _ (kind : Kind) (W k : ℕ) (rs : Rules) (scratch : List ℕ) where
   numbered-rule-build : (room places m : ℕ) (from least : ℕ → ℕ) → Numbered 7 (ruleBuildTests W k rs (length scratch) room places m from least)
   unfolding ruleBuildTests
   numbered-rule-build room places m from least =
       let early = ruleScratchTests W k rs (length scratch) m from in
       numbered-append 7 early (roomTest (sumFirst least (suc m)) room ∷ listTest places m ∷ [])
-      (numbered-higher 6 7 early (omega arith) (numbered-rule-scratch W k rs (length scratch) m from)) ((omega arith, omega arith), ((omega arith, omega arith), tt))
+      (numbered-rule-scratch W k rs (length scratch) m from 7 (omega arith)) ((omega arith, omega arith), ((omega arith, omega arith), tt))
 
   -- where the rules have m destinations, and the cheapest choice of each trie costs `least`
   pub built-rules-tells : {rows rows′ : Lists} {list s list′ : List ℕ} {r : BuiltRulesNumbers}

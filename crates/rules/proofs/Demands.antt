@@ -82,7 +82,7 @@ module _ {kind : Kind} {W k : ℕ} {rs : Rules} {scratch : List ℕ} {rows : Lis
       go Accepted p = subst (Gives tests) p (outcome-gives tests)
       go (Refused n x) p =
           let g = subst (Gives tests) p (outcome-gives tests) in
-          absurd (omega (arith, refused-number 6 tests n x (numbered-rule-scratch W k rs (length scratch) m from) g, late n x (rules-early r g .0)))
+          absurd (omega (arith, refused-number 6 tests n x (numbered-rule-scratch W k rs (length scratch) m from 6 (omega arith)) g, late n x (rules-early r g .0)))
 
   own-runs : RunsOf rs (runCount (at (rs .dvals)) (at (rs .dlens)) (ruleCount rs)) (runFrom (at (rs .dvals)) (at (rs .dlens)) (ruleCount rs))
   own-runs = runs-exist (at (rs .dvals)) (at (rs .dlens)) (ruleCount rs)

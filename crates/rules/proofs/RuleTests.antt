@@ -2,7 +2,7 @@
 use mathlib.Core.Path.{_≡_, ap, _∙_}
 use mathlib.Core.Bool.{false}
 use mathlib.Core.List.{List, [], _∷_, _++_}
-use Prim.Native.Nat.{ℕ, suc}
+use Prim.Native.Nat.{ℕ, suc, _≤_}
 use native.Mathlib.Omega.{arith}
 use Rattle.table.specs.Refusals.{Test, outcome, Numbered, andThen}
 use Rattle.table.specs.Table.{widthTest}
@@ -40,11 +40,11 @@ module _ (W k : ℕ) (rs : Rules) (words m : ℕ) (from : ℕ → ℕ) where
   unfolding ruleTests
   scratch-tests-good e = let p = past-width e in rules-good W rs (outcome-passes (widthTest W) (ruleListTests W rs) (p .0) ∙ p .2)
 
-  pub numbered-rule-scratch : Numbered 6 (ruleScratchTests W k rs words m from)
+  pub numbered-rule-scratch : (most : ℕ) → 6 ≤ most → Numbered most (ruleScratchTests W k rs words m from)
   unfolding ruleScratchTests ruleTests
-  numbered-rule-scratch =
-      let n = numbered-rules W rs 6 (omega arith) in
-      (n .0, ((omega arith, omega arith), numbered-append 6 (ruleListTests W rs) lastTest (n .1) ((omega arith, omega arith), tt)))
+  numbered-rule-scratch most h =
+      let n = numbered-rules W rs most (omega arith) in
+      (n .0, ((omega arith, omega arith), numbered-append most (ruleListTests W rs) lastTest (n .1) ((omega arith, omega arith), tt)))
 
   -- 7 comes after them
   module _ (room places : ℕ) (least : ℕ → ℕ) where
