@@ -1,22 +1,22 @@
 -- What the numbers tell: 0 says that the call was accepted, any other number that the test of that number was the first to fail,
 -- with that detail: no test has the number 0.
 use mathlib.Core.Path.{_≡_, ap, subst}
-use mathlib.Core.List.{List, [], _∷_}
+use mathlib.Core.List.{List}
 use mathlib.Core.Logic.{inl, inr}
-use Prim.Native.Nat.{ℕ, suc, _≤_}
+use Prim.Native.Nat.{ℕ, _≤_}
 use native.Mathlib.Omega.{arith}
 use lib.ListN.{length}
-use Rattle.table.specs.Refusals.{outcomeNumber, outcomeDetail, Gives, Tells, Numbered}
+use Rattle.table.specs.Refusals.{outcomeNumber, outcomeDetail, Gives, Tells}
 use Rattle.table.specs.Table.{tableTests}
 use Rattle.table.specs.Answers.{Told, sharedOutcome, sharedTests, Shares, spanOutcome, zoneTests, Spans}
 use Rattle.table.specs.declared.entry.Outcome.{Outcome}
-use Rattle.table.proofs.Numbered.{numbered-append, gives-tells, numbered-table, numbered-zone, numbered-shared}
+use Rattle.table.proofs.Numbered.{gives-tells, numbered-table, numbered-zone, numbered-shared}
 use Rattle.strides.specs.Cheapest.{Kind, Cheapest}
 use Rattle.walk.specs.Limits.{WIDTH}
 use Rattle.walk.specs.Rows.{Lists, shortest}
 use Rattle.layout.specs.Laid.{tableTrie}
 use Rattle.choosers.specs.Chooser.{chooseTests}
-use Rattle.tries.specs.Build.{roomTest, buildTests}
+use Rattle.tries.specs.Build.{buildTests}
 use Rattle.walk.specs.Meaning.{Tested, Looked}
 use Rattle.choosers.proofs.ChooseTests.{numbered-choose}
 use Rattle.tries.proofs.BuildSteps.{numbered-build}
@@ -27,11 +27,10 @@ use Rattle.visits.specs.Meaning.{BitmapTested, LookedBitmap}
 use Rattle.supernodes.specs.Build.{bitmapTests}
 use Rattle.supernodes.proofs.Demands.{numbered-bitmap}
 use Rattle.fields.specs.Rules.{Rules}
-use Rattle.fields.specs.Runs.{sumFirst}
 use Rattle.verdicts.specs.Meaning.{RuleTested, Classified}
 use Rattle.verdicts.specs.declared.record.RuleRecord.{RuleRecord}
-use Rattle.rules.specs.Build.{RunsOf, ruleTrie, listTest, ruleScratchTests, ruleBuildTests}
-use Rattle.rules.proofs.RuleTests.{numbered-rule-scratch}
+use Rattle.rules.specs.Build.{RunsOf, ruleTrie, ruleBuildTests}
+use Rattle.rules.proofs.RuleTests.{numbered-rule-build}
 use Rattle.walk.specs.Answers.{answerNumbers}
 use Rattle.gateway.specs.Numbers.{outcomeNumbers, sharedNumbers, spanNumbers, choiceNumbers, buildNumbers, bitmapNumbers, ruleBuildNumbers, verdictNumbers}
 use Rattle.gateway.specs.Allowed.{AllowedChoice, AllowedBuild, AllowedBitmap, AllowedRules}
@@ -105,20 +104,13 @@ pub lookup-bitmap-tells : (rec : Bitmap) (rows : RowLists) (hops : List ℕ) (ad
 lookup-bitmap-tells rec rows hops address t = rw (t .2) (t .1 .tested)
 
 module _ (kind : Kind) (W k : ℕ) (rs : Rules) (scratch : List ℕ) where
-  numbered-rule-build : (room places m : ℕ) (from least : ℕ → ℕ) → Numbered 7 (ruleBuildTests W k rs (length scratch) room places m from least)
-  unfolding ruleBuildTests
-  numbered-rule-build room places m from least =
-      let early = ruleScratchTests W k rs (length scratch) m from in
-      numbered-append 7 early (roomTest (sumFirst least (suc m)) room ∷ listTest places m ∷ [])
-      (numbered-rule-scratch W k rs (length scratch) m from 7 (omega arith)) ((omega arith, omega arith), ((omega arith, omega arith), tt))
-
   -- where the rules have m destinations, and the cheapest choice of each trie costs `least`
   pub built-rules-tells : {rows rows′ : Lists} {list s list′ : List ℕ} {r : BuiltRulesNumbers}
       → Told (AllowedRules kind W k rs scratch rows list s rows′ list′) ruleBuildNumbers r → (m : ℕ) (from least : ℕ → ℕ) → RunsOf rs m from
       → ((g : ℕ) → g ≤ m → 1 ≤ k → Cheapest kind k (ruleTrie W rs m from g) (least g))
       → Tells (ruleBuildTests W k rs (length scratch) (shortest rows) (length list) m from least) (r .number) (r .detail)
   built-rules-tells {rows} {list = list} t m from least runs c =
-      let numbered = numbered-rule-build (shortest rows) (length list) m from least in
+      let numbered = numbered-rule-build W k rs (length scratch) m from (shortest rows) (length list) least in
       rw (t .2) (gives-tells 7 (ruleBuildTests W k rs (length scratch) (shortest rows) (length list) m from least) numbered (t .0 .outcome) (t .1 .tested m from least runs c))
 
 pub classify-tells : (rec : RuleRecord) (ls : Lists) (list : List ℕ) (dest source : ℕ) {r : VerdictNumbers}

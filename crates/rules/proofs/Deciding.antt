@@ -37,7 +37,7 @@ use Rattle.fields.proofs.Top.{entryMatches, top-found, top-none}
 use Rattle.verdicts.specs.Limits.{VISITS}
 use Rattle.verdicts.specs.Tries.{trieRow, sourceRecord, fromPlace, atPlace}
 use Rattle.verdicts.specs.Meaning.{BadTrie, past-list, past-rows, breaks-rule, SourcePath, actionOn, VisitsTries, no-more, matched-in, goes-on}
-use Rattle.verdicts.specs.Meaning.{calledFirst, RuleDamage, short-lists, past-all, breaks-dest, breaks-source, Way, Classified}
+use Rattle.verdicts.specs.Meaning.{calledFirst, RuleDamage, short-lists, past-all, breaks-dest, breaks-source, TriesWay, Classified}
 use Rattle.verdicts.specs.declared.record.RuleRecord.{RuleRecord}
 use Rattle.verdicts.specs.Verdicts.{verdict}
 use Rattle.verdicts.specs.declared.visiting.Verdict.{Verdict}
@@ -195,7 +195,7 @@ module _ {W k : ℕ} {rs : Rules} {m : ℕ} {from : ℕ → ℕ} {σ : ℕ → S
     called-is : calledFirst rec rows list da sa destRows ≡ called
     called-is = rw (← rows-exactly (laid .dest) da hd) (sym (best-path WIDTH _ _ da (accepted (laid .dest) da hd) .0))
 
-    pub laid-way : Way rec rows list da sa triesVisited (rowsOnWay W k rs m from σ list da sa triesVisited) actionFound
+    pub laid-way : TriesWay rec rows list da sa triesVisited (rowsOnWay W k rs m from σ list da sa triesVisited) actionFound
     laid-way = record {
       destRows = destRows;
       sourceRows = rowsThrough list (rowsIn sa hs) triesVisited;

@@ -33,12 +33,12 @@ use Rattle.fields.proofs.Chain.{Falls}
 use Rattle.verdicts.specs.Limits.{TRIE-ROW}
 use Rattle.verdicts.specs.Tries.{trieRow}
 use Rattle.verdicts.specs.Verdicts.{verdictNumber, actionOf, verdictReads}
-use Rattle.verdicts.specs.Meaning.{Way, Classified, SameTries, SameRows}
+use Rattle.verdicts.specs.Meaning.{TriesWay, Classified, SameTries, SameRows}
 use Rattle.verdicts.specs.declared.record.RuleRecord.{RuleRecord}
 use Rattle.verdicts.specs.declared.visiting.Verdict.{Verdict}
 use Rattle.verdicts.specs.declared.visiting.Verdict.the-variants.{Discard, NoRule}
 use Rattle.verdicts.proofs.Answers.{verdict-number, verdict-action}
-use Rattle.verdicts.proofs.Unique.{way-unique}
+use Rattle.verdicts.proofs.Unique.{tries-way-unique}
 use Rattle.verdicts.proofs.Alone.{verdict-path, verdict-few, verdict-alone}
 use Rattle.rules.specs.Build.{RunsOf, ruleTrie, listTest, ruleScratchTests, ruleBuildTests, NoRuleRecord, RuleBuilds}
 use Rattle.rules.specs.Deciding.{ActionIs, TopDiscards, Calls, rowsOnWay}
@@ -176,10 +176,10 @@ module _ {kind : Kind} {W k : ℕ} {rs : Rules} {scratch : List ℕ} {rows : Lis
 
       -- ==== the tries visited, and demand 3's last sentence over the paths in all of them
 
-      module _ {ts on : List ℕ} {a : ℕ} (w : Way rec rows′ list′ da sa ts on a) where
+      module _ {ts on : List ℕ} {a : ℕ} (w : TriesWay rec rows′ list′ da sa ts on a) where
         is-way : (ts ≡ triesVisited (b .laid e .tries) rules-are-good da sa hd hs) × (on ≡ along (triesVisited (b .laid e .tries) rules-are-good da sa hd hs))
             × (a ≡ actionFound (b .laid e .tries) rules-are-good da sa hd hs)
-        is-way = way-unique w (laid-way (b .laid e .tries) rules-are-good da sa hd hs)
+        is-way = tries-way-unique w (laid-way (b .laid e .tries) rules-are-good da sa hd hs)
 
         -- "source tries are visited from the longest matching destination down until one matches": those of the destinations that begin the
         -- address, where no rule that matches has a longer one; each shorter than the one before
@@ -204,9 +204,9 @@ module _ {kind : Kind} {W k : ℕ} {rs : Rules} {scratch : List ℕ} {rows : Lis
         rules-alone other otherList fits tries same = verdict-alone c (rules-decide .0) w other otherList fits tries (rw rules-path same)
 
       -- and there is such a way
-      pub rules-way : (ts : List ℕ) × Way rec rows′ list′ da sa ts (along ts) (actionOf v)
+      pub rules-way : (ts : List ℕ) × TriesWay rec rows′ list′ da sa ts (along ts) (actionOf v)
       rules-way =
-          let t = c .told (rules-decide .0) in (t .0, subst (λ (on : List ℕ). Way rec rows′ list′ da sa (t .0) on (actionOf v)) (rules-path (t .2)) (t .2))
+          let t = c .told (rules-decide .0) in (t .0, subst (λ (on : List ℕ). TriesWay rec rows′ list′ da sa (t .0) on (actionOf v)) (rules-path (t .2)) (t .2))
 
       -- "at most 34 times k"
       pub rules-few : verdictReads v ≤ 34 * k

@@ -32,8 +32,8 @@ use Rattle.choosers.specs.Scratch.{ROW}
 use Rattle.choosers.proofs.ChooseTests.{table-prefixes, tests-scratch, tests-pass}
 use Rattle.rules.specs.Splitting.{CanPlan}
 
-pub inside : {x most : ℕ} → Within x most → outside x most ≡ false
-inside {x} {most} w = outside-cases x most (λ (t : Bool). t ≡ false) (λ o. absurd (within-not w o)) (λ i. refl)
+pub within-inside : {x most : ℕ} → Within x most → outside x most ≡ false
+within-inside {x} {most} w = outside-cases x most (λ (t : Bool). t ≡ false) (λ o. absurd (within-not w o)) (λ i. refl)
 
 module _ {W k : ℕ} {vs ls hs : List ℕ} (can : CanPlan W k vs ls hs) where
   count-is : nodeCount W (at vs) (at ls) (length vs) ≡ size (tableTrie W vs ls hs)
@@ -42,7 +42,7 @@ module _ {W k : ℕ} {vs ls hs : List ℕ} (can : CanPlan W k vs ls hs) where
       node-count W (at vs) (at ls) (length vs) (p .prefix) (p .rises) (entryMarks ls hs) (length vs) (le-refl (length vs))
 
   width-inside : outside W WIDTH ≡ false
-  width-inside = inside (can .table .some-width, can .table .width)
+  width-inside = within-inside (can .table .some-width, can .table .width)
 
   accepted-table-is : checkOf W vs ls hs ≡ Accepted
   accepted-table-is = table-accepted W vs ls hs (can .table)
@@ -50,12 +50,12 @@ module _ {W k : ℕ} {vs ls hs : List ℕ} (can : CanPlan W k vs ls hs) where
   -- with a row for each node the tests 1 to 6 pass
   pub plan-passes : (words : ℕ) → size (tableTrie W vs ls hs) * ROW ≤ words → outcome (chooseTests W k vs ls hs words) ≡ Accepted
   plan-passes words h =
-      tests-pass W k vs ls hs words width-inside (inside (can .levels)) accepted-table-is _ refl (omega (arith, count-is))
+      tests-pass W k vs ls hs words width-inside (within-inside (can .levels)) accepted-table-is _ refl (omega (arith, count-is))
 
   -- with fewer, 6 says how many nodes there are
-  pub plan-refused : (words : ℕ) → words / ROW < size (tableTrie W vs ls hs) → outcome (chooseTests W k vs ls hs words) ≡ Refused 6 (size (tableTrie W vs ls hs))
-  plan-refused words h =
-      tests-scratch W k vs ls hs words width-inside (inside (can .levels)) accepted-table-is _ refl (omega (arith, count-is)) ∙ ap (Refused 6) count-is
+  pub plan-lacks-rows : (words : ℕ) → words / ROW < size (tableTrie W vs ls hs) → outcome (chooseTests W k vs ls hs words) ≡ Refused 6 (size (tableTrie W vs ls hs))
+  plan-lacks-rows words h =
+      tests-scratch W k vs ls hs words width-inside (within-inside (can .levels)) accepted-table-is _ refl (omega (arith, count-is)) ∙ ap (Refused 6) count-is
 
   -- ---- so a chooser that is lent less than a row says the number of nodes
   pub no-nodes : {o : Outcome} → o ≡ outcome (chooseTests W k vs ls hs 1) → o ≡ Accepted → 0 ≡ size (tableTrie W vs ls hs)
@@ -63,7 +63,7 @@ module _ {W k : ℕ} {vs ls hs : List ℕ} (can : CanPlan W k vs ls hs) where
     where
       go : (n : ℕ) → size (tableTrie W vs ls hs) ≡ n → 0 ≡ n
       go zero q = refl
-      go (suc n) q = absurd (refused-not-accepted (sym (plan-refused 1 (omega arith)) ∙ sym e ∙ a))
+      go (suc n) q = absurd (refused-not-accepted (sym (plan-lacks-rows 1 (omega arith)) ∙ sym e ∙ a))
 
   pub some-nodes : {o : Outcome} {n d : ℕ} → o ≡ outcome (chooseTests W k vs ls hs 1) → o ≡ Refused n d → d ≡ size (tableTrie W vs ls hs)
   some-nodes {o} {n} {d} e r = go (size (tableTrie W vs ls hs)) refl
@@ -73,7 +73,7 @@ module _ {W k : ℕ} {vs ls hs : List ℕ} (can : CanPlan W k vs ls hs) where
 
       go : (x : ℕ) → size (tableTrie W vs ls hs) ≡ x → d ≡ size (tableTrie W vs ls hs)
       go zero q = absurd (refused-not-accepted (sym r ∙ e ∙ plan-passes 1 (omega arith)))
-      go (suc x) q = detail (size (tableTrie W vs ls hs)) (sym r ∙ e ∙ plan-refused 1 (omega arith))
+      go (suc x) q = detail (size (tableTrie W vs ls hs)) (sym r ∙ e ∙ plan-lacks-rows 1 (omega arith))
 
   -- ---- how large they can be
   few-new : (i : ℕ) → i < length vs → newNodes W (at vs) (at ls) i ≤ W

@@ -18,11 +18,11 @@ use Rattle.tries.specs.Build.{roomTest}
 use Rattle.fields.specs.Rules.{Rules, ruleListTests, ruleTests, GoodRules}
 use Rattle.fields.specs.Runs.{sumFirst}
 use Rattle.fields.proofs.Rules.{rules-good, numbered-rules}
-use Rattle.rules.specs.Build.{ruleTrie, nodesTest, listTest, ruleScratchTests, ruleBuildTests}
+use Rattle.rules.specs.Build.{ruleTrie, allNodesTest, listTest, ruleScratchTests, ruleBuildTests}
 
 module _ (W k : ℕ) (rs : Rules) (words m : ℕ) (from : ℕ → ℕ) where
   abbrev lastTest : List Test
-  lastTest = nodesTest words (sumFirst (λ g. size (ruleTrie W rs m from g)) (suc m)) ∷ []
+  lastTest = allNodesTest words (sumFirst (λ g. size (ruleTrie W rs m from g)) (suc m)) ∷ []
 
   -- what acceptance says
   past-width : outcome (ruleScratchTests W k rs words m from) ≡ Accepted
@@ -69,3 +69,9 @@ module _ (W k : ℕ) (rs : Rules) (words m : ℕ) (from : ℕ → ℕ) where
         → outcome (ruleScratchTests W k rs words m from) ≡ Accepted
     unfolding ruleBuildTests
     rule-tests-scratch e = accepted-parts (ruleScratchTests W k rs words m from) roomTests e .0
+
+    pub numbered-rule-build : Numbered 7 (ruleBuildTests W k rs words room places m from least)
+    unfolding ruleBuildTests
+    numbered-rule-build =
+        numbered-append 7 (ruleScratchTests W k rs words m from) roomTests (numbered-rule-scratch 7 (omega arith))
+        ((omega arith, omega arith), ((omega arith, omega arith), tt))

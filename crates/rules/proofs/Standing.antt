@@ -193,17 +193,17 @@ module _ (kind : Kind) (W k : ℕ) (s : SplitRules) where
     next-fits : g < length (s .vals) → place + cost g ≤ placeOf kind W k s start (length (s .vals))
     next-fits h = omega (arith, t .reached, sum-mono cost g (length (s .vals)) h)
 
-    pub place-few : place ≤ ELEMENTS
-    place-few =
+    pub source-place-few : place ≤ ELEMENTS
+    source-place-few =
         ⊎-elim (λ (e : g ≡ length (s .vals)). omega (arith, t .reached, ap (placeOf kind W k s start) e, can .few))
         (λ (l : g < length (s .vals)). omega (arith, next-fits l, can .few)) (eq-or-lt-of-le (t .inside))
 
     pub may-part : g < length (s .vals) → CanPart W k (s .first) (s .svals) (s .slens) (s .actions) g
     may-part h = part-can (can .split) g h
 
-    pub may-lay : g < length (s .vals) → let i = at (s .first) g in let j = at (s .first) (g + 1) in
+    pub may-lay-source : g < length (s .vals) → let i = at (s .first) g in let j = at (s .first) (g + 1) in
         CanLayAt kind W k (part i j (s .svals)) (part i j (s .slens)) (part i j (s .actions)) words place rows
-    may-lay h =
+    may-lay-source h =
         let short : shortest rows ≡ shortest rows₀ = same-shortest (t .room) in
         let here : (let v = splitTable s (suc g) in CanLayAt kind W k (v .vals) (v .lens) (v .hops) words place rows) = record {
           plan = can .split .plans (suc g) h;

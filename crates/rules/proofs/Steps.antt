@@ -28,7 +28,7 @@ use Rattle.tries.specs.Limits.{ELEMENTS}
 use Rattle.fields.specs.Runs.{sumFirst}
 use Rattle.verdicts.specs.Limits.{TRIE-ROW}
 use Rattle.verdicts.specs.declared.record.RuleRecord.{RuleRecord}
-use Rattle.rules.specs.Build.{nodesTest, listTest, NoRuleRecord}
+use Rattle.rules.specs.Build.{allNodesTest, listTest, NoRuleRecord}
 use Rattle.rules.specs.Splitting.{SplitRules, splitTrie, splitNodes, splitCosts, CanSplit, Roomy}
 use Rattle.rules.specs.Laying.{CanLayAt, LaysAt, sourceCost, placeOf, CanLaySources, LaidTo}
 use Rattle.rules.specs.Building.{CanLayAll, SplitWritten, TriesBuilt, SplitBuilt}
@@ -150,12 +150,12 @@ module _ (kind : Kind) (W k : ℕ) (s : SplitRules) (scratch : List ℕ) (rows :
   sevens = roomTest (splitCosts kind W k s) (shortest rows) ∷ listTest (length list) (length (s .vals)) ∷ []
 
   module _ {out : Outcome} {rec : RuleRecord} {nodes : ℕ} (counted : nodes ≡ splitNodes W s) where
-    pub scratch-short : length scratch / ROW < nodes → out ≡ Refused 6 nodes → NoRuleRecord rec → SplitBuilt kind W k s scratch rows list out rec scratch rows list
+    pub all-scratch-short : length scratch / ROW < nodes → out ≡ Refused 6 nodes → NoRuleRecord rec → SplitBuilt kind W k s scratch rows list out rec scratch rows list
     unfolding outcome ifAccepted
-    scratch-short h e z =
+    all-scratch-short h e z =
         let f : ltb (length scratch / ROW) (splitNodes W s) ≡ true = rw (sym counted) (lt-ltb (length scratch / ROW) nodes h) in
         record {
-          tests = e ∙ ap (Refused 6) counted ∙ sym (outcome-fails (nodesTest (length scratch) (splitNodes W s)) sevens f);
+          tests = e ∙ ap (Refused 6) counted ∙ sym (outcome-fails (allNodesTest (length scratch) (splitNodes W s)) sevens f);
           after = rw f refl;
           written = nothing-written kind W k s rows list e z;
         }
@@ -166,7 +166,7 @@ module _ (kind : Kind) (W k : ℕ) (s : SplitRules) (scratch : List ℕ) (rows :
     split-built h b z =
         let f : ltb (length scratch / ROW) (splitNodes W s) ≡ false = rw (sym counted) (le-ltb (length scratch / ROW) nodes h) in
         record {
-          tests = b .tests ∙ sym (outcome-passes (nodesTest (length scratch) (splitNodes W s)) sevens f);
+          tests = b .tests ∙ sym (outcome-passes (allNodesTest (length scratch) (splitNodes W s)) sevens f);
           after = z ∙ rw f refl;
           written = b .written;
         }

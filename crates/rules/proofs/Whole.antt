@@ -28,21 +28,21 @@ use Rattle.fields.proofs.Rules.{good-rules}
 use Rattle.fields.proofs.Tables.{dest-lengths, dest-table, source-table}
 use Rattle.verdicts.specs.Tries.{trieRow}
 use Rattle.verdicts.specs.declared.record.RuleRecord.{RuleRecord}
-use Rattle.rules.specs.Build.{RunsOf, ruleTrie, nodesTest, listTest, ruleScratchTests, ruleBuildTests, NoRuleRecord, TriesLaid, RulesAre}
+use Rattle.rules.specs.Build.{RunsOf, ruleTrie, allNodesTest, listTest, ruleScratchTests, ruleBuildTests, NoRuleRecord, TriesLaid, RulesAre}
 use Rattle.rules.specs.Gathering.{Gathered}
 use Rattle.rules.specs.Splitting.{SplitRules, splitRules, splitTable, splitTrie, splitNodes, splitCosts, CanPlan, CanSplit}
 use Rattle.rules.specs.Laying.{sourceCost, SourceStands}
 use Rattle.rules.specs.Building.{SplitLaid, SplitBuilt}
 use Rattle.rules.proofs.Gathering.{gathered-values, gathered-lengths, gathered-numbers}
 use Rattle.rules.proofs.Links.{links-win}
-use Rattle.rules.proofs.Planning.{inside}
+use Rattle.rules.proofs.Planning.{within-inside}
 use Rattle.rules.proofs.RuleTests.{rule-tests-early}
 use Rattle.rules.proofs.Sums.{sum-same}
 
 -- past tests 1 and 2 those of the rules decide, and then test 6
 module _ (W k : ℕ) (rs : Rules) (words m : ℕ) (from : ℕ → ℕ) (w : outside W WIDTH ≡ false) (l : outside k LEVELS ≡ false) where
   abbrev lastTest : List Test
-  lastTest = nodesTest words (sumFirst (λ g. size (ruleTrie W rs m from g)) (suc m)) ∷ []
+  lastTest = allNodesTest words (sumFirst (λ g. size (ruleTrie W rs m from g)) (suc m)) ∷ []
 
   past-levels : outcome (ruleScratchTests W k rs words m from) ≡ andThen (outcome (ruleTests W rs)) (outcome lastTest)
   unfolding ruleScratchTests ruleTests
@@ -176,31 +176,31 @@ module _ (W k : ℕ) (rs : Rules) (good : GoodRules W rs) (levels : Within k LEV
     nodes = sumFirst (λ g. size (ruleTrie W rs m (at first) g)) (suc m)
 
     width-in : outside W WIDTH ≡ false
-    width-in = inside (good .some-width, good .width)
+    width-in = within-inside (good .some-width, good .width)
 
     -- tests 1 to 5 pass
-    last-left : outcome (ruleScratchTests W k rs (length scratch) m (at first)) ≡ outcome (nodesTest (length scratch) nodes ∷ [])
+    last-left : outcome (ruleScratchTests W k rs (length scratch) m (at first)) ≡ outcome (allNodesTest (length scratch) nodes ∷ [])
     unfolding andThen
     last-left =
-        past-levels W k rs (length scratch) m (at first) width-in (inside levels)
-        ∙ ap (λ (o : Outcome). andThen o (outcome (nodesTest (length scratch) nodes ∷ []))) (good-rules W rs good)
+        past-levels W k rs (length scratch) m (at first) width-in (within-inside levels)
+        ∙ ap (λ (o : Outcome). andThen o (outcome (allNodesTest (length scratch) nodes ∷ []))) (good-rules W rs good)
 
     sevens : List Test
     sevens = roomTest (sumFirst cost (suc m)) (shortest rows) ∷ listTest (length list) m ∷ []
 
-    all-left : outcome (ruleBuildTests W k rs (length scratch) (shortest rows) (length list) m (at first) cost) ≡ outcome (nodesTest (length scratch) nodes ∷ sevens)
+    all-left : outcome (ruleBuildTests W k rs (length scratch) (shortest rows) (length list) m (at first) cost) ≡ outcome (allNodesTest (length scratch) nodes ∷ sevens)
     unfolding ruleBuildTests sevens
     all-left =
         outcome-append (ruleScratchTests W k rs (length scratch) m (at first)) sevens ∙ ap (λ (o : Outcome). andThen o (outcome sevens)) last-left
-        ∙ sym (outcome-append (nodesTest (length scratch) nodes ∷ []) sevens)
+        ∙ sym (outcome-append (allNodesTest (length scratch) nodes ∷ []) sevens)
 
-    same-tests : outcome (nodesTest (length scratch) (splitNodes W heldRules) ∷ roomTest (splitCosts kind W k heldRules) (shortest rows) ∷ listTest (length list) (length (tab 0 .vals)) ∷ [])
-        ≡ outcome (nodesTest (length scratch) nodes ∷ sevens)
+    same-tests : outcome (allNodesTest (length scratch) (splitNodes W heldRules) ∷ roomTest (splitCosts kind W k heldRules) (shortest rows) ∷ listTest (length list) (length (tab 0 .vals)) ∷ [])
+        ≡ outcome (allNodesTest (length scratch) nodes ∷ sevens)
     unfolding sevens
     same-tests =
-        ap (λ (n : ℕ). outcome (nodesTest (length scratch) n ∷ roomTest (splitCosts kind W k heldRules) (shortest rows) ∷ listTest (length list) (length (tab 0 .vals)) ∷ [])) (held-sum size)
-        ∙ ap (λ (n : ℕ). outcome (nodesTest (length scratch) nodes ∷ roomTest n (shortest rows) ∷ listTest (length list) (length (tab 0 .vals)) ∷ [])) (held-sum (leastBy plain kind k))
-        ∙ ap (λ (n : ℕ). outcome (nodesTest (length scratch) nodes ∷ roomTest (sumFirst cost (suc m)) (shortest rows) ∷ listTest (length list) n ∷ [])) many
+        ap (λ (n : ℕ). outcome (allNodesTest (length scratch) n ∷ roomTest (splitCosts kind W k heldRules) (shortest rows) ∷ listTest (length list) (length (tab 0 .vals)) ∷ [])) (held-sum size)
+        ∙ ap (λ (n : ℕ). outcome (allNodesTest (length scratch) nodes ∷ roomTest n (shortest rows) ∷ listTest (length list) (length (tab 0 .vals)) ∷ [])) (held-sum (leastBy plain kind k))
+        ∙ ap (λ (n : ℕ). outcome (allNodesTest (length scratch) nodes ∷ roomTest (sumFirst cost (suc m)) (shortest rows) ∷ listTest (length list) n ∷ [])) many
 
     pub whole-built : RulesAre kind W k rs scratch rows list out rec scratch′ rows′ list′
     whole-built = record {
@@ -209,7 +209,7 @@ module _ (W k : ℕ) (rs : Rules) (good : GoodRules W rs) (levels : Within k LEV
       runs = runs;
       tests = b .tests ∙ same-tests ∙ sym all-left;
       after = b .after ∙ ap (λ (o : Outcome). ifAccepted o (replicate (length scratch) 0) scratch)
-          (ap (λ (n : ℕ). outcome (nodesTest (length scratch) n ∷ [])) (held-sum size) ∙ sym last-left);
+          (ap (λ (n : ℕ). outcome (allNodesTest (length scratch) n ∷ [])) (held-sum size) ∙ sym last-left);
       laid = λ a. tries-laid (b .written .laid a);
       named = λ a. b .written .laid a .named;
       rest = λ a i h. b .written .laid a .rest i (omega (arith, many));

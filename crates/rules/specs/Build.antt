@@ -39,8 +39,8 @@ ruleTrie W rs m from g = tableTrie W (trieTable rs m from g .vals) (trieTable rs
 -- ---- the tests, in order
 
 -- 6: scratch of so many numbers has fewer whole rows than all tries have 1-bit nodes; the detail is the rows needed
-abbrev pub nodesTest : (words nodes : ℕ) → Test
-nodesTest words nodes = test 6 nodes (ltb (words / ROW) nodes)
+abbrev pub allNodesTest : (words nodes : ℕ) → Test
+allNodesTest words nodes = test 6 nodes (ltb (words / ROW) nodes)
 
 -- 7, after elements: a list of so many numbers has fewer whole rows than there are source tries; the detail is the rows needed
 abbrev pub listTest : (places m : ℕ) → Test
@@ -49,7 +49,7 @@ listTest places m = test 7 m (ltb (places / TRIE-ROW) m)
 -- 1, 2, 3, then 4 and 5 rule by rule, 6
 unfoldable pub ruleScratchTests : (W k : ℕ) (rs : Rules) (words m : ℕ) (from : ℕ → ℕ) → List Test
 ruleScratchTests W k rs words m from =
-    widthTest W ∷ levelsTest k ∷ (ruleListTests W rs ++ (nodesTest words (sumFirst (λ g. size (ruleTrie W rs m from g)) (suc m)) ∷ []))
+    widthTest W ∷ levelsTest k ∷ (ruleListTests W rs ++ (allNodesTest words (sumFirst (λ g. size (ruleTrie W rs m from g)) (suc m)) ∷ []))
 
 -- and 7 for elements, then for the list; `least` is the least cost of each trie
 unfoldable pub ruleBuildTests : (W k : ℕ) (rs : Rules) (words room places m : ℕ) (from least : ℕ → ℕ) → List Test

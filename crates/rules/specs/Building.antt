@@ -19,7 +19,7 @@ use Rattle.tries.specs.Build.{roomTest}
 use Rattle.tries.specs.Limits.{ELEMENTS}
 use Rattle.verdicts.specs.Limits.{TRIE-ROW}
 use Rattle.verdicts.specs.declared.record.RuleRecord.{RuleRecord}
-use Rattle.rules.specs.Build.{nodesTest, listTest, RulesKept}
+use Rattle.rules.specs.Build.{allNodesTest, listTest, RulesKept}
 use Rattle.rules.specs.Splitting.{SplitRules, splitTrie, splitNodes, splitCosts, CanSplit, Roomy}
 use Rattle.rules.specs.Laying.{placeOf, SourceStands}
 
@@ -56,6 +56,6 @@ pub record TriesBuilt (kind : Kind) (W k : ℕ) (s : SplitRules) (rows : Lists) 
 pub record SplitBuilt (kind : Kind) (W k : ℕ) (s : SplitRules) (scratch : List ℕ) (rows : Lists) (list : List ℕ) (out : Outcome) (rec : RuleRecord)
     (scratch′ : List ℕ) (rows′ : Lists) (list′ : List ℕ) : Type 0 where
   pub tests : out ≡ outcome
-      (nodesTest (length scratch) (splitNodes W s) ∷ roomTest (splitCosts kind W k s) (shortest rows) ∷ listTest (length list) (length (s .vals)) ∷ [])
-  pub after : scratch′ ≡ ifAccepted (outcome (nodesTest (length scratch) (splitNodes W s) ∷ [])) (replicate (length scratch) 0) scratch
+      (allNodesTest (length scratch) (splitNodes W s) ∷ roomTest (splitCosts kind W k s) (shortest rows) ∷ listTest (length list) (length (s .vals)) ∷ [])
+  pub after : scratch′ ≡ ifAccepted (outcome (allNodesTest (length scratch) (splitNodes W s) ∷ [])) (replicate (length scratch) 0) scratch
   pub written : SplitWritten kind W k s rows list out rec rows′ list′

@@ -19,12 +19,12 @@ use Rattle.verdicts.specs.Limits.{TRIE-ROW, VISITS}
 use Rattle.verdicts.specs.Tries.{TrieRow, trieRow, sourceRecord, fromPlace, atPlace}
 use Rattle.verdicts.specs.Verdicts.{verdictNumber, actionOf, verdictReads}
 use Rattle.verdicts.specs.Meaning.{BadTrie, past-list, past-rows, breaks-rule, SourcePath, actionOn, VisitsTries, no-more, too-many, broken-off}
-use Rattle.verdicts.specs.Meaning.{matched-in, goes-on, calledFirst, RuleDamage, short-lists, past-all, breaks-dest, breaks-source, Way, RuleTested, Classified, SameTries, SameRows}
+use Rattle.verdicts.specs.Meaning.{matched-in, goes-on, calledFirst, RuleDamage, short-lists, past-all, breaks-dest, breaks-source, TriesWay, RuleTested, Classified, SameTries, SameRows}
 use Rattle.verdicts.specs.declared.record.RuleRecord.{RuleRecord}
 use Rattle.verdicts.specs.declared.visiting.Verdict.{Verdict}
 use Rattle.verdicts.proofs.Answers.{refusal-bare}
 use Rattle.verdicts.proofs.Visits.{placed-length, joined-length}
-use Rattle.verdicts.proofs.Unique.{visits-unique, way-unique, classified-unique}
+use Rattle.verdicts.proofs.Unique.{visits-unique, tries-way-unique, classified-unique}
 
 -- ---- one trie
 
@@ -104,9 +104,9 @@ visits-few {rec = rec} {list = list} (goes-on {f} {g} {rs} {ts} {rows} p z v) =
 
 module _ {rec : RuleRecord} {ls : Lists} {list : List ℕ} {dest source most : ℕ} {v : Verdict} (c : Classified rec ls list dest source most v) where
   -- the reads of an accepted classification are the rows on its way
-  pub verdict-path : verdictNumber v ≡ 0 → {ts rows : List ℕ} {a : ℕ} → Way rec ls list dest source ts rows a
+  pub verdict-path : verdictNumber v ≡ 0 → {ts rows : List ℕ} {a : ℕ} → TriesWay rec ls list dest source ts rows a
       → (actionOf v ≡ a) × (verdictReads v ≡ length rows)
-  verdict-path z w = let t = c .told z in let u = way-unique (t .2) w in (u .2, t .3 ∙ ap length (u .1))
+  verdict-path z w = let t = c .told z in let u = tries-way-unique (t .2) w in (u .2, t .3 ∙ ap length (u .1))
 
   pub verdict-few : verdictReads v ≤ 34 * rec .dest .levels
   verdict-few = elim (decLe (verdictNumber v) 0) [
@@ -184,7 +184,7 @@ module _ (rec : RuleRecord) (ls ls′ : Lists) (list list′ : List ℕ) (source
 
 -- one record, two addresses; lists that have E rows and agree at the rows on the way, and a list of tries that agrees at the tries visited
 module _ {rec : RuleRecord} {ls : Lists} {list : List ℕ} {dest source most : ℕ} {v : Verdict} (c : Classified rec ls list dest source most v)
-    (accepted : verdictNumber v ≡ 0) {ts rows : List ℕ} {a : ℕ} (way : Way rec ls list dest source ts rows a)
+    (accepted : verdictNumber v ≡ 0) {ts rows : List ℕ} {a : ℕ} (way : TriesWay rec ls list dest source ts rows a)
     (other : Lists) (list′ : List ℕ) (fits : rec .elements ≤ shortest other) (st : SameTries ts list list′) (sr : SameRows rows ls other) where
   -- the first verdict is accepted: nothing is damaged
   undamaged : RuleDamage rec ls list dest source → ⊥
@@ -207,7 +207,7 @@ module _ {rec : RuleRecord} {ls : Lists} {list : List ℕ} {dest source most : �
   called-local =
       ap (λ (b : HopLength). b .hop) (latest-local (rowAt ls) (rowAt other) (floorBest (rec .dest .floor)) (way .destRows) same-dest)
 
-  way-local : Way rec other list′ dest source ts rows a
+  way-local : TriesWay rec other list′ dest source ts rows a
   way-local = record {
     destRows = way .destRows;
     sourceRows = way .sourceRows;
@@ -246,6 +246,6 @@ module _ {rec : RuleRecord} {ls : Lists} {list : List ℕ} {dest source most : �
       let u = verdict-path c accepted way in
       classified-unique (record {
         tested = tested′ (c .tested) accepted;
-        told = λ z. (ts, rows, subst (λ (x : ℕ). Way rec other list′ dest source ts rows x) (sym (u .0)) way-local, u .1);
+        told = λ z. (ts, rows, subst (λ (x : ℕ). TriesWay rec other list′ dest source ts rows x) (sym (u .0)) way-local, u .1);
         case = c .case;
       }) c′

@@ -23,13 +23,13 @@ use Rattle.walk.proofs.Unique.{on-path-unique}
 use Rattle.verdicts.specs.Limits.{VISITS}
 use Rattle.verdicts.specs.Verdicts.{verdict}
 use Rattle.verdicts.specs.Classify.{throughTries, earlyRefusal, fromDest, classifyOf}
-use Rattle.verdicts.specs.Meaning.{VisitsTries, calledFirst, RuleDamage, short-lists, past-all, breaks-dest, breaks-source, Way, RuleTested, Classified}
+use Rattle.verdicts.specs.Meaning.{VisitsTries, calledFirst, RuleDamage, short-lists, past-all, breaks-dest, breaks-source, TriesWay, RuleTested, Classified}
 use Rattle.verdicts.specs.Visiting.{CanVisit}
 use Rattle.verdicts.specs.declared.record.RuleRecord.{RuleRecord}
 use Rattle.verdicts.specs.declared.visiting.Verdict.{Verdict}
 use Rattle.verdicts.specs.declared.visiting.Verdict.the-variants.{Refused}
 use Rattle.verdicts.proofs.Answers.{verdict-number, verdict-action, verdict-reads, verdict-case}
-use Rattle.verdicts.proofs.Visits.{Says, through-says, joined-length}
+use Rattle.verdicts.proofs.Visits.{VisitsSay, through-says, joined-length}
 use Rattle.verdicts.proofs.Unique.{visits-unique}
 
 -- no test fails before the first row
@@ -106,7 +106,7 @@ module _ (rec : RuleRecord) (ls : Lists) (list : List ℕ) (dest source : ℕ) w
     dest-damage (passes a (passes b (passes c (passes d e)))) h = absurd (omega arith)
 
     -- a way that comes to its end leaves no damage
-    sound-way : numberOf found ≡ 0 → {ts rows : List ℕ} {a : ℕ} → Way rec ls list dest source ts rows a → RuleDamage rec ls list dest source → ⊥
+    sound-way : numberOf found ≡ 0 → {ts rows : List ℕ} {a : ℕ} → TriesWay rec ls list dest source ts rows a → RuleDamage rec ls list dest source → ⊥
     sound-way z w (short-lists d) = omega (arith, p .enough)
     sound-way z w (past-all d) = omega (arith, p .own)
     sound-way z w (breaks-dest d) =
@@ -118,7 +118,7 @@ module _ (rec : RuleRecord) (ls : Lists) (list : List ℕ) (dest source : ℕ) w
 
     -- what the source tries say is allowed, where the destination's rows are rs
     said : {rs : List ℕ} → numberOf found ≡ 0 → OnPath (rec .dest) ls dest rs → readsOf found ≡ length rs → hopOf found ≡ calledFirst rec ls list dest source rs
-        → {v : Verdict} → Says rec ls list source (can-visit p) VISITS (hopOf found) (readsOf found) v → Classified rec ls list dest source WIDTH v
+        → {v : Verdict} → VisitsSay rec ls list source (can-visit p) VISITS (hopOf found) (readsOf found) v → Classified rec ls list dest source WIDTH v
     said {rs} z o r h {v} s =
         go (s .whole) (subst (λ (n : ℕ). VisitsTries rec ls list source VISITS n (s .tries) (s .rows) (s .action) (s .whole)) h (s .visits)) (s .says)
       where
@@ -126,7 +126,7 @@ module _ (rec : RuleRecord) (ls : Lists) (list : List ℕ) (dest source : ℕ) w
             → v ≡ cond w (verdict (s .action) (readsOf found + length (s .rows))) (Refused 9) → Classified rec ls list dest source WIDTH v
         go true w e =
             let n = readsOf found + length (s .rows) in
-            let way : Way rec ls list dest source (s .tries) (rs ++ s .rows) (s .action)
+            let way : TriesWay rec ls list dest source (s .tries) (rs ++ s .rows) (s .action)
             = record { destRows = rs; sourceRows = s .rows; dest-path = o; visits = w; all-rows = refl } in
             rw e (record {
               tested = rw (verdict-number (s .action) n) (none (sound-way z way));

@@ -21,7 +21,7 @@ use Rattle.walk.specs.declared.walk.Answer.{Answer}
 use Rattle.walk.specs.declared.walk.Answer.the-variants.{Match, Discard, NoRoute, Refused}
 use Rattle.verdicts.specs.Limits.{TRIE-ROW}
 use Rattle.verdicts.specs.Tries.{trieRow, sourceRecord, fromPlace}
-use Rattle.verdicts.specs.Classify.{visitable, onward, lookedUp, sourceOf, throughTries}
+use Rattle.verdicts.specs.Classify.{visitable, onward, sourceLookup, sourceOf, throughTries}
 use Rattle.verdicts.specs.Visiting.{CanVisit, Visitable}
 use Rattle.verdicts.specs.declared.visiting.Verdict.{Verdict}
 use Rattle.verdicts.specs.declared.visiting.Verdict.the-variants.{Act, NoRule}
@@ -43,16 +43,16 @@ pub looked-up : (W k : ℕ) (hop len link stride list : List ℕ) (source g : �
     lookupOf WIDTH (sourceRecord W k (trieRow list g))
     (lists (take (length hop - p) (drop p hop)) (take (length len - p) (drop p len)) (take (length link - p) (drop p link))
     (take (length stride - p) (drop p stride))) source
-    ≡ lookedUp WIDTH W k (lists hop len link stride) list source g
-unfolding lookedUp
+    ≡ sourceLookup WIDTH W k (lists hop len link stride) list source g
+unfolding sourceLookup
 looked-up W k hop len link stride list source g =
     let p = trieRow list g .place in rw (part-to-end p hop, part-to-end p len, part-to-end p link, part-to-end p stride) refl
 
 -- ---- a root stride that no record can hold
 
 pub wide-root : {W k e : ℕ} {ls : Lists} {source : ℕ} (list : List ℕ) (g : ℕ) → CanVisit W k e ls source → 255 < trieRow list g .root
-    → lookedUp WIDTH W k ls list source g ≡ Refused 9
-unfolding lookedUp padded
+    → sourceLookup WIDTH W k ls list source g ≡ Refused 9
+unfolding sourceLookup padded
 wide-root {W} {k} {ls = ls} {source = source} list g can big =
     damage-refused WIDTH (sourceRecord W k (trieRow list g)) (fromPlace (trieRow list g .place) ls) source (can .width) (can .levels) (can .inside)
     (breaks (omega arith) (damaged (too-wide (omega (arith, can .width .1)))))
@@ -140,7 +140,7 @@ module _ (e W k : ℕ) (ls : Lists) (list : List ℕ) (source : ℕ) where
   unfolding sourceOf
   on-visitable g reads s {v} q z = go (visitable e list g) refl (on-undecided (answerAt g) reads s (sym z ∙ q))
     where
-      go : (t : Bool) → visitable e list g ≡ t → Undecided (cond t (lookedUp WIDTH W k ls list source g) (Refused 9)) reads s → Visitable e list g
+      go : (t : Bool) → visitable e list g ≡ t → Undecided (cond t (sourceLookup WIDTH W k ls list source g) (Refused 9)) reads s → Visitable e list g
       go true e u = visitable-is _ list g e
       go false e (undecided {r} x y) = absurd (no x)
         where
@@ -149,10 +149,10 @@ module _ (e W k : ℕ) (ls : Lists) (list : List ℕ) (source : ℕ) where
 
   -- no lookup has more reads than the level limit
   pub source-reads : (g : ℕ) → readsOf (answerAt g) ≤ k
-  unfolding sourceOf lookedUp
+  unfolding sourceOf sourceLookup
   source-reads g = go (visitable e list g)
     where
-      go : (t : Bool) → readsOf (cond t (lookedUp WIDTH W k ls list source g) (Refused 9)) ≤ k
+      go : (t : Bool) → readsOf (cond t (sourceLookup WIDTH W k ls list source g) (Refused 9)) ≤ k
       go true = reads-most WIDTH (sourceRecord W k (trieRow list g)) (fromPlace (trieRow list g .place) ls) source
       go false = omega arith
 

@@ -12,7 +12,7 @@ use Rattle.walk.proofs.Unique.{test-unique, on-path-unique}
 use Rattle.verdicts.specs.Limits.{VISITS}
 use Rattle.verdicts.specs.Tries.{trieRow, atPlace}
 use Rattle.verdicts.specs.Verdicts.{verdictNumber, actionOf, verdictReads}
-use Rattle.verdicts.specs.Meaning.{SourcePath, actionOn, VisitsTries, no-more, too-many, broken-off, matched-in, goes-on, calledFirst, Way, RuleTested, Classified}
+use Rattle.verdicts.specs.Meaning.{SourcePath, actionOn, VisitsTries, no-more, too-many, broken-off, matched-in, goes-on, calledFirst, TriesWay, RuleTested, Classified}
 use Rattle.verdicts.specs.declared.record.RuleRecord.{RuleRecord}
 use Rattle.verdicts.specs.declared.visiting.Verdict.{Verdict}
 use Rattle.verdicts.proofs.Answers.{refusal-bare, verdict-unique}
@@ -47,9 +47,9 @@ module _ {rec : RuleRecord} {ls : Lists} {list : List ℕ} {source : ℕ} where
 
 module _ {rec : RuleRecord} {ls : Lists} {list : List ℕ} {dest source : ℕ} where
   -- so the tries visited, the rows on the paths in them and the action are one
-  pub way-unique : {ts ts′ rows rows′ : List ℕ} {a a′ : ℕ} → Way rec ls list dest source ts rows a → Way rec ls list dest source ts′ rows′ a′
+  pub tries-way-unique : {ts ts′ rows rows′ : List ℕ} {a a′ : ℕ} → TriesWay rec ls list dest source ts rows a → TriesWay rec ls list dest source ts′ rows′ a′
       → (ts ≡ ts′) × (rows ≡ rows′) × (a ≡ a′)
-  way-unique {ts′ = ts′} {a′ = a′} p q =
+  tries-way-unique {ts′ = ts′} {a′ = a′} p q =
       let e : p .destRows ≡ q .destRows = on-path-unique (p .dest-path) (q .dest-path) in
       let v = subst (λ (rs : List ℕ). VisitsTries rec ls list source VISITS (calledFirst rec ls list dest source rs) ts′ (q .sourceRows) a′ true) (sym e) (q .visits) in
       let u = visits-unique (p .visits) v in
@@ -65,7 +65,7 @@ module _ {rec : RuleRecord} {ls : Lists} {list : List ℕ} {dest source : ℕ} w
       | yes z ↦
           let p = c .told (omega arith) in
           let q = d .told (omega arith) in
-          let u = way-unique (p .2) (q .2) in
+          let u = tries-way-unique (p .2) (q .2) in
           (u .2, p .3 ∙ ap length (u .1) ∙ sym (q .3))
       | no z ↦
           let p = refusal-bare v (omega arith) in

@@ -21,7 +21,7 @@ use Rattle.walk.proofs.Looked.{looked, tested-refused, damage-refused}
 use Rattle.verdicts.specs.Limits.{TRIE-ROW}
 use Rattle.verdicts.specs.Tries.{trieRow, sourceRecord, fromPlace, atPlace}
 use Rattle.verdicts.specs.Verdicts.{verdict}
-use Rattle.verdicts.specs.Classify.{visitable, onward, lookedUp, sourceOf, throughTries}
+use Rattle.verdicts.specs.Classify.{visitable, onward, sourceLookup, sourceOf, throughTries}
 use Rattle.verdicts.specs.Meaning.{BadTrie, past-list, past-rows, breaks-rule, SourcePath, actionOn, VisitsTries, no-more, too-many, broken-off, matched-in, goes-on}
 use Rattle.verdicts.specs.Visiting.{CanVisit}
 use Rattle.verdicts.specs.declared.record.RuleRecord.{RuleRecord}
@@ -47,7 +47,7 @@ module _ (rec : RuleRecord) (ls : Lists) (list : List ℕ) (source : ℕ)
   rowsIn g = fromPlace (trieRow list g .place) ls
 
   abbrev answerIn : ℕ → Answer
-  answerIn = lookedUp WIDTH (rec .dest .width) (rec .dest .levels) ls list source
+  answerIn = sourceLookup WIDTH (rec .dest .width) (rec .dest .levels) ls list source
 
   abbrev answerAt : ℕ → Answer
   answerAt = sourceOf WIDTH (rec .elements) (rec .dest .width) (rec .dest .levels) ls list source
@@ -72,7 +72,7 @@ module _ (rec : RuleRecord) (ls : Lists) (list : List ℕ) (source : ℕ)
   ]
 
   looked-in : (g : ℕ) → Looked WIDTH (own g) (rowsIn g) source (answerIn g)
-  unfolding lookedUp
+  unfolding sourceLookup
   looked-in g = looked WIDTH (own g) (rowsIn g) source
 
   -- past the tests of its row only 9 is left
@@ -84,14 +84,14 @@ module _ (rec : RuleRecord) (ls : Lists) (list : List ℕ) (source : ℕ)
   only-damage g (passes a (passes b (passes c (passes d e)))) h = absurd (omega arith)
 
   sound-source : (g : ℕ) → visitable (rec .elements) list g ≡ true → numberOf (answerIn g) ≡ 0 → BadTrie rec ls list source g → ⊥
-  unfolding lookedUp
+  unfolding sourceLookup
   sound-source g v z (past-list p) = omega (arith, visitable-is _ list g v .listed)
   sound-source g v z (past-rows p) = omega (arith, visitable-is _ list g v .within)
   sound-source g v z (breaks-rule d) =
       let e : numberOf (answerIn g) ≡ 9 = ap numberOf (damage-refused WIDTH (own g) (rowsIn g) source (can .width) (can .levels) (can .inside) d) in omega (arith, z, e)
 
   source-in : (g : ℕ) → visitable (rec .elements) list g ≡ true → Source g (answerIn g)
-  unfolding lookedUp
+  unfolding sourceLookup
   source-in g v = elim (decLe (numberOf (answerIn g)) 0) [
     | yes z ↦
         let t = looked-in g .told (omega arith) in
@@ -109,7 +109,7 @@ module _ (rec : RuleRecord) (ls : Lists) (list : List ℕ) (source : ℕ)
       go false v = bad-source (unlisted g v) refl
 
   -- what some visiting says, after `reads` blocks
-  pub record Says (f n reads : ℕ) (v : Verdict) : Type 0 where
+  pub record VisitsSay (f n reads : ℕ) (v : Verdict) : Type 0 where
     pub tries : List ℕ
     pub rows : List ℕ
     pub action : ℕ
@@ -117,7 +117,7 @@ module _ (rec : RuleRecord) (ls : Lists) (list : List ℕ) (source : ℕ)
     pub visits : VisitsTries rec ls list source f n tries rows action whole
     pub says : v ≡ cond whole (verdict action (reads + length rows)) (Refused 9)
 
-  says-on : (f g reads : ℕ) {a : Answer} {go : ℕ → Verdict} → ((r : ℕ) → Says f (trieRow list g .next) r (go r)) → Source g a → Says (suc f) (suc g) reads (onward a reads go)
+  says-on : (f g reads : ℕ) {a : Answer} {go : ℕ → Verdict} → ((r : ℕ) → VisitsSay f (trieRow list g .next) r (go r)) → Source g a → VisitsSay (suc f) (suc g) reads (onward a reads go)
   unfolding onward
   says-on f g reads below (bad-source b e) = record { tries = []; rows = []; action = 0; whole = false; visits = broken-off b; says = rw e refl }
   says-on f g reads {a} {go} below (good-source {rs} l path e) = elim (decLe (actionOn rec ls list source g rs) 0) [
@@ -146,7 +146,7 @@ module _ (rec : RuleRecord) (ls : Lists) (list : List ℕ) (source : ℕ)
       more : (rs rows : List ℕ) → reads + length rs + length rows ≡ reads + length (atPlace (trieRow list g .place) rs ++ rows)
       more rs rows = omega (arith, joined-length (atPlace (trieRow list g .place) rs) rows, placed-length (trieRow list g .place) rs)
 
-  pub through-says : (f n reads : ℕ) → Says f n reads (from f n reads)
+  pub through-says : (f n reads : ℕ) → VisitsSay f n reads (from f n reads)
   unfolding throughTries verdict
   through-says zero zero reads = record { tries = []; rows = []; action = 0; whole = true; visits = no-more; says = ap NoRule (sym (add-zero reads)) }
   through-says zero (suc g) reads = record { tries = []; rows = []; action = 0; whole = false; visits = too-many; says = refl }

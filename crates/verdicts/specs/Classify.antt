@@ -30,14 +30,14 @@ onward (NoRoute r) reads next = next (reads + r)
 onward (Answer.Refused n) reads next = Refused 9
 
 -- the lookup in source trie g that can be visited
-unfoldable pub lookedUp : (most W k : ℕ) → Lists → List ℕ → (source g : ℕ) → Answer
-lookedUp most W k ls list source g = lookupOf most (sourceRecord W k (trieRow list g)) (fromPlace (trieRow list g .place) ls) source
+unfoldable pub sourceLookup : (most W k : ℕ) → Lists → List ℕ → (source g : ℕ) → Answer
+sourceLookup most W k ls list source g = lookupOf most (sourceRecord W k (trieRow list g)) (fromPlace (trieRow list g .place) ls) source
 
 -- e is the E of all tries
 module _ (most e W k : ℕ) (ls : Lists) (list : List ℕ) (source : ℕ) where
   -- and in any that is called for
   unfoldable pub sourceOf : (g : ℕ) → Answer
-  sourceOf g = cond (visitable e list g) (lookedUp most W k ls list source g) (Answer.Refused 9)
+  sourceOf g = cond (visitable e list g) (sourceLookup most W k ls list source g) (Answer.Refused 9)
 
   -- the source tries from number n on, f of which may still be visited, after `reads` blocks
   unfoldable pub throughTries : (f n reads : ℕ) → Verdict

@@ -11,7 +11,7 @@ use Rattle.walk.specs.Rows.{Lists, rowOf}
 use Rattle.walk.specs.Answers.{newBest, latest, answer}
 use Rattle.walk.specs.Lookup.{readable, trail, tell, pathOf, unfit, refusalOf, lookupOf}
 use Rattle.verdicts.specs.Tries.{trieRow}
-use Rattle.verdicts.specs.Classify.{visitable, onward, lookedUp, sourceOf, throughTries, earlyRefusal, fromDest, classifyOf}
+use Rattle.verdicts.specs.Classify.{visitable, onward, sourceLookup, sourceOf, throughTries, earlyRefusal, fromDest, classifyOf}
 use Rattle.verdicts.specs.declared.record.RuleRecord.{RuleRecord}
 use Rattle.verdicts.specs.declared.visiting.Verdict.{Verdict}
 use Rattle.verdicts.specs.declared.visiting.Verdict.the-variants.{Act, Discard, NoRule, Refused}
@@ -45,7 +45,7 @@ five-verdicts : (five 14 (fiveList 1) 0b101 0b111 ≡ Discard 4) × (five 14 (fi
     × (five 14 (fiveList 1) 0b111 0b011 ≡ Act 4 3) × (five 14 (fiveList 1) 0b000 0b000 ≡ NoRule 1)
     × (five 14 (fiveList 1) 8 0 ≡ Refused 8) × (five 14 (fiveList 1) 0 8 ≡ Refused 8) × (five 14 (fiveList 65537) 0b101 0b000 ≡ Act 1 5)
 unfolding outside padded answer newBest rowOf readable trail latest tell pathOf unfit refusalOf lookupOf
-    visitable onward lookedUp sourceOf throughTries earlyRefusal fromDest classifyOf
+    visitable onward sourceLookup sourceOf throughTries earlyRefusal fromDest classifyOf
 five-verdicts = (refl, refl, refl, refl, refl, refl, refl, refl, refl)
 
 -- E of all tries one less: the last trie's rows run past it, and it matters where that trie is visited. A list without that trie's row, one
@@ -61,5 +61,5 @@ five-damages : (five 13 (fiveList 1) 0b111 0b011 ≡ Refused 9) × (five 13 (fiv
     × (five 14 shortList 0b111 0b011 ≡ Refused 9) × (five 14 shortList 0b101 0b111 ≡ Discard 4)
     × (five 14 roundList 0b101 0b010 ≡ Refused 9) × (five 14 roundList 0b111 0b011 ≡ Refused 9)
 unfolding outside padded answer newBest rowOf readable trail latest tell pathOf unfit refusalOf lookupOf
-    visitable onward lookedUp sourceOf throughTries earlyRefusal fromDest classifyOf
+    visitable onward sourceLookup sourceOf throughTries earlyRefusal fromDest classifyOf
 five-damages = (refl, refl, refl, refl, refl, refl, refl, refl)

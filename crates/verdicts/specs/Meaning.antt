@@ -70,7 +70,7 @@ module _ (rec : RuleRecord) (ls : Lists) (list : List ℕ) (dest source : ℕ) w
         → VisitsTries rec ls list source VISITS (calledFirst rs) ts rows a false → RuleDamage
 
   -- the tries visited, and the rows on the paths in all of them, the destination's first
-  pub record Way (tries rows : List ℕ) (action : ℕ) : Type 0 where
+  pub record TriesWay (tries rows : List ℕ) (action : ℕ) : Type 0 where
     pub destRows : List ℕ
     pub sourceRows : List ℕ
     pub dest-path : OnPath (rec .dest) ls dest destRows
@@ -89,7 +89,7 @@ module _ (rec : RuleRecord) (ls : Lists) (list : List ℕ) (dest source : ℕ) w
     -- the trie that matches, the reads are the rows on the paths in all tries visited; and the case is that of number and action
     pub record Classified (v : Verdict) : Type 0 where
       pub tested : RuleTested (verdictNumber v)
-      pub told : verdictNumber v ≡ 0 → (tries : List ℕ) × (rows : List ℕ) × Way tries rows (actionOf v) × (verdictReads v ≡ length rows)
+      pub told : verdictNumber v ≡ 0 → (tries : List ℕ) × (rows : List ℕ) × TriesWay tries rows (actionOf v) × (verdictReads v ≡ length rows)
       pub case : VerdictCase v
 
 -- ---- what a verdict may depend on (02: "those tries' rows in their list, floors and links included")

@@ -5,7 +5,7 @@ ghost use Rattle.walk.specs.Limits.{WIDTH, LEVELS};
 ghost use Rattle.walk.specs.Rows.{lists};
 ghost use Rattle.walk.specs.Answers.{readsOf};
 ghost use Rattle.verdicts.specs.Limits.{VISITS};
-ghost use Rattle.verdicts.specs.Classify.{visitable, onward, lookedUp, sourceOf, throughTries};
+ghost use Rattle.verdicts.specs.Classify.{visitable, onward, sourceLookup, sourceOf, throughTries};
 ghost use Rattle.verdicts.specs.Visiting.{CanVisit, Visitable};
 ghost use Rattle.verdicts.specs.declared.visiting.Verdict.the-variants.{NoRule};
 use crate::limits::COUNT;
@@ -54,7 +54,7 @@ fn look_up(
     requires { ⌜ CanVisit width levels elements (lists (now hops) (now lens) (now links) (now strides)) source ⌝ }
     requires { ⌜ Visitable elements (now list) g ⌝ }
     ensures { λ r. ⌜
-        r ≡ lookedUp WIDTH width levels (lists (now (hops .entry)) (now (lens .entry)) (now (links .entry)) (now (strides .entry)))
+        r ≡ sourceLookup WIDTH width levels (lists (now (hops .entry)) (now (lens .entry)) (now (links .entry)) (now (strides .entry)))
         (now (list .entry)) source g ⌝ }
 {
     let row = g * TRIE_ROW;

@@ -5,7 +5,7 @@ use lib.ListN.{length, replicate}
 use Rattle.walk.specs.Rows.{lists}
 use Rattle.choosers.specs.Kinds.{kindOf}
 use Rattle.rules.specs.Splitting.{splitRules}
-use Rattle.rules.proofs.Steps.{all-roomy, scratch-short, split-built}
+use Rattle.rules.proofs.Steps.{all-roomy, all-scratch-short, split-built}
 use borrow.Author.Needs.{needs}
 use Rattle.rules.proofs.building.build_split.Statement.{statement}
 use Rattle.rules.proofs.building.build_split.Tie as tie
@@ -30,7 +30,7 @@ returns c =
     let a = c .before .before .before .before .before .before .before .before .before .before .before .before .before .before .before .before .args in
     let s = splitRules (a .first .now) (a .vals .now) (a .lens .now) (a .nums .now) (a .svals .now) (a .slens .now) (a .actions .now) in
     let rows = lists (a .rowhops .now) (a .rowlens .now) (a .rowlinks .now) (a .rowstrides .now) in
-    scratch-short (kindOf (a .kind)) (a .width) (a .levels) s (a .scratch .now) rows (a .list .now) (c .before .before .all-nodes .ensures) (c .before .if1 .taken)
+    all-scratch-short (kindOf (a .kind)) (a .width) (a .levels) s (a .scratch .now) rows (a .list .now) (c .before .before .all-nodes .ensures) (c .before .if1 .taken)
     (c .refused .ensures .0) (c .refused .ensures .1)
 
 -- src/building.rt:194:9

@@ -7,7 +7,7 @@ use Rattle.choosers.specs.Kinds.{kindOf}
 use Rattle.rules.specs.Splitting.{splitRules}
 use Rattle.rules.specs.Laying.{LaidTo}
 use Rattle.rules.proofs.Links.{table-short}
-use Rattle.rules.proofs.Standing.{laid-none, laid-next, may-part, may-lay, may-list, place-few}
+use Rattle.rules.proofs.Standing.{laid-none, laid-next, may-part, may-lay-source, may-list, source-place-few}
 use Rattle.rules.proofs.laying.lay_sources.Statement.{statement}
 use Rattle.rules.proofs.laying.lay_sources.Tie as tie
 use Rattle.rules.proofs.laying.lay_sources.Reads as reads
@@ -41,9 +41,9 @@ lay-source-requires c κs =
     let t = p .split .plans 0 (omega arith) .table in (
       may-part (kindOf (a .kind)) (a .width) (a .levels) s p (l .inv .0) h,
       (
-        rw (l .inv .1) (may-lay (kindOf (a .kind)) (a .width) (a .levels) s p (l .inv .0) h),
+        rw (l .inv .1) (may-lay-source (kindOf (a .kind)) (a .width) (a .levels) s p (l .inv .0) h),
         (
-          (may-list (kindOf (a .kind)) (a .width) (a .levels) s p (l .inv .0) h, place-few (kindOf (a .kind)) (a .width) (a .levels) s p (l .inv .0)),
+          (may-list (kindOf (a .kind)) (a .width) (a .levels) s p (l .inv .0) h, source-place-few (kindOf (a .kind)) (a .width) (a .levels) s p (l .inv .0)),
           (t .lengths, h, p .split .few, table-short (a .width) (a .vals .now) (a .lens .now) (a .nums .now) t),
         ),
       ),
@@ -76,7 +76,7 @@ add-place c =
     let c16 = c .before .before .before .before .before .before .before .before .before .before .before .before .before .before .before .before in
     let c32 = c16 .before .before .before .before .before .before .before .before .before .before .before .before .before .before .before .before in
     let c34 = c32 .before .before in
-    record { fits = omega (arith, place-few _ _ _ _ (c34 .pre) (onward c)) }
+    record { fits = omega (arith, source-place-few _ _ _ _ (c34 .pre) (onward c)) }
 
 -- src/laying.rt:189:9
 add-g : tie.Need-add-g Inv-loop μ-loop

@@ -1,8 +1,10 @@
-use lib.ListN.{length}
+use lib.ListN.{length, getD}
 use Rattle.walk.specs.declared.walk.Answer.{Answer}
 use Prim.Native.Nat.{ℕ, _+_, _-_, _*_, _≤_}
 use mathlib.Core.Path.{_≡_, refl, sym, ap, _∙_}
-use mathlib.Core.List.{[], _∷_}
+use mathlib.Core.List.{List, [], _∷_}
+use mir.Val.{Fits}
+use mir.Syntax.{w32, w64}
 use mathlib.Core.Logic.{_⊎_, ⊎-elim}
 use native.Mathlib.Omega.{arith}
 use borrow.Author.Needs.{needs}
@@ -22,6 +24,10 @@ use Rattle.verdicts.proofs.visiting.visit_tries.Reads as reads
 use Rattle.verdicts.proofs.visiting.visit_tries.Lts as lts
 use Rattle.verdicts.proofs.visiting.judged.Reads as judged-reads
 use Rattle.verdicts.proofs.visiting.source_answer.Reads as source-answer-reads
+
+-- a number of 32 bits is one of 64
+wider : (xs : List ℕ) → ((i : ℕ) → Fits w32 (getD xs i 0)) → (i : ℕ) → Fits w64 (getD xs i 0)
+wider xs small i = record { fits = omega (arith, small i) }
 
 -- a verdict of the other three cases
 not-no-rule : {v : Verdict} → OneOf (0 ∷ 1 ∷ 3 ∷ []) (tagOf verdicts.the-type v) → (s : ℕ) → v ≡ NoRule s → ⊥
@@ -123,7 +129,8 @@ shared-slice-read-n c = omega (arith, next-inside (c .before))
 -- src/visiting.rt:191:13
 cast-n : tie.Need-cast-n Inv-loop μ-loop
 cast-n c =
-    record { fits = omega (arith, c .shared-slice-known6 .given ((c .before .before .before .before .before .before .before .before .loop .n - 1) * 5 + 4)) }
+    let c8 = c .before .before .before .before .before .before .before .before in
+    wider (c8 .before .before .before .before .before .before .args .list .now) (c .shared-slice-known6 .given) _
 
 -- src/visiting.rt:167:5
 loop-less : tie.Need-loop-less Inv-loop μ-loop
