@@ -60,6 +60,58 @@ pub struct Answer {
     pub reads: u32,
 }
 
+/// What a build of rules hands back beside its element rows and its list of tries; all of it is lent to each classification.
+#[repr(C)]
+#[derive(Clone, Copy, PartialEq, Eq, Debug, Default)]
+pub struct RuleRecord {
+    pub dest: Record,
+    pub elements: u32,
+}
+
+#[repr(C)]
+#[derive(Clone, Copy, PartialEq, Eq, Debug, Default)]
+pub struct BuiltRules {
+    pub number: u32,
+    pub detail: u64,
+    pub record: RuleRecord,
+}
+
+#[repr(C)]
+#[derive(Clone, Copy, PartialEq, Eq, Debug, Default)]
+pub struct Verdict {
+    pub number: u32,
+    pub action: u16,
+    pub reads: u32,
+}
+
+/// A build of rules of either kind.
+pub type BuildRules = unsafe extern "C" fn(
+    width: u32,
+    levels: u32,
+    dest_value: *const u32,
+    dest_values: usize,
+    dest_length: *const u8,
+    dest_lengths: usize,
+    source_value: *const u32,
+    source_values: usize,
+    source_length: *const u8,
+    source_lengths: usize,
+    action: *const u16,
+    actions: usize,
+    scratch: *mut u64,
+    words: usize,
+    row_hop: *mut u16,
+    row_hops: usize,
+    row_length: *mut u8,
+    row_lengths: usize,
+    row_link: *mut u32,
+    row_links: usize,
+    row_stride: *mut u8,
+    row_strides: usize,
+    list: *mut u32,
+    numbers: usize,
+) -> BuiltRules;
+
 /// A build of either kind.
 pub type Build = unsafe extern "C" fn(
     width: u32,
@@ -260,4 +312,74 @@ extern "C" {
         hop_rows: usize,
         address: u32,
     ) -> Answer;
+
+    pub fn hongsamuk_build_rules_fixed(
+        width: u32,
+        levels: u32,
+        dest_value: *const u32,
+        dest_values: usize,
+        dest_length: *const u8,
+        dest_lengths: usize,
+        source_value: *const u32,
+        source_values: usize,
+        source_length: *const u8,
+        source_lengths: usize,
+        action: *const u16,
+        actions: usize,
+        scratch: *mut u64,
+        words: usize,
+        row_hop: *mut u16,
+        row_hops: usize,
+        row_length: *mut u8,
+        row_lengths: usize,
+        row_link: *mut u32,
+        row_links: usize,
+        row_stride: *mut u8,
+        row_strides: usize,
+        list: *mut u32,
+        numbers: usize,
+    ) -> BuiltRules;
+
+    pub fn hongsamuk_build_rules_variable(
+        width: u32,
+        levels: u32,
+        dest_value: *const u32,
+        dest_values: usize,
+        dest_length: *const u8,
+        dest_lengths: usize,
+        source_value: *const u32,
+        source_values: usize,
+        source_length: *const u8,
+        source_lengths: usize,
+        action: *const u16,
+        actions: usize,
+        scratch: *mut u64,
+        words: usize,
+        row_hop: *mut u16,
+        row_hops: usize,
+        row_length: *mut u8,
+        row_lengths: usize,
+        row_link: *mut u32,
+        row_links: usize,
+        row_stride: *mut u8,
+        row_strides: usize,
+        list: *mut u32,
+        numbers: usize,
+    ) -> BuiltRules;
+
+    pub fn hongsamuk_classify(
+        record: RuleRecord,
+        row_hop: *const u16,
+        row_hops: usize,
+        row_length: *const u8,
+        row_lengths: usize,
+        row_link: *const u32,
+        row_links: usize,
+        row_stride: *const u8,
+        row_strides: usize,
+        list: *const u32,
+        numbers: usize,
+        dest: u32,
+        source: u32,
+    ) -> Verdict;
 }
