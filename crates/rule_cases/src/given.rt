@@ -1,4 +1,5 @@
 // The rules of a line, and what a `record` line gives: a record, rows for the element lists, then numbers for the list of tries.
+ghost use Prim.Native.Nat.{_≤_};
 use cases::FourLengths;
 use verdicts::RuleRecord;
 use walk::LEVELS;
@@ -20,6 +21,16 @@ pub struct Lists {
     pub elements: FourLengths,
     pub list: usize,
     pub next: usize,
+}
+
+// So many places of scratch, of each element list and of the list of tries.
+pub struct Lent {
+    pub words: usize,
+    pub hops: usize,
+    pub lengths: usize,
+    pub links: usize,
+    pub strides: usize,
+    pub list: usize,
 }
 
 // A record and its lists, as a line gives them.
@@ -137,6 +148,22 @@ pub(crate) fn is_longer(lists: Lists, rows: usize, numbers: usize) -> bool {
         return true;
     }
     numbers < lists.list
+}
+
+// What a build line is lent: what it asks for, as far as the room goes.
+pub(crate) fn within_room(words: usize, lists: Lists, room: Lent) -> Lent
+    ensures { λ r. ⌜
+        (r .words ≤ room .words) × (r .hops ≤ room .hops) × (r .lengths ≤ room .lengths) × (r .links ≤ room .links) × (r .strides ≤ room .strides)
+        × (r .list ≤ room .list) ⌝ }
+{
+    Lent {
+        words: cases::least(words, room.words),
+        hops: cases::least(lists.elements.hops, room.hops),
+        lengths: cases::least(lists.elements.lengths, room.lengths),
+        links: cases::least(lists.elements.links, room.links),
+        strides: cases::least(lists.elements.strides, room.strides),
+        list: cases::least(lists.list, room.list),
+    }
 }
 
 // A record's numbers: of its strides all but the first are the sixth, and the last is the E of all tries.

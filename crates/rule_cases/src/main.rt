@@ -13,6 +13,7 @@ mod saying;
 
 use choosers::Kind;
 use given::HeldRules;
+use given::Lent;
 use given::Lists;
 use given::given_at;
 use given::is_bad_rules;
@@ -22,6 +23,7 @@ use given::lists_at;
 use given::read_list;
 use given::read_rules;
 use given::rules_at;
+use given::within_room;
 use libc::STDIN_FILENO;
 use printing::say;
 use rules::build_rules;
@@ -138,10 +140,13 @@ fn built(
     )
 }
 
-fn build_held(
+// Lends as many places of scratch and of the lists as a line asks for, as far as the room goes.
+fn build_lent(
     kind: Kind,
     levels: u32,
     held: HeldRules,
+    words: usize,
+    lists: Lists,
     dvals: &[u32],
     dlens: &[u8],
     svals: &[u32],
@@ -154,6 +159,21 @@ fn build_held(
     row_strides: &mut [u8],
     list: &mut [u32],
 ) -> RuleRecord {
+    let room = Lent {
+        words: scratch.len(),
+        hops: row_hops.len(),
+        lengths: row_lengths.len(),
+        links: row_links.len(),
+        strides: row_strides.len(),
+        list: list.len(),
+    };
+    let lent = within_room(words, lists, room);
+    let n = lent.words;
+    let a = lent.hops;
+    let b = lent.lengths;
+    let c = lent.links;
+    let d = lent.strides;
+    let e = lent.list;
     built(
         kind,
         held.width,
@@ -163,12 +183,12 @@ fn build_held(
         cases::front32(svals, held.svals),
         cases::front8(slens, held.slens),
         cases::front16(actions, held.actions),
-        scratch,
-        row_hops,
-        row_lengths,
-        row_links,
-        row_strides,
-        list,
+        &mut scratch[0..n],
+        &mut row_hops[0..a],
+        &mut row_lengths[0..b],
+        &mut row_links[0..c],
+        &mut row_strides[0..d],
+        &mut list[0..e],
     )
 }
 
@@ -180,7 +200,7 @@ fn bad_line(text: &[u8], at: usize, state: State) -> State {
     next
 }
 
-// Lends as many places of scratch and of the lists as the line says.
+// A build of the rules, in lists of the lengths that the line gives.
 fn build_line(
     text: &[u8],
     at: usize,
@@ -198,42 +218,40 @@ fn build_line(
     row_strides: &mut [u8],
     list: &mut [u32],
 ) -> State {
+    let held = state.held;
     let levels = cases::number(text, at);
-    let places = cases::number(text, levels.next);
-    let lists = lists_at(text, places.next);
-    if scratch.len() < places.value as usize {
+    let words = cases::number(text, levels.next);
+    let lists = lists_at(text, words.next);
+    if scratch.len() < words.value as usize {
         return bad_line(text, at, state);
     }
     if is_longer(lists, row_hops.len(), list.len()) {
         return bad_line(text, at, state);
     }
-    let held = state.held;
-    let n = cases::least(places.value as usize, scratch.len());
-    let a = cases::least(lists.elements.hops, row_hops.len());
-    let b = cases::least(lists.elements.lengths, row_lengths.len());
-    let c = cases::least(lists.elements.links, row_links.len());
-    let d = cases::least(lists.elements.strides, row_strides.len());
-    let e = cases::least(lists.list, list.len());
-    let mut next = state;
-    next.record = build_held(
+    let record = build_lent(
         kind,
         cases::held32(levels.value),
         held,
+        words.value as usize,
+        lists,
         dvals,
         dlens,
         svals,
         slens,
         actions,
-        &mut scratch[0..n],
-        &mut row_hops[0..a],
-        &mut row_lengths[0..b],
-        &mut row_links[0..c],
-        &mut row_strides[0..d],
-        &mut list[0..e],
+        scratch,
+        row_hops,
+        row_lengths,
+        row_links,
+        row_strides,
+        list,
     );
-    next.lists = lists;
-    next.at = lists.next;
-    next
+    State {
+        held,
+        record,
+        lists,
+        at: lists.next,
+    }
 }
 
 // A record, rows and a list of tries of its own.
@@ -294,7 +312,7 @@ fn rules_line(
     next
 }
 
-// A question about the last record and its lists: `print`, `look` or `sweep`.
+// A question about the last record and its lists: `print`, `look` or `sweep`; or a line of another word. Returns the next place.
 fn ask(
     text: &[u8],
     at: usize,
@@ -306,6 +324,9 @@ fn ask(
     row_strides: &[u8],
     list: &[u32],
 ) -> usize {
+    if let Word::Other = word {
+        return bad_line(text, at, state).at;
+    }
     let record = state.record;
     let lists = state.lists;
     let h = cases::front16(row_hops, lists.elements.hops);
@@ -377,7 +398,6 @@ fn line(
             row_strides,
             list,
         ),
-        Word::Other => bad_line(text, at, state),
         _ => {
             let mut next = state;
             next.at = ask(

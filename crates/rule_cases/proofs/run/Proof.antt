@@ -7,13 +7,13 @@ use Rattle.rule_cases.proofs.run.Statement.{statement}
 use Rattle.rule_cases.proofs.run.Tie as tie
 
 abbrev Inv-loop : tie.InvT-loop
-Inv-loop text dvals₀ dlens₀ svals₀ slens₀ actions₀ scratch₀ row-hops₀ row-lengths₀ row-links₀ row-strides₀ list₀ state₀ left₀ t16 dvals dlens svals slens actions scratch row-hops row-lengths row-links row-strides list state left =
+Inv-loop text dvals₀ dlens₀ svals₀ slens₀ actions₀ scratch₀ hops₀ lengths₀ links₀ strides₀ list₀ state₀ left₀ t dvals dlens svals slens actions scratch hops lengths links strides list state left =
     (length dvals ≡ length dvals₀) × (length dlens ≡ length dlens₀) × (length svals ≡ length svals₀) × (length slens ≡ length slens₀)
-    × (length actions ≡ length actions₀) × (length scratch ≡ length scratch₀) × (length row-hops ≡ length row-hops₀) × (length row-lengths ≡ length row-lengths₀)
-    × (length row-links ≡ length row-links₀) × (length row-strides ≡ length row-strides₀) × (length list ≡ length list₀)
+    × (length actions ≡ length actions₀) × (length scratch ≡ length scratch₀) × (length hops ≡ length hops₀) × (length lengths ≡ length lengths₀)
+    × (length links ≡ length links₀) × (length strides ≡ length strides₀) × (length list ≡ length list₀)
 
 abbrev μ-loop : tie.MeasureT-loop
-μ-loop text dvals₀ dlens₀ svals₀ slens₀ actions₀ scratch₀ row-hops₀ row-lengths₀ row-links₀ row-strides₀ list₀ state₀ left₀ t16 dvals dlens svals slens actions scratch row-hops row-lengths row-links row-strides list state left = left
+μ-loop text dvals₀ dlens₀ svals₀ slens₀ actions₀ scratch₀ hops₀ lengths₀ links₀ strides₀ list₀ state₀ left₀ t dvals dlens svals slens actions scratch hops lengths links strides list state left = left
 
 number-requires : tie.Need-number-requires Inv-loop μ-loop
 number-requires c κs = search needs
@@ -35,17 +35,20 @@ say-requires c κs = search needs
 
 sub-left : tie.Need-sub-left Inv-loop μ-loop
 sub-left c =
-    let turn = c .before .before .before .before .before .before .before .before .before .before .before .before .before .before .before .before .before .before .before .before .before .before .before .before in
+    let said = c .before .before .before .before .before .before .before .before .before .before .before .before in
+    let turn = said .before .before .before .before .before .before .before .before .before .before .before .before in
     omega (arith, turn .before .before .before .before .before .before .before .before .before .before .before .before .loop-test .taken)
 
 loop-less : tie.Need-loop-less Inv-loop μ-loop
 loop-less c =
-    let turn = c .before .before .before .before .before .before .before .before .before .before .before .before .before .before .before .before .before .before .before .before .before .before .before .before in
+    let said = c .before .before .before .before .before .before .before .before .before .before .before .before in
+    let turn = said .before .before .before .before .before .before .before .before .before .before .before .before in
     omega (arith, turn .before .before .before .before .before .before .before .before .before .before .before .before .loop-test .taken)
 
 loop-again : tie.Need-loop-again Inv-loop μ-loop
 loop-again c =
-    let turn = c .before .before .before .before .before .before .before .before .before .before .before .before .before .before .before .before .before .before .before .before .before .before .before .before in
+    let said = c .before .before .before .before .before .before .before .before .before .before .before .before in
+    let turn = said .before .before .before .before .before .before .before .before .before .before .before .before in
     omega (arith, turn .line .kept, turn .before .before .before .before .before .before .before .before .before .before .before .before .before .loop .inv)
 
 same-length : tie.Need-same-length Inv-loop μ-loop
