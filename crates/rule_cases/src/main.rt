@@ -312,7 +312,7 @@ fn rules_line(
     next
 }
 
-// A question about the last record and its lists: `print`, `look` or `sweep`; or a line of another word. Returns the next place.
+// A question about the last record and its lists: `print`, `look` or `sweep`; or a line of another word.
 fn ask(
     text: &[u8],
     at: usize,
@@ -323,10 +323,11 @@ fn ask(
     row_links: &[u32],
     row_strides: &[u8],
     list: &[u32],
-) -> usize {
+) -> State {
     if let Word::Other = word {
-        return bad_line(text, at, state).at;
+        return bad_line(text, at, state);
     }
+    let mut next = state;
     let record = state.record;
     let lists = state.lists;
     let h = cases::front16(row_hops, lists.elements.hops);
@@ -336,18 +337,20 @@ fn ask(
     let t = cases::front32(list, lists.list);
     if let Word::Print = word {
         print(record.elements as usize, h, b, l, s, t);
-        return cases::seek(text, at, b'\n', b'\n');
+        next.at = cases::seek(text, at, b'\n', b'\n');
+        return next;
     }
     let first = cases::number(text, at);
     let second = cases::number(text, first.next);
+    next.at = second.next;
     let dest = cases::held32(first.value);
     let source = cases::held32(second.value);
     if let Word::Sweep = word {
         sweep(dest, source, record, h, b, l, s, t);
-        return second.next;
+        return next;
     }
     say_verdict(classify(record, h, b, l, s, t, dest, source));
-    second.next
+    next
 }
 
 // One case: the first word of the next line says which.
@@ -360,10 +363,10 @@ fn line(
     slens: &mut [u8],
     actions: &mut [u16],
     scratch: &mut [u64],
-    row_hops: &mut [u16],
-    row_lengths: &mut [u8],
-    row_links: &mut [u32],
-    row_strides: &mut [u8],
+    hops: &mut [u16],
+    lens: &mut [u8],
+    links: &mut [u32],
+    strides: &mut [u8],
     list: &mut [u32],
 ) -> State {
     let end = cases::seek(text, state.at, b'\n', b'\n');
@@ -382,37 +385,14 @@ fn line(
             slens,
             actions,
             scratch,
-            row_hops,
-            row_lengths,
-            row_links,
-            row_strides,
+            hops,
+            lens,
+            links,
+            strides,
             list,
         ),
-        Word::Record => record_line(
-            text,
-            at,
-            state,
-            row_hops,
-            row_lengths,
-            row_links,
-            row_strides,
-            list,
-        ),
-        _ => {
-            let mut next = state;
-            next.at = ask(
-                text,
-                at,
-                word,
-                state,
-                row_hops,
-                row_lengths,
-                row_links,
-                row_strides,
-                list,
-            );
-            next
-        }
+        Word::Record => record_line(text, at, state, hops, lens, links, strides, list),
+        _ => ask(text, at, word, state, hops, lens, links, strides, list),
     }
 }
 
