@@ -52,7 +52,7 @@ unfolding setFirst
 set-first-same f g e zero l = refl
 set-first-same f g e (suc n) l = rw (set-first-same f g e n l, e n)
 
-set-first-on : (f : ℕ → ℕ) (i : ℕ) (l₀ : List ℕ) {v : ℕ} {l : List ℕ} → l ≡ setFirst f i l₀ → v ≡ f i → set l i v ≡ setFirst f (i + 1) l₀
+pub set-first-on : (f : ℕ → ℕ) (i : ℕ) (l₀ : List ℕ) {v : ℕ} {l : List ℕ} → l ≡ setFirst f i l₀ → v ≡ f i → set l i v ≡ setFirst f (i + 1) l₀
 unfolding setFirst
 set-first-on f i l₀ el ev = rw (el, ev, add-one i)
 

@@ -1,4 +1,5 @@
 pub mod Climbing
+pub mod ElementRows
 pub mod Filling
 pub mod Fitting
 pub mod Holding

@@ -27,6 +27,10 @@ SUPERNODES = 8740
 abbrev pub HOP-ROWS : ℕ
 HOP-ROWS = 65537
 
+-- the numbers of a list of tries: more than the rules of any build call for
+abbrev pub LIST : ℕ
+LIST = 8740
+
 abbrev pub FIRST-DIGIT : ℕ
 FIRST-DIGIT = 48
 

@@ -1,8 +1,9 @@
 // What the vector programs share: room for a run's text and lists, the reading of decimal numbers, of the
-// word that begins a line and of a table's line, the making of a table of rising entries, and marks laid in a lent list before a
-// call and counted after it.
+// word that begins a line, of a table's line and of rows for the element lists, the making of a table of rising entries, and marks laid
+// in a lent list before a call and counted after it.
 // Between two numbers any other bytes may stand, so that a case's line can say what its numbers mean.
 mod counts;
+mod elements;
 mod fills;
 mod fronts;
 mod limits;
@@ -18,6 +19,12 @@ pub use counts::count8;
 pub use counts::count16;
 pub use counts::count32;
 pub use counts::count64;
+pub use elements::ElementRow;
+pub use elements::FourLengths;
+pub use elements::element_rows;
+pub use elements::four_at;
+pub use elements::is_past;
+pub use elements::no_lists;
 pub use fills::fill8;
 pub use fills::fill16;
 pub use fills::fill32;
@@ -40,6 +47,7 @@ pub use room::firsts;
 pub use room::hop_rows;
 pub use room::hops;
 pub use room::lengths;
+pub use room::list_of_tries;
 pub use room::maps;
 pub use room::page;
 pub use room::row_hops;

@@ -20,6 +20,9 @@ pub const SUPERNODES: usize = 8740;
 // The places of a hop list: one more than a table has entries.
 pub const HOP_ROWS: usize = 65537;
 
+// The numbers of a list of tries: more than the 5,120 of 1,024 source tries, the most that rules call for.
+pub const LIST: usize = 8740;
+
 // The hops of a rising table go up to this one, and begin again.
 pub const LAST_HOP: usize = 65535;
 

@@ -2,8 +2,9 @@
 // the length, which lending the array as a slice needs.
 ghost use mathlib.Core.Path.{_≡_};
 ghost use lib.ListN.{length};
-ghost use Rattle.cases.specs.Limits.{TEXT, PLACES, SCRATCH, ROWS, SUPERNODES, HOP-ROWS};
+ghost use Rattle.cases.specs.Limits.{TEXT, PLACES, SCRATCH, ROWS, SUPERNODES, HOP-ROWS, LIST};
 use crate::limits::HOP_ROWS;
+use crate::limits::LIST;
 use crate::limits::PLACES;
 use crate::limits::ROWS;
 use crate::limits::SCRATCH;
@@ -86,4 +87,11 @@ pub fn hop_rows() -> [u16; HOP_ROWS]
     ensures { λ r. ⌜ HOP-ROWS ≡ length r ⌝ }
 {
     [0; HOP_ROWS]
+}
+
+// The list of tries of a build of rules.
+pub fn list_of_tries() -> [u32; LIST]
+    ensures { λ r. ⌜ LIST ≡ length r ⌝ }
+{
+    [0; LIST]
 }
