@@ -3,7 +3,7 @@
 # AArch64 a pointer to the caller's copy is passed. A result: on x86-64 the first parameter is its address, which is returned too,
 # on AArch64 the address comes in x8 (sret) and nothing is returned. Exported functions alone have them; no exported function
 # returns a pointer of its own. Of the size in sret LLVM takes only that so many bytes may be written: 24, a zone's span, is the
-# smallest of these structures, which have up to 64.
+# smallest of these structures, which have up to 72.
 /^target (datalayout|triple)/ { next }
 /^attributes / { gsub(/ "target-cpu"="[^"]*"/, "") }
 /^define / { result = 0 }

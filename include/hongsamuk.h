@@ -5,14 +5,19 @@
  *
  *    1  the width is 0 or above 32                                detail 0
  *    2  the level limit is 0 or above 32                          detail 0
- *    3  lists of unequal length, or more than 65,536 entries      detail 0
- *    4  an entry is no prefix of that width, or has hop 0         detail: its index
- *    5  an entry does not stand above the one before              detail: its index
- *    6  scratch has too few whole rows for the table's trie       detail: the rows needed
+ *    3  lists of unequal length, more than 65,536 entries or      detail 0
+ *       more than 1,024 rules
+ *    4  an entry is no prefix of that width, or has hop 0;        detail: its index
+ *       a rule has such a destination or source, or action 0
+ *    5  an entry or rule does not stand above the one before      detail: its index
+ *    6  scratch has too few whole rows for the table's trie,      detail: the rows needed
+ *       or for all tries of the rules
  *    7  too little room for elements, or above 16,777,216;        detail: the elements needed;
- *       of a bitmap too little for supernodes, then for hops      the supernodes or hops needed
- *    8  the address is not below 2^width                          detail 0
- *    9  a damaged record, damaged elements or a damaged bitmap    detail 0
+ *       of a bitmap too little for supernodes, then for hops;     the supernodes or hops needed;
+ *       of rules too little for elements, then for the list       the elements or list rows needed
+ *    8  the address is not below 2^width, or either of two        detail 0
+ *    9  a damaged record, damaged elements, a damaged bitmap      detail 0
+ *       or a damaged list of tries
  *   10  a prefix that is asked about is malformed                 detail 0
  *
  * A list is a pointer to its first number and, behind it, how many numbers it has. A pointer may be null where there are none.
@@ -27,6 +32,10 @@
  * beside a hop that is not 0 is that of the entry of length 0; beside hop 0 the length is always 0. Programs that were compiled with a
  * header without row_length must be compiled again: the calls have kept their names.
  *
+ * A rule is a destination prefix, a source prefix and an action, which is 1 to 65,535, HONGSAMUK_DISCARD being a discard here too. Rules
+ * rise by destination value, then destination length, source value and source length. Among the rules that match both addresses the
+ * longest destination wins, then the longest source.
+ *
  * A table can be laid out in two ways: in elements, as few as a level limit allows, or as a tree bitmap, in supernodes of four
  * levels and hops. Both give every address the same hop and the same length.
  *
@@ -36,8 +45,10 @@
  * A bitmap's scratch rows have HONGSAMUK_NODE_ROW numbers each, and it needs one for each node of the binary trie: for every start
  * of an entry, the whole entry and length 0 included. It needs as many hops as the table has entries; with these lent, and no
  * supernode, the detail of 7 is the number of supernodes.
+ * A build of rules needs a scratch row (HONGSAMUK_ROW numbers) for each node of all its tries, elements as the detail of 7 says with no
+ * element lent, and a row of the list (HONGSAMUK_TRIE_ROW numbers) for each destination: never more than there are rules.
  *
- * A chooser or a build of elements takes some 50,000 bytes of stack, every other call little.
+ * A chooser or a build of elements takes some 50,000 bytes of stack, a build of rules some STACK, every other call little.
  *
  * The layout of the structs, in bytes: where each field begins, then the size. The code behind the calls, this header and the calls
  * for Rust all have these numbers; the asserts at the end of this file hold a compiler of C11 or C++11 to them, and the tests of
@@ -45,13 +56,16 @@
  *
  *    hongsamuk_record         width 0, levels 4, elements 8, floor 12, strides 14, size 48
  *    hongsamuk_bitmap         width 0, supernodes 4, hops 8, size 12
+ *    hongsamuk_rule_record    dest 0, elements 48, size 52
  *    hongsamuk_checked        number 0, detail 8, size 16
  *    hongsamuk_shared         number 0, bits 4, size 8
  *    hongsamuk_span           number 0, detail 8, index 16, count 20, size 24
  *    hongsamuk_chosen         number 0, detail 8, cost 16, strides 24, size 56
  *    hongsamuk_built          number 0, detail 8, record 16, size 64
  *    hongsamuk_built_bitmap   number 0, detail 8, record 16, size 32
+ *    hongsamuk_built_rules    number 0, detail 8, record 16, size 72
  *    hongsamuk_answer         number 0, hop 4, length 6, reads 8, size 12
+ *    hongsamuk_verdict        number 0, action 4, reads 8, size 12
  */
 #ifndef HONGSAMUK_H
 #define HONGSAMUK_H
@@ -70,7 +84,10 @@ enum {
     HONGSAMUK_DISCARD = 65535,     /* the hop of a route that discards packets */
     HONGSAMUK_ELEMENTS = 16777216, /* the most elements of a build */
     HONGSAMUK_ROW = 72,            /* numbers in a scratch row of a chooser or of a build of elements */
-    HONGSAMUK_NODE_ROW = 4         /* numbers in a scratch row of a build of a bitmap */
+    HONGSAMUK_NODE_ROW = 4,        /* numbers in a scratch row of a build of a bitmap */
+    HONGSAMUK_RULES = 1024,        /* the most rules */
+    HONGSAMUK_TRIE_ROW = 5,        /* numbers in a row of the list of tries */
+    HONGSAMUK_VISITS = 33          /* the most source tries that a classification visits */
 };
 
 /* What a build hands back beside its element rows; all of it is lent to each lookup. */
@@ -88,6 +105,12 @@ typedef struct hongsamuk_bitmap {
     uint32_t supernodes;                 /* rows 0 to supernodes - 1 of the four lists are the build's */
     uint32_t hops;                       /* hop rows 0 to hops - 1 are the build's */
 } hongsamuk_bitmap;
+
+/* The same for rules. */
+typedef struct hongsamuk_rule_record {
+    hongsamuk_record dest;               /* the destination trie's own; its hops are numbers of source tries */
+    uint32_t elements;                   /* the E of all tries: rows 0 to E - 1 are the build's */
+} hongsamuk_rule_record;
 
 typedef struct hongsamuk_checked {
     uint32_t number;
@@ -125,12 +148,24 @@ typedef struct hongsamuk_built_bitmap {
     hongsamuk_bitmap record;             /* refused: all 0 */
 } hongsamuk_built_bitmap;
 
+typedef struct hongsamuk_built_rules {
+    uint32_t number;
+    uint64_t detail;
+    hongsamuk_rule_record record;        /* refused: all 0 */
+} hongsamuk_built_rules;
+
 typedef struct hongsamuk_answer {
     uint32_t number;                     /* 0, 1, 2, 8 or 9, whose detail is always 0 */
     uint16_t hop;                        /* 0: no route, or refused; HONGSAMUK_DISCARD: discard */
     uint8_t length;                      /* bits of the prefix that won; 0: the floor's, no route, or refused */
     uint32_t reads;                      /* blocks, or supernodes, read; refused: 0 */
 } hongsamuk_answer;
+
+typedef struct hongsamuk_verdict {
+    uint32_t number;                     /* 0, 1, 2, 8 or 9, whose detail is always 0 */
+    uint16_t action;                     /* 0: no rule, or refused; HONGSAMUK_DISCARD: discard */
+    uint32_t reads;                      /* blocks read in all tries, at most (HONGSAMUK_VISITS + 1) * levels; refused: 0 */
+} hongsamuk_verdict;
 
 /* Whether the three lists are a table of that width: tests 1, 3, 4, 5. No list changes. */
 hongsamuk_checked hongsamuk_check(
@@ -258,6 +293,65 @@ hongsamuk_answer hongsamuk_lookup_bitmap(
     const uint16_t *hop_row, size_t hop_rows,
     uint32_t address);
 
+/* Turns rules into a record, the element rows of all tries and a list of source tries: tests 1 to 7, with rules for entries, where 6
+ * counts the nodes and 7 the elements of all tries, in the shortest of the four element lists, and 7 then the whole rows of the list.
+ * There is a trie of the destinations, at row 0, and behind it one of the sources of each destination, as the destinations rise; each
+ * has the least number of elements of the kind. Links count from the trie's own first row. The source tries are numbered from 1, and
+ * row n - 1 of the list is that of number n:
+ *
+ *    0  floor    the action of the source of length 0, else 0
+ *    1  root     the stride of its root block; 0 where it has no elements
+ *    2  place    its first row
+ *    3  E        how many rows it has
+ *    4  next     the number of the trie to visit after it, that of the longest destination which is shorter than its own and begins it;
+ *                0 for none
+ *
+ * Accepted, all of scratch is 0, rows 0 to E - 1 of the element lists and the rows of the list are the build's, and what comes after
+ * them is as it was. Refused by 7, all of scratch is 0 and nothing else changes; refused by 1 to 6, no list changes. The rules' lists
+ * never change. */
+hongsamuk_built_rules hongsamuk_build_rules_fixed(
+    uint32_t width, uint32_t levels,
+    const uint32_t *dest_value, size_t dest_values,
+    const uint8_t *dest_length, size_t dest_lengths,
+    const uint32_t *source_value, size_t source_values,
+    const uint8_t *source_length, size_t source_lengths,
+    const uint16_t *action, size_t actions,
+    uint64_t *scratch, size_t words,
+    uint16_t *row_hop, size_t row_hops,
+    uint8_t *row_length, size_t row_lengths,
+    uint32_t *row_link, size_t row_links,
+    uint8_t *row_stride, size_t row_strides,
+    uint32_t *list, size_t numbers);
+
+hongsamuk_built_rules hongsamuk_build_rules_variable(
+    uint32_t width, uint32_t levels,
+    const uint32_t *dest_value, size_t dest_values,
+    const uint8_t *dest_length, size_t dest_lengths,
+    const uint32_t *source_value, size_t source_values,
+    const uint8_t *source_length, size_t source_lengths,
+    const uint16_t *action, size_t actions,
+    uint64_t *scratch, size_t words,
+    uint16_t *row_hop, size_t row_hops,
+    uint8_t *row_length, size_t row_lengths,
+    uint32_t *row_link, size_t row_links,
+    uint8_t *row_stride, size_t row_strides,
+    uint32_t *list, size_t numbers);
+
+/* Judges a packet by its two addresses: tests 1, 2, 8 (either address), 9. The destination is looked up, then the source in the trie
+ * that it calls for and in those next to visit, until one matches. Over a record and lists that one accepted build left together: the
+ * action of the rule that wins, a discard's too, or 0 where no rule matches. Over any other: by what is found there, and 9 where the E
+ * of all tries is above the shortest element list or below the destinations' own, where a lookup in a trie visited would be refused by
+ * 9, its rows run past the E of all tries, its row is not in the list, or a source trie after HONGSAMUK_VISITS is called for. No list
+ * changes. */
+hongsamuk_verdict hongsamuk_classify(
+    hongsamuk_rule_record record,
+    const uint16_t *row_hop, size_t row_hops,
+    const uint8_t *row_length, size_t row_lengths,
+    const uint32_t *row_link, size_t row_links,
+    const uint8_t *row_stride, size_t row_strides,
+    const uint32_t *list, size_t numbers,
+    uint32_t dest, uint32_t source);
+
 #ifdef __cplusplus
 }
 #endif
@@ -281,6 +375,9 @@ HONGSAMUK_AT(hongsamuk_bitmap, width, 0);
 HONGSAMUK_AT(hongsamuk_bitmap, supernodes, 4);
 HONGSAMUK_AT(hongsamuk_bitmap, hops, 8);
 HONGSAMUK_SIZE(hongsamuk_bitmap, 12);
+HONGSAMUK_AT(hongsamuk_rule_record, dest, 0);
+HONGSAMUK_AT(hongsamuk_rule_record, elements, 48);
+HONGSAMUK_SIZE(hongsamuk_rule_record, 52);
 HONGSAMUK_AT(hongsamuk_checked, number, 0);
 HONGSAMUK_AT(hongsamuk_checked, detail, 8);
 HONGSAMUK_SIZE(hongsamuk_checked, 16);
@@ -305,11 +402,19 @@ HONGSAMUK_AT(hongsamuk_built_bitmap, number, 0);
 HONGSAMUK_AT(hongsamuk_built_bitmap, detail, 8);
 HONGSAMUK_AT(hongsamuk_built_bitmap, record, 16);
 HONGSAMUK_SIZE(hongsamuk_built_bitmap, 32);
+HONGSAMUK_AT(hongsamuk_built_rules, number, 0);
+HONGSAMUK_AT(hongsamuk_built_rules, detail, 8);
+HONGSAMUK_AT(hongsamuk_built_rules, record, 16);
+HONGSAMUK_SIZE(hongsamuk_built_rules, 72);
 HONGSAMUK_AT(hongsamuk_answer, number, 0);
 HONGSAMUK_AT(hongsamuk_answer, hop, 4);
 HONGSAMUK_AT(hongsamuk_answer, length, 6);
 HONGSAMUK_AT(hongsamuk_answer, reads, 8);
 HONGSAMUK_SIZE(hongsamuk_answer, 12);
+HONGSAMUK_AT(hongsamuk_verdict, number, 0);
+HONGSAMUK_AT(hongsamuk_verdict, action, 4);
+HONGSAMUK_AT(hongsamuk_verdict, reads, 8);
+HONGSAMUK_SIZE(hongsamuk_verdict, 12);
 #undef HONGSAMUK_SIZE
 #undef HONGSAMUK_AT
 #undef HONGSAMUK_HOLDS

@@ -7,16 +7,19 @@
 //! |---|---|---|
 //! | 1 | the width is 0 or above 32 | 0 |
 //! | 2 | the level limit is 0 or above 32 | 0 |
-//! | 3 | lists of unequal length, or more than 65,536 entries | 0 |
-//! | 4 | an entry is no prefix of that width, or has hop 0 | its index |
-//! | 5 | an entry does not stand above the one before | its index |
-//! | 6 | scratch has too few whole rows for the table's trie | the rows needed |
-//! | 7 | too little room for elements, or above 16,777,216; of a bitmap too little for supernodes, then for hops | those needed |
-//! | 8 | the address is not below 2^width | 0 |
-//! | 9 | a damaged record, damaged elements or a damaged bitmap | 0 |
+//! | 3 | lists of unequal length, more than 65,536 entries or more than 1,024 rules | 0 |
+//! | 4 | an entry is no prefix of that width, or has hop 0; a rule has such a destination or source, or action 0 | its index |
+//! | 5 | an entry or rule does not stand above the one before | its index |
+//! | 6 | scratch has too few whole rows for the table's trie, or for all tries of the rules | the rows needed |
+//! | 7 | too little room for elements, or above 16,777,216; of a bitmap too little for supernodes, then for hops; of rules too little for elements, then for the list of tries | those needed, of the list its rows |
+//! | 8 | the address is not below 2^width, or either of two | 0 |
+//! | 9 | a damaged record, damaged elements, a damaged bitmap or a damaged list of tries | 0 |
 //! | 10 | a prefix that is asked about is malformed | 0 |
 
 pub mod raw;
+mod rules;
+
+pub use rules::{build_rules, classify, BuiltRules, RuleRecord, Rules, Verdict};
 
 /// The most bits of an address.
 pub const WIDTH: u32 = 32;
@@ -33,6 +36,13 @@ pub const SCRATCH_ROW: usize = 72;
 /// Numbers in a scratch row of a bitmap's build; it needs one row for each node of the table's binary trie: for every start of an
 /// entry, the whole entry and length 0 included.
 pub const NODE_ROW: usize = 4;
+/// The most rules.
+pub const RULES: usize = 1024;
+/// Numbers in a row of the list of tries; a build of rules needs one row for each destination.
+pub const TRIE_ROW: usize = 5;
+/// The most source tries that a classification visits: with the destinations' it reads at most `VISITS` + 1 times as many blocks as
+/// there are levels.
+pub const VISITS: u32 = 33;
 
 /// What a call decides before it answers.
 #[derive(Clone, Copy, PartialEq, Eq, Debug)]

@@ -1,7 +1,7 @@
 //! The calls of `include/hongsamuk.h` as they are: pointers and lengths. A pointer must be good for its length, or the length 0.
 //! The structures are laid out as in C; `tests/layout.rs` holds them to the table in the header's comment.
 
-use crate::{Bitmap, Record, LEVELS};
+use crate::{Bitmap, Record, RuleRecord, LEVELS};
 
 #[repr(C)]
 #[derive(Clone, Copy, PartialEq, Eq, Debug, Default)]
@@ -53,10 +53,26 @@ pub struct BuiltBitmap {
 
 #[repr(C)]
 #[derive(Clone, Copy, PartialEq, Eq, Debug, Default)]
+pub struct BuiltRules {
+    pub number: u32,
+    pub detail: u64,
+    pub record: RuleRecord,
+}
+
+#[repr(C)]
+#[derive(Clone, Copy, PartialEq, Eq, Debug, Default)]
 pub struct Answer {
     pub number: u32,
     pub hop: u16,
     pub length: u8,
+    pub reads: u32,
+}
+
+#[repr(C)]
+#[derive(Clone, Copy, PartialEq, Eq, Debug, Default)]
+pub struct Verdict {
+    pub number: u32,
+    pub action: u16,
     pub reads: u32,
 }
 
@@ -95,6 +111,34 @@ pub type Choose = unsafe extern "C" fn(
     scratch: *mut u64,
     words: usize,
 ) -> Chosen;
+
+/// A build of rules of either kind.
+pub type BuildRules = unsafe extern "C" fn(
+    width: u32,
+    levels: u32,
+    dest_value: *const u32,
+    dest_values: usize,
+    dest_length: *const u8,
+    dest_lengths: usize,
+    source_value: *const u32,
+    source_values: usize,
+    source_length: *const u8,
+    source_lengths: usize,
+    action: *const u16,
+    actions: usize,
+    scratch: *mut u64,
+    words: usize,
+    row_hop: *mut u16,
+    row_hops: usize,
+    row_length: *mut u8,
+    row_lengths: usize,
+    row_link: *mut u32,
+    row_links: usize,
+    row_stride: *mut u8,
+    row_strides: usize,
+    list: *mut u32,
+    numbers: usize,
+) -> BuiltRules;
 
 extern "C" {
     pub fn hongsamuk_check(
@@ -260,4 +304,74 @@ extern "C" {
         hop_rows: usize,
         address: u32,
     ) -> Answer;
+
+    pub fn hongsamuk_build_rules_fixed(
+        width: u32,
+        levels: u32,
+        dest_value: *const u32,
+        dest_values: usize,
+        dest_length: *const u8,
+        dest_lengths: usize,
+        source_value: *const u32,
+        source_values: usize,
+        source_length: *const u8,
+        source_lengths: usize,
+        action: *const u16,
+        actions: usize,
+        scratch: *mut u64,
+        words: usize,
+        row_hop: *mut u16,
+        row_hops: usize,
+        row_length: *mut u8,
+        row_lengths: usize,
+        row_link: *mut u32,
+        row_links: usize,
+        row_stride: *mut u8,
+        row_strides: usize,
+        list: *mut u32,
+        numbers: usize,
+    ) -> BuiltRules;
+
+    pub fn hongsamuk_build_rules_variable(
+        width: u32,
+        levels: u32,
+        dest_value: *const u32,
+        dest_values: usize,
+        dest_length: *const u8,
+        dest_lengths: usize,
+        source_value: *const u32,
+        source_values: usize,
+        source_length: *const u8,
+        source_lengths: usize,
+        action: *const u16,
+        actions: usize,
+        scratch: *mut u64,
+        words: usize,
+        row_hop: *mut u16,
+        row_hops: usize,
+        row_length: *mut u8,
+        row_lengths: usize,
+        row_link: *mut u32,
+        row_links: usize,
+        row_stride: *mut u8,
+        row_strides: usize,
+        list: *mut u32,
+        numbers: usize,
+    ) -> BuiltRules;
+
+    pub fn hongsamuk_classify(
+        record: RuleRecord,
+        row_hop: *const u16,
+        row_hops: usize,
+        row_length: *const u8,
+        row_lengths: usize,
+        row_link: *const u32,
+        row_links: usize,
+        row_stride: *const u8,
+        row_strides: usize,
+        list: *const u32,
+        numbers: usize,
+        dest: u32,
+        source: u32,
+    ) -> Verdict;
 }

@@ -1,7 +1,7 @@
 //! The layout of each struct that goes over the C calls, in three copies: the header's, this crate's, and the proved code's. Each is
 //! held to the one table of numbers in the header's comment. And the limits, which the header and this crate both name.
 
-use hongsamuk::{raw, Bitmap, Record};
+use hongsamuk::{raw, Bitmap, Record, RuleRecord};
 use std::collections::BTreeMap;
 use std::mem::{offset_of, size_of};
 use std::path::Path;
@@ -12,16 +12,19 @@ type Layout = Vec<(String, usize)>;
 const HEADER: &str = include_str!("../../../include/hongsamuk.h");
 
 /// The header's name of a struct, and the proved code's.
-const NAMES: [(&str, &str); 9] = [
+const NAMES: [(&str, &str); 12] = [
     ("hongsamuk_record", "Record"),
     ("hongsamuk_bitmap", "Bitmap"),
+    ("hongsamuk_rule_record", "RuleRecord"),
     ("hongsamuk_checked", "Checked"),
     ("hongsamuk_shared", "SharedNumbers"),
     ("hongsamuk_span", "SpanNumbers"),
     ("hongsamuk_chosen", "ChosenNumbers"),
     ("hongsamuk_built", "BuiltNumbers"),
     ("hongsamuk_built_bitmap", "BuiltBitmapNumbers"),
+    ("hongsamuk_built_rules", "BuiltRulesNumbers"),
     ("hongsamuk_answer", "AnswerNumbers"),
+    ("hongsamuk_verdict", "VerdictNumbers"),
 ];
 
 fn place(word: &str) -> (String, usize) {
@@ -48,13 +51,16 @@ fn of_this_crate() -> BTreeMap<&'static str, Layout> {
     BTreeMap::from([
         ("hongsamuk_record", layout!(Record: width, levels, elements, floor, strides)),
         ("hongsamuk_bitmap", layout!(Bitmap: width, supernodes, hops)),
+        ("hongsamuk_rule_record", layout!(RuleRecord: dest, elements)),
         ("hongsamuk_checked", layout!(raw::Checked: number, detail)),
         ("hongsamuk_shared", layout!(raw::Shared: number, bits)),
         ("hongsamuk_span", layout!(raw::Span: number, detail, index, count)),
         ("hongsamuk_chosen", layout!(raw::Chosen: number, detail, cost, strides)),
         ("hongsamuk_built", layout!(raw::Built: number, detail, record)),
         ("hongsamuk_built_bitmap", layout!(raw::BuiltBitmap: number, detail, record)),
+        ("hongsamuk_built_rules", layout!(raw::BuiltRules: number, detail, record)),
         ("hongsamuk_answer", layout!(raw::Answer: number, hop, length, reads)),
+        ("hongsamuk_verdict", layout!(raw::Verdict: number, action, reads)),
     ])
 }
 
@@ -74,6 +80,7 @@ fn room(kind: &str) -> (usize, usize) {
         "u64" => (8, 8),
         "Record" => (size_of::<Record>(), 4),
         "Bitmap" => (size_of::<Bitmap>(), 4),
+        "RuleRecord" => (size_of::<RuleRecord>(), 4),
         _ if kind.starts_with("[u8; ") && kind.ends_with("LEVELS as usize]") => (hongsamuk::LEVELS, 1),
         _ => panic!("a type without a room: {kind}"),
     }
@@ -117,7 +124,7 @@ fn this_crate() {
 
 #[test]
 fn the_proved_code() {
-    let code = code("walk") + &code("visits") + &code("gateway");
+    let code = code("walk") + &code("visits") + &code("verdicts") + &code("gateway");
     assert_eq!(code.matches("#[repr(C)]").count(), NAMES.len());
     let layouts = NAMES.map(|(header, own)| (header, by_the_rule(&fields(&code, own))));
     assert_eq!(BTreeMap::from(layouts), stated());
@@ -149,6 +156,9 @@ fn the_headers_limits() {
         ("ELEMENTS", hongsamuk::ELEMENTS as usize),
         ("ROW", hongsamuk::SCRATCH_ROW),
         ("NODE_ROW", hongsamuk::NODE_ROW),
+        ("RULES", hongsamuk::RULES),
+        ("TRIE_ROW", hongsamuk::TRIE_ROW),
+        ("VISITS", hongsamuk::VISITS as usize),
     ];
     let limit = |line: &str| {
         let (name, number) = line.strip_prefix("    HONGSAMUK_")?.split_once(" = ")?;

@@ -1,22 +1,22 @@
 -- What the numbers tell: 0 says that the call was accepted, any other number that the test of that number was the first to fail,
 -- with that detail: no test has the number 0.
 use mathlib.Core.Path.{_≡_, ap, subst}
-use mathlib.Core.List.{List}
+use mathlib.Core.List.{List, [], _∷_}
 use mathlib.Core.Logic.{inl, inr}
-use Prim.Native.Nat.{ℕ, _≤_}
+use Prim.Native.Nat.{ℕ, suc, _≤_}
 use native.Mathlib.Omega.{arith}
 use lib.ListN.{length}
-use Rattle.table.specs.Refusals.{outcomeNumber, outcomeDetail, Gives, Tells}
+use Rattle.table.specs.Refusals.{outcomeNumber, outcomeDetail, Test, Gives, Tells, Numbered}
 use Rattle.table.specs.Table.{tableTests}
 use Rattle.table.specs.Answers.{Told, sharedOutcome, sharedTests, Shares, spanOutcome, zoneTests, Spans}
 use Rattle.table.specs.declared.entry.Outcome.{Outcome}
-use Rattle.table.proofs.Numbered.{gives-tells, numbered-table, numbered-zone, numbered-shared}
+use Rattle.table.proofs.Numbered.{numbered-append, gives-tells, numbered-table, numbered-zone, numbered-shared}
 use Rattle.strides.specs.Cheapest.{Kind, Cheapest}
 use Rattle.walk.specs.Limits.{WIDTH}
 use Rattle.walk.specs.Rows.{Lists, shortest}
 use Rattle.layout.specs.Laid.{tableTrie}
 use Rattle.choosers.specs.Chooser.{chooseTests}
-use Rattle.tries.specs.Build.{buildTests}
+use Rattle.tries.specs.Build.{roomTest, buildTests}
 use Rattle.walk.specs.Meaning.{Tested, Looked}
 use Rattle.choosers.proofs.ChooseTests.{numbered-choose}
 use Rattle.tries.proofs.BuildSteps.{numbered-build}
@@ -26,15 +26,23 @@ use Rattle.visits.specs.Rows.{RowLists, rowRoom}
 use Rattle.visits.specs.Meaning.{BitmapTested, LookedBitmap}
 use Rattle.supernodes.specs.Build.{bitmapTests}
 use Rattle.supernodes.proofs.Demands.{numbered-bitmap}
+use Rattle.fields.specs.Rules.{Rules}
+use Rattle.fields.specs.Runs.{sumFirst}
+use Rattle.verdicts.specs.Meaning.{RuleTested, Classified}
+use Rattle.verdicts.specs.declared.record.RuleRecord.{RuleRecord}
+use Rattle.rules.specs.Build.{RunsOf, ruleTrie, listTest, ruleScratchTests, ruleBuildTests}
+use Rattle.rules.proofs.RuleTests.{numbered-rule-scratch}
 use Rattle.walk.specs.Answers.{answerNumbers}
-use Rattle.gateway.specs.Numbers.{outcomeNumbers, sharedNumbers, spanNumbers, choiceNumbers, buildNumbers, bitmapNumbers}
-use Rattle.gateway.specs.Allowed.{AllowedChoice, AllowedBuild, AllowedBitmap}
+use Rattle.gateway.specs.Numbers.{outcomeNumbers, sharedNumbers, spanNumbers, choiceNumbers, buildNumbers, bitmapNumbers, ruleBuildNumbers, verdictNumbers}
+use Rattle.gateway.specs.Allowed.{AllowedChoice, AllowedBuild, AllowedBitmap, AllowedRules}
 use Rattle.gateway.specs.declared.bitmaps.BuiltBitmapNumbers.{BuiltBitmapNumbers}
 use Rattle.gateway.specs.declared.entries.Checked.{Checked}
 use Rattle.gateway.specs.declared.entries.SharedNumbers.{SharedNumbers}
 use Rattle.gateway.specs.declared.entries.SpanNumbers.{SpanNumbers}
 use Rattle.gateway.specs.declared.choosing.ChosenNumbers.{ChosenNumbers}
 use Rattle.gateway.specs.declared.making.BuiltNumbers.{BuiltNumbers}
+use Rattle.gateway.specs.declared.ruling.BuiltRulesNumbers.{BuiltRulesNumbers}
+use Rattle.gateway.specs.declared.ruling.VerdictNumbers.{VerdictNumbers}
 use Rattle.walk.specs.declared.numbers.AnswerNumbers.{AnswerNumbers}
 
 -- ---- each call's numbers
@@ -95,3 +103,30 @@ bitmap-tells W vs ls hs scratch {rows} {hops = hops} t =
 pub lookup-bitmap-tells : (rec : Bitmap) (rows : RowLists) (hops : List ℕ) (address : ℕ) {r : AnswerNumbers}
     → Told (LookedBitmap WIDTH rec rows hops address) answerNumbers r → BitmapTested WIDTH rec rows hops address (r .number)
 lookup-bitmap-tells rec rows hops address t = rw (t .2) (t .1 .tested)
+
+-- ---- rules of two fields
+
+numbered-higher : (a b : ℕ) (ts : List Test) → a ≤ b → Numbered a ts → Numbered b ts
+numbered-higher a b [] h p = tt
+numbered-higher a b (t ∷ ts) h p = ((p .0 .0, omega (arith, p .0 .1)), numbered-higher a b ts h (p .1))
+
+module _ (kind : Kind) (W k : ℕ) (rs : Rules) (scratch : List ℕ) where
+  numbered-rule-build : (room places m : ℕ) (from least : ℕ → ℕ) → Numbered 7 (ruleBuildTests W k rs (length scratch) room places m from least)
+  unfolding ruleBuildTests
+  numbered-rule-build room places m from least =
+      let early = ruleScratchTests W k rs (length scratch) m from in
+      numbered-append 7 early (roomTest (sumFirst least (suc m)) room ∷ listTest places m ∷ [])
+      (numbered-higher 6 7 early (omega arith) (numbered-rule-scratch W k rs (length scratch) m from)) ((omega arith, omega arith), ((omega arith, omega arith), tt))
+
+  -- where the rules have m destinations, and the cheapest choice of each trie costs `least`
+  pub built-rules-tells : {rows rows′ : Lists} {list s list′ : List ℕ} {r : BuiltRulesNumbers}
+      → Told (AllowedRules kind W k rs scratch rows list s rows′ list′) ruleBuildNumbers r → (m : ℕ) (from least : ℕ → ℕ) → RunsOf rs m from
+      → ((g : ℕ) → g ≤ m → 1 ≤ k → Cheapest kind k (ruleTrie W rs m from g) (least g))
+      → Tells (ruleBuildTests W k rs (length scratch) (shortest rows) (length list) m from least) (r .number) (r .detail)
+  built-rules-tells {rows} {list = list} t m from least runs c =
+      rw (t .2)
+      (gives-tells 7 (ruleBuildTests W k rs (length scratch) (shortest rows) (length list) m from least) (numbered-rule-build (shortest rows) (length list) m from least) (t .0 .outcome) (t .1 .tested m from least runs c))
+
+pub classify-tells : (rec : RuleRecord) (ls : Lists) (list : List ℕ) (dest source : ℕ) {r : VerdictNumbers}
+    → Told (Classified rec ls list dest source WIDTH) verdictNumbers r → RuleTested rec ls list dest source WIDTH (r .number)
+classify-tells rec ls list dest source t = rw (t .2) (t .1 .tested)

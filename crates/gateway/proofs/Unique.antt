@@ -19,11 +19,17 @@ use Rattle.walk.specs.declared.record.Record.{Record}
 use Rattle.visits.specs.Rows.{RowLists}
 use Rattle.supernodes.specs.declared.building.BuiltBitmap.{BuiltBitmap}
 use Rattle.supernodes.proofs.Unique.{bitmap-unique}
+use Rattle.fields.specs.Rules.{Rules}
+use Rattle.verdicts.specs.Meaning.{Classified}
+use Rattle.verdicts.specs.declared.record.RuleRecord.{RuleRecord}
+use Rattle.verdicts.proofs.Unique.{classified-unique}
+use Rattle.rules.specs.declared.building.BuiltRules.{BuiltRules}
+use Rattle.rules.proofs.Unique.{rule-builds-unique}
 use Rattle.choosers.proofs.Choosing.{chooses-unique}
 use Rattle.tries.proofs.Unique.{builds-unique}
 use Rattle.walk.proofs.Unique.{lookup-unique}
-use Rattle.gateway.specs.Numbers.{outcomeNumbers, sharedNumbers, spanNumbers, choiceNumbers, buildNumbers, bitmapNumbers}
-use Rattle.gateway.specs.Allowed.{AllowedChoice, AllowedBuild, AllowedBitmap}
+use Rattle.gateway.specs.Numbers.{outcomeNumbers, sharedNumbers, spanNumbers, choiceNumbers, buildNumbers, bitmapNumbers, ruleBuildNumbers, verdictNumbers}
+use Rattle.gateway.specs.Allowed.{AllowedChoice, AllowedBuild, AllowedBitmap, AllowedRules}
 use Rattle.gateway.specs.Batch.{Columns, columns, answerAt, BatchWritten, Answered}
 use Rattle.gateway.specs.declared.bitmaps.BuiltBitmapNumbers.{BuiltBitmapNumbers}
 use Rattle.gateway.specs.declared.entries.Checked.{Checked}
@@ -31,6 +37,8 @@ use Rattle.gateway.specs.declared.entries.SharedNumbers.{SharedNumbers}
 use Rattle.gateway.specs.declared.entries.SpanNumbers.{SpanNumbers}
 use Rattle.gateway.specs.declared.choosing.ChosenNumbers.{ChosenNumbers}
 use Rattle.gateway.specs.declared.making.BuiltNumbers.{BuiltNumbers}
+use Rattle.gateway.specs.declared.ruling.BuiltRulesNumbers.{BuiltRulesNumbers}
+use Rattle.gateway.specs.declared.ruling.VerdictNumbers.{VerdictNumbers}
 use Rattle.walk.specs.declared.numbers.AnswerNumbers.{AnswerNumbers}
 
 pub checked-unique : (W : ℕ) (vs ls hs : List ℕ) {r r′ : Checked}
@@ -103,3 +111,19 @@ pub built-bitmap-unique : (W : ℕ) (vs ls hs scratch : List ℕ) {rows rows1 ro
 built-bitmap-unique W vs ls hs scratch {rows} {hops = hops} t t′ =
     let u = bitmap-unique W vs ls hs scratch rows hops (t .1) (t′ .1) in
     (t .2 ∙ bitmap-same {b = t .0} {b′ = t′ .0} (u .0) (u .1) ∙ sym (t′ .2), u .2, u .3, u .4)
+
+-- ---- rules of two fields
+
+rule-build-same : {b b′ : BuiltRules} → b .outcome ≡ b′ .outcome → b .record ≡ b′ .record → ruleBuildNumbers b ≡ ruleBuildNumbers b′
+rule-build-same p q = rw (p, q)
+
+pub built-rules-unique : (kind : Kind) (W k : ℕ) (rs : Rules) (scratch : List ℕ) {rows rows1 rows2 : Lists} {list s list1 s′ list2 : List ℕ} {r r′ : BuiltRulesNumbers}
+    → Told (AllowedRules kind W k rs scratch rows list s rows1 list1) ruleBuildNumbers r → Told (AllowedRules kind W k rs scratch rows list s′ rows2 list2) ruleBuildNumbers r′
+    → (r ≡ r′) × (s ≡ s′) × (rows1 ≡ rows2) × (list1 ≡ list2)
+built-rules-unique kind W k rs scratch {rows} {list = list} t t′ =
+    let u = rule-builds-unique kind W k rs scratch rows list (t .1) (t′ .1) in
+    (t .2 ∙ rule-build-same {b = t .0} {b′ = t′ .0} (u .0) (u .1) ∙ sym (t′ .2), u .2, u .3, u .4)
+
+pub classify-unique : (rec : RuleRecord) (ls : Lists) (list : List ℕ) (dest source : ℕ) {r r′ : VerdictNumbers}
+    → Told (Classified rec ls list dest source WIDTH) verdictNumbers r → Told (Classified rec ls list dest source WIDTH) verdictNumbers r′ → r ≡ r′
+classify-unique rec ls list dest source = told-unique (λ v w p q. classified-unique p q)

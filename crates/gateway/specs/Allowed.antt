@@ -8,6 +8,9 @@ use Rattle.tries.specs.Build.{BuildIs, Builds}
 use Rattle.visits.specs.Rows.{RowLists}
 use Rattle.supernodes.specs.Build.{BitmapIs, BuildsBitmap}
 use Rattle.supernodes.specs.declared.building.BuiltBitmap.{BuiltBitmap}
+use Rattle.fields.specs.Rules.{Rules}
+use Rattle.rules.specs.Build.{RulesAre, RuleBuilds}
+use Rattle.rules.specs.declared.building.BuiltRules.{BuiltRules}
 use Rattle.choosers.specs.declared.chooser.Chosen.{Chosen}
 use Rattle.tries.specs.declared.building.Built.{Built}
 
@@ -33,3 +36,11 @@ module _ (W : ℕ) (vs ls hs scratch : List ℕ) (rows : RowLists) (hops scratch
 
   abbrev pub AllowedBitmap : BuiltBitmap → Type 0
   AllowedBitmap b = BuildsBitmap W vs ls hs scratch rows hops (b .outcome) (b .record) scratch′ rows′ hops′
+
+-- and of a build of rules
+module _ (kind : Kind) (W k : ℕ) (rs : Rules) (scratch : List ℕ) (rows : Lists) (list scratch′ : List ℕ) (rows′ : Lists) (list′ : List ℕ) where
+  abbrev pub ExactRules : BuiltRules → Type 0
+  ExactRules b = RulesAre kind W k rs scratch rows list (b .outcome) (b .record) scratch′ rows′ list′
+
+  abbrev pub AllowedRules : BuiltRules → Type 0
+  AllowedRules b = RuleBuilds kind W k rs scratch rows list (b .outcome) (b .record) scratch′ rows′ list′

@@ -8,12 +8,17 @@ use Rattle.table.specs.declared.zoning.Span.{Span}
 use Rattle.choosers.specs.declared.chooser.Chosen.{Chosen}
 use Rattle.tries.specs.declared.building.Built.{Built}
 use Rattle.supernodes.specs.declared.building.BuiltBitmap.{BuiltBitmap}
+use Rattle.rules.specs.declared.building.BuiltRules.{BuiltRules}
+use Rattle.verdicts.specs.Verdicts.{verdictNumber, actionOf, verdictReads}
+use Rattle.verdicts.specs.declared.visiting.Verdict.{Verdict}
 use Rattle.gateway.specs.declared.bitmaps.BuiltBitmapNumbers.{BuiltBitmapNumbers}
 use Rattle.gateway.specs.declared.entries.Checked.{Checked}
 use Rattle.gateway.specs.declared.entries.SharedNumbers.{SharedNumbers}
 use Rattle.gateway.specs.declared.entries.SpanNumbers.{SpanNumbers}
 use Rattle.gateway.specs.declared.choosing.ChosenNumbers.{ChosenNumbers}
 use Rattle.gateway.specs.declared.making.BuiltNumbers.{BuiltNumbers}
+use Rattle.gateway.specs.declared.ruling.BuiltRulesNumbers.{BuiltRulesNumbers}
+use Rattle.gateway.specs.declared.ruling.VerdictNumbers.{VerdictNumbers}
 
 abbrev pub outcomeNumbers : Outcome → Checked
 outcomeNumbers o = record { number = outcomeNumber o; detail = outcomeDetail o }
@@ -35,3 +40,10 @@ buildNumbers b = record { number = outcomeNumber (b .outcome); detail = outcomeD
 
 abbrev pub bitmapNumbers : BuiltBitmap → BuiltBitmapNumbers
 bitmapNumbers b = record { number = outcomeNumber (b .outcome); detail = outcomeDetail (b .outcome); «record» = b .record }
+
+abbrev pub ruleBuildNumbers : BuiltRules → BuiltRulesNumbers
+ruleBuildNumbers b = record { number = outcomeNumber (b .outcome); detail = outcomeDetail (b .outcome); «record» = b .record }
+
+-- a classification's refusals have detail 0, so none is told
+abbrev pub verdictNumbers : Verdict → VerdictNumbers
+verdictNumbers v = record { number = verdictNumber v; action = actionOf v; reads = verdictReads v }

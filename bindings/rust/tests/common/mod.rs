@@ -1,5 +1,5 @@
-//! What several tests share: 01's eight-prefix table, and the lists that a build in elements or as a tree bitmap leaves. Every place of
-//! a list is lent with its mark: 7 in scratch, 9 in the others.
+//! What several tests share: 01's eight-prefix table, and the lists that a build in elements, as a tree bitmap or of rules leaves. Every
+//! place of a list is lent with its mark: 7 in scratch, 9 in the others.
 #![allow(dead_code)] // each test takes what it needs
 
 use hongsamuk::*;
@@ -95,5 +95,39 @@ impl MadeBitmap {
     pub fn is_untouched(&self) -> bool {
         let maps = self.internal.iter().chain(&self.external).chain(&self.hop_row);
         maps.map(|x| u32::from(*x)).chain(self.first_child.iter().chain(&self.first_hop).copied()).all(|x| x == 9)
+    }
+}
+
+#[derive(Clone)]
+pub struct MadeRules {
+    pub built: BuiltRules,
+    pub scratch: Vec<u64>,
+    pub hop: Vec<u16>,
+    pub length: Vec<u8>,
+    pub link: Vec<u32>,
+    pub stride: Vec<u8>,
+    pub list: Vec<u32>,
+}
+
+impl MadeRules {
+    /// A build with so much scratch, so many places in each element list, and so many numbers in the list of tries.
+    pub fn of(kind: Kind, levels: u32, rules: Rules, words: usize, room: usize, numbers: usize) -> MadeRules {
+        let (mut scratch, mut hop, mut length) = (vec![7; words], vec![9; room], vec![9; room]);
+        let (mut link, mut stride, mut list) = (vec![9; room], vec![9; room], vec![9; numbers]);
+        let rows = RowsMut { hop: &mut hop, length: &mut length, link: &mut link, stride: &mut stride };
+        let built = build_rules(kind, levels, rules, &mut scratch, rows, &mut list);
+        MadeRules { built, scratch, hop, length, link, stride, list }
+    }
+
+    pub fn classify(&self, dest: u32, source: u32) -> Verdict {
+        let rows = Rows { hop: &self.hop, length: &self.length, link: &self.link, stride: &self.stride };
+        classify(&self.built.record, rows, &self.list, dest, source)
+    }
+
+    /// Whether every place of the four element lists and of the list of tries still has its mark.
+    pub fn is_untouched(&self) -> bool {
+        let bytes = self.length.iter().chain(&self.stride).map(|x| u32::from(*x));
+        let numbers = self.link.iter().chain(&self.list).copied();
+        bytes.chain(self.hop.iter().map(|x| u32::from(*x))).chain(numbers).all(|x| x == 9)
     }
 }
