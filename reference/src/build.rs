@@ -39,6 +39,31 @@ impl Elements {
     pub fn shortest_but_lengths(&self) -> usize {
         self.hop.len().min(self.link.len()).min(self.stride.len())
     }
+
+    /// A list that ends before that row has nothing there.
+    pub fn part(&self, place: usize) -> Part<'_> {
+        Part {
+            hop: self.hop.get(place..).unwrap_or(&[]),
+            length: self.length.get(place..).unwrap_or(&[]),
+            link: self.link.get(place..).unwrap_or(&[]),
+            stride: self.stride.get(place..).unwrap_or(&[]),
+        }
+    }
+}
+
+/// The element lists from a row on, as a trie that does not begin at row 0 has them (02, [6]).
+#[derive(Clone, Copy)]
+pub struct Part<'a> {
+    pub hop: &'a [u16],
+    pub length: &'a [u8],
+    pub link: &'a [u32],
+    pub stride: &'a [u8],
+}
+
+impl Part<'_> {
+    pub fn shortest(&self) -> usize {
+        self.hop.len().min(self.length.len()).min(self.link.len()).min(self.stride.len())
+    }
 }
 
 /// Test 2: k is 0 or above 32 (02).

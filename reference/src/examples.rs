@@ -2,6 +2,7 @@
 //! small tries.
 
 mod bitmaps;
+mod rules;
 
 use crate::build::{build, chosen, lay, Elements, Record, SCRATCH_ROW};
 use crate::choices::*;

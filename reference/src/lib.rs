@@ -9,6 +9,7 @@ pub mod choices;
 mod examples;
 pub mod lookup;
 pub mod random;
+pub mod rules;
 pub mod table;
 pub mod tablet;
 pub mod trie;

@@ -1,7 +1,7 @@
 //! Lookup (01, "The element rows": "Lookup starts with the floor as its best ..."; "Refusals": tests
 //! 1, 2, 8, then 9), over any record and any lists.
 
-use crate::build::{test_levels, Elements, Record};
+use crate::build::{test_levels, Elements, Part, Record};
 use crate::table::{refuse, test_width, Refusal, DISCARD};
 
 /// A match with hop and reads, or no route with reads; a discard is an answer of its own with reads (02, [4]). Each
@@ -80,6 +80,10 @@ pub struct Path {
 
 /// The walk itself, after tests 1, 2 and 8. `Err` says which clause of 9 was met.
 pub fn walk(record: &Record, rows: &Elements, address: u32) -> Result<Path, Damage> {
+    walk_in(record, rows.part(0), address)
+}
+
+pub fn walk_in(record: &Record, rows: Part, address: u32) -> Result<Path, Damage> {
     let elements = record.elements as u64;
     if elements > rows.shortest() as u64 {
         return Err(Damage::ListsTooShort);

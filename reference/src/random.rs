@@ -1,6 +1,7 @@
 //! A small seeded generator (splitmix64), so that the vectors are the same on every run, and random
-//! tables, tries and prefixes made with it.
+//! tables, rules and prefixes made with it.
 
+use crate::rules::{Rule, Rules};
 use crate::table::{Table, DISCARD};
 
 pub struct Random {
@@ -79,6 +80,24 @@ impl Random {
             table.hop.push(self.hop());
         }
         table
+    }
+
+    /// One of a list's elements.
+    pub fn of<T: Copy>(&mut self, list: &[T]) -> T {
+        list[self.within(0, list.len() as u64 - 1) as usize]
+    }
+
+    /// Well-formed rules, at most n. Their destinations are few, so that some have several rules, and half of them are nested
+    /// in others; the sources of all are near each other.
+    pub fn rules(&mut self, width: u32, n: usize) -> Rules {
+        let (dests, sources) = (self.table(width, 1 + n / 2), self.table(width, 1 + n));
+        let pairs = |table: &Table| table.value.iter().copied().zip(table.length.clone()).collect::<Vec<_>>();
+        let (dests, sources) = (pairs(&dests), pairs(&sources));
+        let mut drawn: Vec<((u32, u8), (u32, u8))> = (0..n).map(|_| (self.of(&dests), self.of(&sources))).collect();
+        drawn.sort();
+        drawn.dedup();
+        let rules: Vec<Rule> = drawn.iter().map(|(d, s)| (d.0, d.1, s.0, s.1, self.hop())).collect();
+        Rules::of(width, &rules)
     }
 }
 

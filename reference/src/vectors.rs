@@ -5,6 +5,7 @@
 mod bitmaps;
 mod builds;
 mod choosers;
+mod rules;
 mod sheets;
 mod tables;
 
@@ -250,5 +251,6 @@ pub fn write_all(top: &str) {
     choosers::write(top);
     builds::write(top);
     bitmaps::write(top);
+    rules::write(top);
     sheets::write(top);
 }

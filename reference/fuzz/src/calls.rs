@@ -1,11 +1,12 @@
 //! The archive's calls over lent lists: what is only read is lent from the view that cannot be written.
 
 use crate::memory::{Edge, Lent};
-use hongsamuk::{raw, Bitmap, Record};
+use hongsamuk::{raw, Bitmap, Record, RuleRecord};
 use reference::bitmap::Supernodes;
 use reference::build::Elements;
 use reference::choices::Kind;
 use reference::random::Random;
+use reference::rules::Rules;
 use reference::table::Table;
 
 /// The memory for all lists of a case.
@@ -13,6 +14,11 @@ pub struct Lists {
     value: Lent<u32>,
     length: Lent<u8>,
     hop: Lent<u16>,
+    dest_value: Lent<u32>,
+    dest_length: Lent<u8>,
+    source_value: Lent<u32>,
+    source_length: Lent<u8>,
+    action: Lent<u16>,
     pub scratch: Lent<u64>,
     pub row_hop: Lent<u16>,
     pub row_length: Lent<u8>,
@@ -23,6 +29,7 @@ pub struct Lists {
     pub first_child: Lent<u32>,
     pub first_hop: Lent<u32>,
     pub hop_row: Lent<u16>,
+    pub tries: Lent<u32>,
     address: Lent<u32>,
     pub number: Lent<u32>,
     pub best: Lent<u16>,
@@ -38,13 +45,17 @@ pub struct Answers {
     pub reads: Vec<u32>,
 }
 
-/// The longest lists that are lent.
+/// The longest lists that are lent; words of scratch, element rows and numbers of the list of tries for rules besides.
 pub struct Most {
     pub entries: usize,
     pub words: usize,
     pub rows: usize,
     pub supernodes: usize,
     pub addresses: usize,
+    pub rules: usize,
+    pub rule_words: usize,
+    pub rule_rows: usize,
+    pub numbers: usize,
 }
 
 /// Half of the lists without elements are null pointers.
@@ -54,20 +65,27 @@ fn lend<T: Copy + PartialEq>(lent: &mut Lent<T>, list: &[T], random: &mut Random
 
 impl Lists {
     pub fn new(most: &Most, edge: Edge) -> Lists {
+        let (words, rows) = (most.words.max(most.rule_words), most.rows.max(most.rule_rows));
         Lists {
             value: Lent::new(most.entries, edge),
             length: Lent::new(most.entries, edge),
             hop: Lent::new(most.entries, edge),
-            scratch: Lent::new(most.words, edge),
-            row_hop: Lent::new(most.rows, edge),
-            row_length: Lent::new(most.rows, edge),
-            row_link: Lent::new(most.rows, edge),
-            row_stride: Lent::new(most.rows, edge),
+            dest_value: Lent::new(most.rules, edge),
+            dest_length: Lent::new(most.rules, edge),
+            source_value: Lent::new(most.rules, edge),
+            source_length: Lent::new(most.rules, edge),
+            action: Lent::new(most.rules, edge),
+            scratch: Lent::new(words, edge),
+            row_hop: Lent::new(rows, edge),
+            row_length: Lent::new(rows, edge),
+            row_link: Lent::new(rows, edge),
+            row_stride: Lent::new(rows, edge),
             internal: Lent::new(most.supernodes, edge),
             external: Lent::new(most.supernodes, edge),
             first_child: Lent::new(most.supernodes, edge),
             first_hop: Lent::new(most.supernodes, edge),
             hop_row: Lent::new(most.entries, edge),
+            tries: Lent::new(most.numbers, edge),
             address: Lent::new(most.addresses, edge),
             number: Lent::new(most.addresses, edge),
             best: Lent::new(most.addresses, edge),
@@ -99,6 +117,18 @@ impl Lists {
         lend(&mut self.first_child, &rows.first_child, random);
         lend(&mut self.first_hop, &rows.first_hop, random);
         lend(&mut self.hop_row, &rows.hop_row, random);
+    }
+
+    pub fn lend_rules(&mut self, rules: &Rules, random: &mut Random) {
+        lend(&mut self.dest_value, &rules.dest_value, random);
+        lend(&mut self.dest_length, &rules.dest_length, random);
+        lend(&mut self.source_value, &rules.source_value, random);
+        lend(&mut self.source_length, &rules.source_length, random);
+        lend(&mut self.action, &rules.action, random);
+    }
+
+    pub fn lend_tries(&mut self, list: &[u32], random: &mut Random) {
+        lend(&mut self.tries, list, random);
     }
 
     pub fn lend_addresses(&mut self, addresses: &[u32], random: &mut Random) {
@@ -251,6 +281,61 @@ impl Lists {
                 self.hop_row.read(),
                 self.hop_row.len(),
                 address,
+            )
+        }
+    }
+
+    pub fn build_rules(&mut self, kind: Kind, width: u32, levels: u32) -> raw::BuiltRules {
+        let call: raw::BuildRules = match kind {
+            Kind::Fixed => raw::hongsamuk_build_rules_fixed,
+            Kind::Variable => raw::hongsamuk_build_rules_variable,
+        };
+        unsafe {
+            call(
+                width,
+                levels,
+                self.dest_value.read(),
+                self.dest_value.len(),
+                self.dest_length.read(),
+                self.dest_length.len(),
+                self.source_value.read(),
+                self.source_value.len(),
+                self.source_length.read(),
+                self.source_length.len(),
+                self.action.read(),
+                self.action.len(),
+                self.scratch.write(),
+                self.scratch.len(),
+                self.row_hop.write(),
+                self.row_hop.len(),
+                self.row_length.write(),
+                self.row_length.len(),
+                self.row_link.write(),
+                self.row_link.len(),
+                self.row_stride.write(),
+                self.row_stride.len(),
+                self.tries.write(),
+                self.tries.len(),
+            )
+        }
+    }
+
+    pub fn classify(&self, record: RuleRecord, dest: u32, source: u32) -> raw::Verdict {
+        unsafe {
+            raw::hongsamuk_classify(
+                record,
+                self.row_hop.read(),
+                self.row_hop.len(),
+                self.row_length.read(),
+                self.row_length.len(),
+                self.row_link.read(),
+                self.row_link.len(),
+                self.row_stride.read(),
+                self.row_stride.len(),
+                self.tries.read(),
+                self.tries.len(),
+                dest,
+                source,
             )
         }
     }

@@ -1,13 +1,15 @@
-//! The limit of elements, the most levels, and large tables in both layouts: of 4,096 entries and of 65,536.
+//! The limit of elements, the most levels, and large tables in both layouts, of 4,096 entries and of 65,536; then the most rules.
 
 use crate::bitmaps::needed;
 use crate::calls::{Lists, Most};
+use crate::large_rules;
 use crate::memory::Edge;
 use crate::tally::Tally;
 use crate::trying::{Same, Trial};
 use reference::build::{Record, ELEMENTS, SCRATCH_ROW};
 use reference::choices::Kind;
 use reference::random::Random;
+use reference::rules::{RULES, TRIE_ROW};
 use reference::table::{Refusal, Table, ENTRIES};
 use reference::trie::Trie;
 
@@ -22,6 +24,10 @@ const LARGE: Most = Most {
     rows: ROWS,
     supernodes: 1 << 17,
     addresses: ASKED as usize + 8,
+    rules: RULES + 8,
+    rule_words: 0,
+    rule_rows: 0,
+    numbers: (RULES + 4) * TRIE_ROW,
 };
 /// Addresses asked of each build.
 const ASKED: u64 = 1_000;
@@ -169,7 +175,8 @@ pub fn run() -> bool {
     let same = limits(&mut trial)
         .and_then(|()| chain(&mut trial))
         .and_then(|()| smaller(&mut trial, random))
-        .and_then(|()| largest(&mut trial, random));
+        .and_then(|()| largest(&mut trial, random))
+        .and_then(|()| large_rules::run(&mut trial, random));
     if let Err(text) = same {
         println!("DIFFERENCE: {text}");
         return false;

@@ -5,8 +5,12 @@ mod bitmaps;
 mod calls;
 mod harm;
 mod large;
+mod large_rules;
 mod memory;
 mod planted;
+mod rule_harm;
+mod rule_lists;
+mod rules;
 mod tables;
 mod tally;
 mod trying;
@@ -20,12 +24,14 @@ use trying::{Trial, SMALL};
 const USAGE: &str = "usage: fuzz run [--seed S] [--first CASE] [--builds N] [--lookups M] [--edge 0|1]
        fuzz large
        fuzz planted [--seed S]
-run tries cases until at least N builds of elements and M lookups in them were done, and tree bitmaps with each, from case CASE (0) on;
-the first difference ends it with status 1.
+run tries cases until at least N builds of elements and M lookups in them were done, tree bitmaps with each and rules with some, from
+case CASE (0) on; the first difference ends it with status 1.
 Each lent list ends at a page that may not be touched; with --edge 1 each begins after one instead.";
 
 /// Every so many cases one has a record and rows of any numbers instead of a table.
 const NOISE: u64 = 8;
+/// Every so many cases rules are tried too; with noise, arrays for them of any numbers.
+const RULED: u64 = 2;
 /// The most addresses asked of one build.
 const ASKED: u64 = 12;
 /// Every so many cases progress is told.
@@ -70,7 +76,12 @@ fn run(wanted: &Wanted) -> bool {
     while tally.builds() < wanted.builds || tally.lookups() < wanted.lookups {
         let random = generator(wanted.seed, case);
         let mut trial = Trial::new(&mut lists, &mut tally, random, ASKED);
-        let same = if case % NOISE == NOISE - 1 { trial.noise() } else { trial.table() };
+        let mut same = if case % NOISE == NOISE - 1 { trial.noise() } else { trial.table() };
+        same = match (case % NOISE == NOISE - 1, case % RULED) {
+            (true, _) => same.and_then(|()| trial.rule_noise()),
+            (_, 0) => same.and_then(|()| trial.rules()),
+            _ => same,
+        };
         case += 1;
         if let Err(text) = same {
             println!("seed {} case {}: DIFFERENCE: {text}", wanted.seed, case - 1);

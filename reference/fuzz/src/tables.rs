@@ -11,7 +11,7 @@ const TOO_LONG: u64 = 1 << 12;
 const LONGEST: u64 = 32;
 
 /// Small widths more often than large ones: there prefixes meet, and all addresses can be asked.
-fn width(random: &mut Random) -> u32 {
+pub fn width(random: &mut Random) -> u32 {
     match random.within(0, 31) {
         0..=17 => random.within(1, 6) as u32,
         18..=29 => random.within(7, 10) as u32,

@@ -4,6 +4,7 @@ use reference::bitmap;
 use reference::build::Record;
 use reference::choices::LEVELS;
 use reference::lookup::Damage;
+use reference::rules::{self, Verdict, RULES, VISITS};
 use reference::table::ENTRIES;
 use std::collections::BTreeMap;
 
@@ -23,9 +24,12 @@ pub enum Call {
     BatchedLookup,
     BuildBitmap,
     LookupBitmap,
+    BuildRulesFixed,
+    BuildRulesVariable,
+    Classify,
 }
 
-const CALLS: [Call; 11] = [
+const CALLS: [Call; 14] = [
     Call::Check,
     Call::SharedLength,
     Call::ZoneSpan,
@@ -37,6 +41,9 @@ const CALLS: [Call; 11] = [
     Call::BatchedLookup,
     Call::BuildBitmap,
     Call::LookupBitmap,
+    Call::BuildRulesFixed,
+    Call::BuildRulesVariable,
+    Call::Classify,
 ];
 
 #[derive(Default)]
@@ -67,6 +74,19 @@ pub struct Tally {
     pub bitmap_discards: u64,
     pub bitmap_longest: u64,
     pub agreed: u64,
+    rule_damages: BTreeMap<rules::Damage, u64>,
+    /// Of classifications: those without a rule, those that discard, those held to the scan, those that visited more than one source trie,
+    /// and those that visited as many as may be.
+    no_rules: u64,
+    rule_discards: u64,
+    pub scanned: u64,
+    chained: u64,
+    most_tries: u64,
+    most_rule_reads: u32,
+    /// Lists of just as many rules as there may be, and of more; and refusals by 7 for the list of tries.
+    most_rules: u64,
+    more_rules: u64,
+    pub short_of_tries: u64,
 }
 
 fn by_clause<T: std::fmt::Debug>(damages: &BTreeMap<T, u64>) -> String {
@@ -97,6 +117,24 @@ impl Tally {
         *self.bitmap_damages.entry(damage).or_insert(0) += 1;
     }
 
+    pub fn rule_damage(&mut self, damage: rules::Damage) {
+        *self.rule_damages.entry(damage).or_insert(0) += 1;
+    }
+
+    pub fn rules(&mut self, n: usize) {
+        self.most_rules += (n == RULES) as u64;
+        self.more_rules += (n > RULES) as u64;
+    }
+
+    /// An accepted classification that visited so many source tries.
+    pub fn verdict(&mut self, verdict: Verdict, tries: usize) {
+        self.no_rules += matches!(verdict, Verdict::NoRule { .. }) as u64;
+        self.rule_discards += matches!(verdict, Verdict::Discard { .. }) as u64;
+        self.chained += (tries > 1) as u64;
+        self.most_tries += (tries == VISITS) as u64;
+        self.most_rule_reads = self.most_rule_reads.max(verdict.reads());
+    }
+
     pub fn of(&self, call: Call) -> u64 {
         self.numbers[call as usize].iter().sum()
     }
@@ -113,7 +151,22 @@ impl Tally {
     /// What was done until a difference was met.
     pub fn done(&self) -> String {
         let (bitmaps, asked) = (self.of(Call::BuildBitmap), self.of(Call::LookupBitmap));
-        format!("{} builds, {} lookups, {bitmaps} bitmaps, {asked} lookups in these", self.builds(), self.lookups())
+        let rules = self.of(Call::BuildRulesFixed) + self.of(Call::BuildRulesVariable);
+        let (builds, lookups, classified) = (self.builds(), self.lookups(), self.of(Call::Classify));
+        format!(
+            "{builds} builds, {lookups} lookups, {bitmaps} bitmaps, {asked} lookups in these, {rules} builds of rules, \
+             {classified} classifications"
+        )
+    }
+
+    fn print_rules(&self) {
+        println!("classifications without a rule: {}; that discard: {}", self.no_rules, self.rule_discards);
+        println!("refusal 9 of classifications by clause: {}", by_clause(&self.rule_damages));
+        println!("actions held to a scan over the rules: {}", self.scanned);
+        println!("that visited source tries, more than one: {}; {VISITS}: {}", self.chained, self.most_tries);
+        println!("most reads of a classification: {}", self.most_rule_reads);
+        println!("lists of {RULES} rules: {}; of more: {}", self.most_rules, self.more_rules);
+        println!("builds of rules refused for the list of tries: {}", self.short_of_tries);
     }
 
     pub fn print(&self) {
@@ -145,6 +198,7 @@ impl Tally {
             "held to longest match besides: {}; to the elements' hop and length: {}",
             self.bitmap_longest, self.agreed
         );
+        self.print_rules();
         println!("{}", self.done());
     }
 }

@@ -10,17 +10,28 @@ use reference::build::{build, chosen, Elements, Record, SCRATCH_ROW};
 use reference::choices::{Kind, LEVELS};
 use reference::lookup::{lookup, walk, Found};
 use reference::random::Random;
+use reference::rules::{RULES, TRIE_ROW};
 use reference::table::{self, Refusal, Table, ENTRIES};
 use reference::trie::Trie;
 
 /// Lists of the small cases: 12 entries at width 32 have at most 384 nodes and 97 supernodes; longer element lists are not needed
-/// at small widths. A table of the most entries is refused for scratch there.
-pub const SMALL: Most =
-    Most { entries: ENTRIES + 8, words: 385 * SCRATCH_ROW, rows: 1_200, supernodes: 128, addresses: 64 };
+/// at small widths. A table of the most entries is refused for scratch there. The most rules that are tried have 2,047 nodes and
+/// 3,072 elements, and any 12 rules at most 768 nodes.
+pub const SMALL: Most = Most {
+    entries: ENTRIES + 8,
+    words: 385 * SCRATCH_ROW,
+    rows: 1_200,
+    supernodes: 128,
+    addresses: 64,
+    rules: RULES + 8,
+    rule_words: 2_100 * SCRATCH_ROW,
+    rule_rows: 3_200,
+    numbers: (RULES + 4) * TRIE_ROW,
+};
 /// All addresses are asked where there are at most so many.
 const ALL: u32 = 4;
 /// The most words of scratch beyond those needed.
-const SPARE: u64 = 30;
+pub const SPARE: u64 = 30;
 /// Where a difference is told, a table of more entries is named by how many they are.
 const NAMED: usize = 100;
 
@@ -57,7 +68,7 @@ pub fn numbers(outcome: Result<(), Refusal>) -> (u32, u64) {
     outcome.map_or_else(|refusal| (refusal.number, refusal.detail), |()| (0, 0))
 }
 
-fn c_record(record: &Record) -> hongsamuk::Record {
+pub fn c_record(record: &Record) -> hongsamuk::Record {
     let Record { width, levels, elements, floor, strides } = *record;
     hongsamuk::Record { width, levels, elements, floor, strides }
 }
@@ -90,7 +101,7 @@ impl Trial<'_> {
     }
 
     /// Small level limits more often than large ones, which only a deep table tells from each other.
-    fn levels(&mut self) -> u32 {
+    pub fn levels(&mut self) -> u32 {
         match self.random.within(0, 39) {
             0 => harm::pick(&mut self.random, &[0, 33, 255, 256, u32::MAX]),
             1 => LEVELS as u32,
@@ -99,7 +110,7 @@ impl Trial<'_> {
         }
     }
 
-    fn kind(&mut self) -> Kind {
+    pub fn kind(&mut self) -> Kind {
         if self.random.one_in(2) {
             Kind::Fixed
         } else {
@@ -131,7 +142,7 @@ impl Trial<'_> {
     }
 
     /// Lists of the hops, lengths, links and strides.
-    fn rows(&mut self, [hops, lengths, links, strides]: [usize; 4]) -> Elements {
+    pub fn rows(&mut self, [hops, lengths, links, strides]: [usize; 4]) -> Elements {
         Elements {
             hop: self.marks(hops, |mark| mark as u16),
             length: self.marks(lengths, |mark| mark as u8),
@@ -268,17 +279,23 @@ impl Trial<'_> {
         self.tally.short_for_builds += (number == 7 && is_short_of_lengths(detail, &rows)) as u64;
         same("build", answer, raw::Built { number, detail, record: c_record(&record) })?;
         same_list("scratch after the build", self.lists.scratch.held(), &scratch)?;
-        if !self.lists.rows_are(&rows) {
-            same_list("hops after the build", self.lists.row_hop.held(), &rows.hop)?;
-            same_list("lengths after the build", self.lists.row_length.held(), &rows.length)?;
-            same_list("links after the build", self.lists.row_link.held(), &rows.link)?;
-            same_list("strides after the build", self.lists.row_stride.held(), &rows.stride)?;
-        }
+        self.same_rows(&rows)?;
         if number == 0 {
             self.tally.accepted(&record);
             self.after(table, record, rows)?;
         }
         Ok((Refusal { number, detail }, record))
+    }
+
+    /// Every place of the four element lists.
+    pub fn same_rows(&self, rows: &Elements) -> Same {
+        if self.lists.rows_are(rows) {
+            return Ok(());
+        }
+        same_list("hops after the build", self.lists.row_hop.held(), &rows.hop)?;
+        same_list("lengths after the build", self.lists.row_length.held(), &rows.length)?;
+        same_list("links after the build", self.lists.row_link.held(), &rows.link)?;
+        same_list("strides after the build", self.lists.row_stride.held(), &rows.stride)
     }
 
     /// Lookups over what an accepted build left, then over the same damaged.
