@@ -35,8 +35,8 @@ pub fn needed(kind: Kind, levels: u32, rules: &Rules) -> Needed {
     Needed { nodes: tries.iter().map(Trie::size).sum(), elements, tries: tries.len() - 1 }
 }
 
-fn c_rules(record: &RuleRecord) -> raw::RuleRecord {
-    raw::RuleRecord { dest: c_record(&record.dest), elements: record.elements }
+fn c_rules(record: &RuleRecord) -> hongsamuk::RuleRecord {
+    hongsamuk::RuleRecord { dest: c_record(&record.dest), elements: record.elements }
 }
 
 fn c_verdict(verdict: Result<Verdict, Refusal>) -> raw::Verdict {
