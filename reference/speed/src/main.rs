@@ -3,10 +3,12 @@
 mod bitmaps;
 mod building;
 mod counting;
+mod firewall;
 mod lookups;
 mod plain;
 mod rounds;
 mod routes;
+mod rules;
 
 use routes::Routes;
 
@@ -39,6 +41,10 @@ fn main() {
     if asked("counting") {
         println!("\n### Check and count\n");
         counting::measure(SEED);
+    }
+    if asked("rules") {
+        println!("\n### Rules of two fields\n");
+        rules::measure(SEED);
     }
     if asked("memory") {
         println!("\n### Elements, {ENTRIES} routes of at most 24 bits\n");

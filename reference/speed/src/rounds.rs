@@ -41,6 +41,11 @@ fn time<T: PartialEq>(work: &mut impl FnMut() -> T) -> (f64, T) {
     (now() - start, answer)
 }
 
+/// One way alone: the median of its time, in nanoseconds. One round is not counted.
+pub fn alone<T: PartialEq>(rounds: usize, mut work: impl FnMut() -> T) -> f64 {
+    median((0..=rounds).map(|_| time(&mut work).0).skip(1).collect())
+}
+
 /// One round is not counted: it warms the caches. Both ways must answer the same.
 pub fn alternate<T: PartialEq>(rounds: usize, mut a: impl FnMut() -> T, mut b: impl FnMut() -> T) -> Timed {
     let (mut first, mut second, mut ratio) = (vec![], vec![], vec![]);

@@ -6,14 +6,18 @@ mod building;
 mod costs;
 mod fixed;
 mod rows;
+mod scan;
 mod supernodes;
 mod table;
+mod verdicts;
 mod visits;
 mod walk;
 
 pub use building::{build, Lent, SCRATCH_ROW};
+pub use scan::{mask, ranked, scan, winner, Ranked};
 pub use supernodes::{build_bitmap, NODE_ROW};
 pub use table::Table;
+pub use verdicts::classify;
 pub use visits::lookup_bitmap;
 pub use walk::{lookup, lookup_batch, lookup_by_reference, Answers, Elements};
 
