@@ -16,7 +16,7 @@ use Rattle.table.specs.Longest.{matches, IsBest, Wins, no-winner, some}
 use Rattle.table.proofs.Bools.{and-true, true-or-false}
 use Rattle.table.proofs.Starts.{start-less}
 use Rattle.table.proofs.Table.{match-one}
-use Rattle.fields.specs.Runs.{startsShorter}
+use Rattle.fields.specs.Runs.{startsShorter, Falls}
 
 -- ---- the chain: a number is suc g for the trie of destination g, 0 for none; `next g` is the number after g, and `hit` says whose
 -- tries match
@@ -40,11 +40,6 @@ module _ (next : ℕ → ℕ) (hit : ℕ → Bool) where
   overrun zero (suc g) = true
   overrun (suc f) zero = false
   overrun (suc f) (suc g) = cond (hit g) false (overrun f (next g))
-
--- each is shorter than the one before it, and the first than c
-abbrev pub Falls : (len : ℕ → ℕ) → ℕ → List ℕ → Type 0
-Falls len c [] = Unit {0}
-Falls len c (g ∷ gs) = (len g < c) × Falls len (len g) gs
 
 falls-few : (len : ℕ → ℕ) (c : ℕ) (gs : List ℕ) → Falls len c gs → length gs ≤ c
 falls-few len c [] f = omega arith

@@ -18,7 +18,7 @@ use Rattle.table.specs.declared.entry.Outcome.the-variants.{Accepted}
 use Rattle.fields.specs.Limits.{ruleLimit}
 use Rattle.fields.specs.Rules.{Rules, rules, rulesShapeBad, ruleBad, ruleBelow, ruleOrderBad, ruleListTests, ruleTests, checkRulesOf}
 use Rattle.fields.specs.Winning.{matchesRule, TopRule, NoRuleMatches}
-use Rattle.fields.specs.Runs.{beginsRun, trieTable, sumFirst, startsShorter}
+use Rattle.fields.specs.Runs.{beginsRun, trieTable, sumFirst, startsShorter, Falls}
 use Rattle.fields.specs.Example.{exampleRules, exampleFrom, exampleTables}
 use Rattle.fields.proofs.Runs.{runCount, runFrom}
 
@@ -50,6 +50,10 @@ pub example-starts :
     (starts 0 ≡ false ∷ false ∷ false ∷ []) × (starts 1 ≡ true ∷ false ∷ false ∷ []) × (starts 2 ≡ true ∷ false ∷ false ∷ [])
 unfolding startsShorter startsWith start
 example-starts = (refl, refl, refl)
+
+-- of two tries of lengths 1 and 2 the longer one is visited first
+pub example-falls : Falls (at (1 ∷ 2 ∷ [])) 4 (1 ∷ 0 ∷ []) × (Falls (at (1 ∷ 2 ∷ [])) 4 (0 ∷ 1 ∷ []) → ⊥)
+example-falls = ((omega arith, (omega arith, tt)), λ f. omega (arith, f .1 .0))
 
 pub example-sum : sumFirst (at (5 ∷ 7 ∷ 9 ∷ [])) 2 ≡ 12
 unfolding sumFirst

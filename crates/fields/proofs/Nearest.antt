@@ -16,15 +16,10 @@ use Rattle.table.proofs.Starts.{start-less, start-least}
 use Rattle.table.specs.Table.{Entry}
 use Rattle.table.proofs.Table.{sorted, match-one}
 use Rattle.table.proofs.Longest.{wins-unique}
-use Rattle.fields.specs.Runs.{startsShorter}
+use Rattle.fields.specs.Runs.{startsShorter, lastBefore}
 use Rattle.fields.proofs.Chain.{and-both}
 
--- the number of the greatest j below g at which P holds, 0 where there is none
-unfoldable pub lastBefore : (ℕ → Bool) → ℕ → ℕ
-lastBefore P zero = 0
-lastBefore P (suc g) = cond (P g) (suc g) (lastBefore P g)
-
--- the same as a statement
+-- `lastBefore` as a statement
 data Last (P : ℕ → Bool) (g : ℕ) : ℕ → Type 0 where
   no-one : ((k : ℕ) → k < g → P k ≡ false) → Last P g 0
   at-last : {j : ℕ} → j < g → P j ≡ true → ((k : ℕ) → j < k → k < g → P k ≡ false) → Last P g (suc j)

@@ -1,8 +1,8 @@
 -- Rules of one destination are neighbours: the runs of equal neighbours, and the tables that the tries are built of (02, [6]: "a
 -- destination trie whose entries lead to source tries"). Every list has one list of runs (`runs-exist`, `runs-unique`).
 use mathlib.Core.Path.{_≡_}
-use mathlib.Core.Bool.{Bool, true, not, _&&_}
-use mathlib.Core.List.{List}
+use mathlib.Core.Bool.{Bool, true, not, cond, _&&_}
+use mathlib.Core.List.{List, [], _∷_}
 use Prim.Native.Nat.{ℕ, zero, suc, _+_, _-_, _≤_, _<_}
 use lib.ListN.{take, drop}
 use lib.Dec.{eqb, ltb}
@@ -57,3 +57,13 @@ sumFirst f (suc n) = sumFirst f n + f n
 -- `Wins (startsShorter W val len g) len m next` (table Longest; next is suc j for j, 0 for none)
 unfoldable pub startsShorter : ℕ → (val len : ℕ → ℕ) → (g j : ℕ) → Bool
 startsShorter W val len g j = startsWith W (val j) (len j) (val g) && ltb (len j) (len g)
+
+-- the number of the greatest j below g at which P holds, 0 where there is none
+unfoldable pub lastBefore : (ℕ → Bool) → ℕ → ℕ
+lastBefore P zero = 0
+lastBefore P (suc g) = cond (P g) (suc g) (lastBefore P g)
+
+-- "from the longest matching destination down": each is shorter than the one before it, and the first than c
+abbrev pub Falls : (len : ℕ → ℕ) → ℕ → List ℕ → Type 0
+Falls len c [] = Unit {0}
+Falls len c (g ∷ gs) = (len g < c) × Falls len (len g) gs

@@ -29,8 +29,8 @@ use Rattle.walk.proofs.Reading.{rows-on-path, best-path}
 use Rattle.layout.specs.Blocks.{Strides, rowsAlong}
 use Rattle.layout.proofs.Laid.{accepted, hop-longest, laid-longest, rows-exactly}
 use Rattle.fields.specs.Rules.{Rules, ruleCount, GoodRules}
-use Rattle.fields.specs.Runs.{EntryLists, trieTable, sumFirst}
-use Rattle.fields.proofs.Chain.{visitedFrom, stopsAt, overrun, Falls, and-both, chain-stops, chain-never-over, chain-visits, chain-falls}
+use Rattle.fields.specs.Runs.{EntryLists, trieTable, sumFirst, Falls}
+use Rattle.fields.proofs.Chain.{visitedFrom, stopsAt, overrun, and-both, chain-stops, chain-never-over, chain-visits, chain-falls}
 use Rattle.fields.specs.Winning.{matchesRule, TopRule}
 use Rattle.fields.proofs.Tables.{dest-lengths, dest-at, source-lengths, source-at}
 use Rattle.fields.proofs.Top.{entryMatches, top-found, top-none}
@@ -39,10 +39,9 @@ use Rattle.verdicts.specs.Tries.{trieRow, sourceRecord, fromPlace, atPlace}
 use Rattle.verdicts.specs.Meaning.{BadTrie, past-list, past-rows, breaks-rule, SourcePath, actionOn, VisitsTries, no-more, matched-in, goes-on}
 use Rattle.verdicts.specs.Meaning.{calledFirst, RuleDamage, short-lists, past-all, breaks-dest, breaks-source, TriesWay, Classified}
 use Rattle.verdicts.specs.declared.record.RuleRecord.{RuleRecord}
-use Rattle.verdicts.specs.Verdicts.{verdict}
 use Rattle.verdicts.specs.declared.visiting.Verdict.{Verdict}
 use Rattle.verdicts.proofs.Alone.{shortest-from}
-use Rattle.verdicts.proofs.Answers.{verdict-number, verdict-action, verdict-reads, verdict-case}
+use Rattle.verdicts.proofs.Answers.{verdict, verdict-number, verdict-action, verdict-reads, verdict-case}
 use Rattle.verdicts.proofs.Unique.{visits-unique, classified-unique}
 use Rattle.rules.specs.Build.{RunsOf, ruleTrie, TriesLaid}
 use Rattle.rules.specs.Deciding.{ActionIs, no-rule, top-rule, Calls, rowsThrough, rowsOnWay}

@@ -20,16 +20,17 @@ use Rattle.strides.specs.Cheapest.{Kind, Cheapest}
 use Rattle.strides.specs.Recurrence.{plain, leastBy}
 use Rattle.strides.proofs.Cheapest.{least-cheapest}
 use Rattle.strides.proofs.Follows.{follows-cheapest}
-use Rattle.walk.specs.Limits.{WIDTH}
+use Rattle.strides.specs.Trie.{size}
+use Rattle.walk.specs.Limits.{WIDTH, LEVELS, Within}
 use Rattle.walk.specs.Rows.{Lists, shortest, rowAt}
+use Rattle.choosers.specs.Scratch.{ROW}
 use Rattle.tries.specs.Limits.{ELEMENTS}
 use Rattle.tries.specs.Build.{roomTest}
 use Rattle.layout.proofs.Laid.{elements-cost}
 use Rattle.fields.specs.Rules.{Rules, ruleCount, GoodRules}
 use Rattle.fields.specs.Winning.{NoRuleMatches}
-use Rattle.fields.specs.Runs.{trieTable, sumFirst}
+use Rattle.fields.specs.Runs.{trieTable, sumFirst, Falls}
 use Rattle.fields.proofs.Runs.{runCount, runFrom, runs-exist}
-use Rattle.fields.proofs.Chain.{Falls}
 use Rattle.verdicts.specs.Limits.{TRIE-ROW}
 use Rattle.verdicts.specs.Tries.{trieRow}
 use Rattle.verdicts.specs.Verdicts.{verdictNumber, actionOf, verdictReads}
@@ -40,11 +41,11 @@ use Rattle.verdicts.specs.declared.visiting.Verdict.the-variants.{Discard, NoRu
 use Rattle.verdicts.proofs.Answers.{verdict-number, verdict-action}
 use Rattle.verdicts.proofs.Unique.{tries-way-unique}
 use Rattle.verdicts.proofs.Alone.{verdict-path, verdict-few, verdict-alone}
-use Rattle.rules.specs.Build.{RunsOf, ruleTrie, listTest, ruleScratchTests, ruleBuildTests, NoRuleRecord, RuleBuilds}
+use Rattle.rules.specs.Build.{RunsOf, ruleTrie, allNodesTest, trieListTest, ruleScratchTests, ruleBuildTests, NoRuleRecord, RuleBuilds}
 use Rattle.rules.specs.Deciding.{ActionIs, TopDiscards, Calls, rowsOnWay}
 use Rattle.verdicts.proofs.Answers.{none-by-action, discard-by-action}
 use Rattle.rules.proofs.Actions.{action-unique, action-none, action-discards}
-use Rattle.rules.proofs.RuleTests.{scratch-tests-good, numbered-rule-scratch, rule-tests-early, rule-tests-late, rule-tests-scratch}
+use Rattle.rules.proofs.RuleTests.{scratch-tests-good, scratch-test-left, numbered-rule-scratch, rule-tests-early, rule-tests-late, rule-tests-scratch}
 use Rattle.rules.proofs.Deciding.{triesVisited, actionFound, laid-way, verdict-found, laid-decides, tries-called, tries-fall}
 
 module _ {kind : Kind} {W k : ℕ} {rs : Rules} {scratch : List ℕ} {rows : Lists} {list : List ℕ} {out : Outcome} {rec : RuleRecord} {s : List ℕ} {rows′ : Lists}
@@ -61,6 +62,27 @@ module _ {kind : Kind} {W k : ℕ} {rs : Rules} {scratch : List ℕ} {rows : Lis
       → out ≡ outcome (ruleBuildTests W k rs (length scratch) (shortest rows) (length list) m from (λ g. leastBy plain kind k (ruleTrie W rs m from g)))
   tests-out {m} {from} r =
       gives-outcome _ out (b .tested m from (λ g. leastBy plain kind k (ruleTrie W rs m from g)) r (λ g h. least-cheapest kind k (ruleTrie W rs m from g)))
+
+  -- for good rules and an allowed level count: 6 where the scratch lent has fewer rows than all tries together have 1-bit nodes, with
+  -- their number for detail; else the tests up to 6 are passed
+  module _ (good : GoodRules W rs) (allowed : Within k LEVELS) {m : ℕ} {from : ℕ → ℕ} (r : RunsOf rs m from) where
+    abbrev nodes : ℕ
+    nodes = sumFirst (λ g. size (ruleTrie W rs m from g)) (suc m)
+
+    left : outcome (ruleScratchTests W k rs (length scratch) m from) ≡ outcome (allNodesTest (length scratch) nodes ∷ [])
+    left = scratch-test-left W k rs (length scratch) m from good allowed
+
+    pub rules-scratch : length scratch / ROW < nodes → out ≡ Refused 6 nodes
+    rules-scratch h =
+        tests-out r ∙ rule-tests-early W k rs (length scratch) m from _ _ _
+        (left ∙ outcome-fails (allNodesTest (length scratch) nodes) [] (lt-ltb (length scratch / ROW) nodes h))
+
+    pub rules-scratch-enough : nodes ≤ length scratch / ROW → Gives (ruleScratchTests W k rs (length scratch) m from) Accepted
+    unfolding outcome
+    rules-scratch-enough h =
+        subst (Gives (ruleScratchTests W k rs (length scratch) m from))
+        (left ∙ outcome-passes (allNodesTest (length scratch) nodes) [] (le-ltb (length scratch / ROW) nodes h))
+        (outcome-gives (ruleScratchTests W k rs (length scratch) m from))
 
   -- refusals 1 to 6 change no list
   pub rules-early : {m : ℕ} {from : ℕ → ℕ} → RunsOf rs m from → {n d : ℕ} → Gives (ruleScratchTests W k rs (length scratch) m from) (Refused n d)
@@ -103,13 +125,13 @@ module _ {kind : Kind} {W k : ℕ} {rs : Rules} {scratch : List ℕ} {rows : Lis
     abbrev total : ℕ
     total = sumFirst least (suc m)
 
-    past : out ≡ outcome (roomTest total (shortest rows) ∷ listTest (length list) m ∷ [])
+    past : out ≡ outcome (roomTest total (shortest rows) ∷ trieListTest (length list) m ∷ [])
     past =
         gives-outcome _ out (b .tested m from least r c)
         ∙ rule-tests-late W k rs (length scratch) m from (shortest rows) (length list) least (sym (gives-outcome _ Accepted p))
 
     pub rules-elements : (shortest rows < total) ⊎ (ELEMENTS < total) → out ≡ Refused 7 total
-    rules-elements o = past ∙ outcome-fails (roomTest total (shortest rows)) (listTest (length list) m ∷ []) (over o)
+    rules-elements o = past ∙ outcome-fails (roomTest total (shortest rows)) (trieListTest (length list) m ∷ []) (over o)
       where
         over : (shortest rows < total) ⊎ (ELEMENTS < total) → (ltb (shortest rows) total || ltb ELEMENTS total) ≡ true
         over (inl h) = rw (lt-ltb (shortest rows) total h) refl
@@ -118,16 +140,16 @@ module _ {kind : Kind} {W k : ℕ} {rs : Rules} {scratch : List ℕ} {rows : Lis
           | no q ↦ rw (lt-ltb (shortest rows) total (omega arith)) refl
         ]
 
-    within : total ≤ shortest rows → total ≤ ELEMENTS → out ≡ outcome (listTest (length list) m ∷ [])
+    within : total ≤ shortest rows → total ≤ ELEMENTS → out ≡ outcome (trieListTest (length list) m ∷ [])
     within h q =
-        past ∙ outcome-passes (roomTest total (shortest rows)) (listTest (length list) m ∷ []) (rw (le-ltb (shortest rows) total h, le-ltb ELEMENTS total q) refl)
+        past ∙ outcome-passes (roomTest total (shortest rows)) (trieListTest (length list) m ∷ []) (rw (le-ltb (shortest rows) total h, le-ltb ELEMENTS total q) refl)
 
-    pub rules-places : total ≤ shortest rows → total ≤ ELEMENTS → length list / TRIE-ROW < m → out ≡ Refused 7 m
-    rules-places h q l = within h q ∙ outcome-fails (listTest (length list) m) [] (lt-ltb (length list / TRIE-ROW) m l)
+    pub rules-list : total ≤ shortest rows → total ≤ ELEMENTS → length list / TRIE-ROW < m → out ≡ Refused 7 m
+    rules-list h q l = within h q ∙ outcome-fails (trieListTest (length list) m) [] (lt-ltb (length list / TRIE-ROW) m l)
 
     pub rules-fit : total ≤ shortest rows → total ≤ ELEMENTS → m ≤ length list / TRIE-ROW → out ≡ Accepted
     unfolding outcome
-    rules-fit h q l = within h q ∙ outcome-passes (listTest (length list) m) [] (le-ltb (length list / TRIE-ROW) m l)
+    rules-fit h q l = within h q ∙ outcome-passes (trieListTest (length list) m) [] (le-ltb (length list / TRIE-ROW) m l)
 
   module _ (e : out ≡ Accepted) where
     -- an accepted build zeroes all scratch, writes rows 0 to E - 1 and the rows of its tries in the list, and keeps what comes after them

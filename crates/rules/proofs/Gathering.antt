@@ -39,24 +39,24 @@ module _ (val len : ℕ → ℕ) where
 
 -- ---- one rule more
 
-pub gathered-none : (vs ls first vals lens nums : List ℕ) → at first 0 ≡ 0 → Gathered vs ls 0 0 first vals lens nums
+pub gathered-none : (dvals dlens first vals lens nums : List ℕ) → at first 0 ≡ 0 → Gathered dvals dlens 0 0 first vals lens nums
 unfolding listed
-gathered-none vs ls first vals lens nums e =
-    record { runs = runs-none (at vs) (at ls) (at first) e; few = omega arith; values = refl; lengths = refl; numbers = refl }
+gathered-none dvals dlens first vals lens nums e =
+    record { runs = runs-none (at dvals) (at dlens) (at first) e; few = omega arith; values = refl; lengths = refl; numbers = refl }
 
 -- (the code counts by `+ 1`, the laws of runs by `suc`)
 counted : {val len : ℕ → ℕ} {n m : ℕ} {from : ℕ → ℕ} (n′ m′ : ℕ) → n′ ≡ n → m′ ≡ m → Runs val len n m from → Runs val len n′ m′ from
 counted n′ m′ p q r = rw (p, q) r
 
 -- the destination of rule i is taken, and the place after the last run is moved on
-pub gathered-more : {vs ls : List ℕ} {i m : ℕ} {first vals lens nums : List ℕ} {m′ : ℕ} {vals′ lens′ nums′ : List ℕ}
-    → Gathered vs ls i m first vals lens nums → Taken vs ls i m vals lens nums m′ vals′ lens′ nums′
-    → (m < length vals) × (m < length lens) × (m < length nums) → i + 1 < length first → Gathered vs ls (i + 1) m′ (set first m′ (i + 1)) vals′ lens′ nums′
-gathered-more {vs} {ls} {i} {m} {first} r (same-run b em ev el en) room long = rw (em, ev, el, en) (record {
+pub gathered-more : {dvals dlens : List ℕ} {i m : ℕ} {first vals lens nums : List ℕ} {m′ : ℕ} {vals′ lens′ nums′ : List ℕ}
+    → Gathered dvals dlens i m first vals lens nums → Taken dvals dlens i m vals lens nums m′ vals′ lens′ nums′
+    → (m < length vals) × (m < length lens) × (m < length nums) → i + 1 < length first → Gathered dvals dlens (i + 1) m′ (set first m′ (i + 1)) vals′ lens′ nums′
+gathered-more {dvals} {dlens} {i} {m} {first} r (same-run b em ev el en) room long = rw (em, ev, el, en) (record {
   runs = counted (i + 1) m (add-one i) refl (runs-same (r .runs) (at (set first m (i + 1))) b kept (here ∙ add-one i));
   few = omega (arith, r .few);
-  values = r .values ∙ listed-same _ _ m (λ g h. ap (at vs) (sym (kept g h)));
-  lengths = r .lengths ∙ listed-same _ _ m (λ g h. ap (at ls) (sym (kept g h)));
+  values = r .values ∙ listed-same _ _ m (λ g h. ap (at dvals) (sym (kept g h)));
+  lengths = r .lengths ∙ listed-same _ _ m (λ g h. ap (at dlens) (sym (kept g h)));
   numbers = r .numbers;
 })
   where
@@ -65,12 +65,12 @@ gathered-more {vs} {ls} {i} {m} {first} r (same-run b em ev el en) room long = r
 
     here : at (set first m (i + 1)) m ≡ i + 1
     here = getD-set-same first m (i + 1) 0 (omega (arith, r .few))
-gathered-more {vs} {ls} {i} {m} {first} {vals} {lens} {nums} r (new-run b em ev el en) room long = rw (em, ev, el, en) (record {
+gathered-more {dvals} {dlens} {i} {m} {first} {vals} {lens} {nums} r (new-run b em ev el en) room long = rw (em, ev, el, en) (record {
   runs = counted (i + 1) (m + 1) (add-one i) (add-one m)
       (runs-new (r .runs) (at (set first (m + 1) (i + 1))) b kept (ap (at (set first (m + 1) (i + 1))) (sym (add-one m)) ∙ here ∙ add-one i));
   few = omega (arith, r .few);
-  values = column vals (at vs) (room .0) (r .values);
-  lengths = column lens (at ls) (room .1) (r .lengths);
+  values = column vals (at dvals) (room .0) (r .values);
+  lengths = column lens (at dlens) (room .1) (r .lengths);
   numbers = listed-more suc nums m (m + 1) (room .2) (r .numbers) (add-one m);
 })
   where
@@ -87,7 +87,7 @@ gathered-more {vs} {ls} {i} {m} {first} {vals} {lens} {nums} r (new-run b em ev 
         (ap f (sym (kept m (omega arith) ∙ r .runs .last)))
 
 -- at most one destination a rule
-pub taken-few : {vs ls : List ℕ} {i m : ℕ} {vals lens nums : List ℕ} {m′ : ℕ} {vals′ lens′ nums′ : List ℕ} → Taken vs ls i m vals lens nums m′ vals′ lens′ nums′
+pub taken-few : {dvals dlens : List ℕ} {i m : ℕ} {vals lens nums : List ℕ} {m′ : ℕ} {vals′ lens′ nums′ : List ℕ} → Taken dvals dlens i m vals lens nums m′ vals′ lens′ nums′
     → m ≤ i → m′ ≤ i + 1
 taken-few (new-run o em ev el en) h = omega arith
 taken-few (same-run o em ev el en) h = omega arith

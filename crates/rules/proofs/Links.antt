@@ -7,9 +7,9 @@ use lib.ListN.{length}
 use Rattle.table.specs.Table.{at, Table}
 use Rattle.table.specs.Longest.{matches, Wins}
 use Rattle.fields.specs.Rules.{Rules, ruleCount, GoodRules}
-use Rattle.fields.specs.Runs.{Runs, EntryLists, trieTable, startsShorter}
+use Rattle.fields.specs.Runs.{Runs, EntryLists, trieTable, startsShorter, lastBefore}
 use Rattle.fields.proofs.Tables.{dest-lengths, dest-table}
-use Rattle.fields.proofs.Nearest.{lastBefore, nearest-wins}
+use Rattle.fields.proofs.Nearest.{nearest-wins}
 use Rattle.rules.specs.Gathering.{Short}
 
 -- no prefix of a table is longer than the width

@@ -38,10 +38,10 @@ module _ (W : ℕ) (rs : Rules) (m : ℕ) (from from′ : ℕ → ℕ) (same : (
   scratch-tests-same k words =
       rw (sum-same (λ g. size (ruleTrie W rs m from g)) (λ g. size (ruleTrie W rs m from′ g)) (suc m) (λ g h. ap size (rule-trie-same g (le-of-suc-le-suc h))))
 
-  build-tests-same : (k words room places : ℕ) (least least′ : ℕ → ℕ) → ((g : ℕ) → g ≤ m → least g ≡ least′ g)
-      → ruleBuildTests W k rs words room places m from least ≡ ruleBuildTests W k rs words room places m from′ least′
+  build-tests-same : (k words room numbers : ℕ) (least least′ : ℕ → ℕ) → ((g : ℕ) → g ≤ m → least g ≡ least′ g)
+      → ruleBuildTests W k rs words room numbers m from least ≡ ruleBuildTests W k rs words room numbers m from′ least′
   unfolding ruleBuildTests
-  build-tests-same k words room places least least′ e =
+  build-tests-same k words room numbers least least′ e =
       rw (scratch-tests-same k words, sum-same least least′ (suc m) (λ g h. e g (le-of-suc-le-suc h)))
 
 -- any two runs do
@@ -52,11 +52,11 @@ module _ (W : ℕ) (rs : Rules) {m : ℕ} {from : ℕ → ℕ} (r : RunsOf rs m 
       scratch-tests-same W rs m from from′ (u .1) k words ∙ ap (λ (x : ℕ). ruleScratchTests W k rs words x from′) (u .0)
 
   -- the tests take no other numbers than the least costs of all choices
-  pub rule-tests-least : {m′ : ℕ} {from′ : ℕ → ℕ} → RunsOf rs m′ from′ → (kind : Kind) (k words room places : ℕ) (least : ℕ → ℕ)
+  pub rule-tests-least : {m′ : ℕ} {from′ : ℕ → ℕ} → RunsOf rs m′ from′ → (kind : Kind) (k words room numbers : ℕ) (least : ℕ → ℕ)
       → ((g : ℕ) → g ≤ m′ → 1 ≤ k → Cheapest kind k (ruleTrie W rs m′ from′ g) (least g))
-      → outcome (ruleBuildTests W k rs words room places m from (λ g. leastBy plain kind k (ruleTrie W rs m from g)))
-      ≡ outcome (ruleBuildTests W k rs words room places m′ from′ least)
-  rule-tests-least {m′} {from′} r′ kind k words room places least c = go (outcome (ruleScratchTests W k rs words m from)) refl
+      → outcome (ruleBuildTests W k rs words room numbers m from (λ g. leastBy plain kind k (ruleTrie W rs m from g)))
+      ≡ outcome (ruleBuildTests W k rs words room numbers m′ from′ least)
+  rule-tests-least {m′} {from′} r′ kind k words room numbers least c = go (outcome (ruleScratchTests W k rs words m from)) refl
     where
       u : (m ≡ m′) × ((g : ℕ) → g ≤ m → from g ≡ from′ g)
       u = runs-unique r r′
@@ -71,14 +71,14 @@ module _ (W : ℕ) (rs : Rules) {m : ℕ} {from : ℕ → ℕ} (r : RunsOf rs m 
           (subst (λ (t : Trie). Cheapest kind k t (least g)) (sym (rule-trie-same W rs m from from′ (u .1) g h)) c′)
 
       go : (o : Outcome) → outcome (ruleScratchTests W k rs words m from) ≡ o
-          → outcome (ruleBuildTests W k rs words room places m from own) ≡ outcome (ruleBuildTests W k rs words room places m′ from′ least)
+          → outcome (ruleBuildTests W k rs words room numbers m from own) ≡ outcome (ruleBuildTests W k rs words room numbers m′ from′ least)
       go Accepted e =
           let some = scratch-tests-levels W k rs words m from e .0 in
-          ap outcome (build-tests-same W rs m from from′ (u .1) k words room places own least (least-same some)
-          ∙ ap (λ (x : ℕ). ruleBuildTests W k rs words room places x from′ least) (u .0))
+          ap outcome (build-tests-same W rs m from from′ (u .1) k words room numbers own least (least-same some)
+          ∙ ap (λ (x : ℕ). ruleBuildTests W k rs words room numbers x from′ least) (u .0))
       go (Refused n d) e =
-          rule-tests-early W k rs words m from room places own e
-          ∙ sym (rule-tests-early W k rs words m′ from′ room places least (ap outcome (sym (scratch-tests-one r′ k words)) ∙ e))
+          rule-tests-early W k rs words m from room numbers own e
+          ∙ sym (rule-tests-early W k rs words m′ from′ room numbers least (ap outcome (sym (scratch-tests-one r′ k words)) ∙ e))
 
 -- ---- the meaning
 

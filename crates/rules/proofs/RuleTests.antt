@@ -9,6 +9,7 @@ use Rattle.table.specs.Table.{widthTest}
 use Rattle.table.specs.declared.entry.Outcome.{Outcome}
 use Rattle.table.specs.declared.entry.Outcome.the-variants.{Accepted, Refused}
 use Rattle.table.proofs.Refusals.{outcome-passes, outcome-append, accepted-passes, accepted-parts}
+use Rattle.table.proofs.Table.{width-passes}
 use Rattle.table.proofs.Numbered.{numbered-append}
 use Rattle.strides.specs.Trie.{size}
 use Rattle.walk.specs.Limits.{LEVELS, Within}
@@ -17,8 +18,8 @@ use Rattle.choosers.proofs.ChooseTests.{within-levels}
 use Rattle.tries.specs.Build.{roomTest}
 use Rattle.fields.specs.Rules.{Rules, ruleListTests, ruleTests, GoodRules}
 use Rattle.fields.specs.Runs.{sumFirst}
-use Rattle.fields.proofs.Rules.{rules-good, numbered-rules}
-use Rattle.rules.specs.Build.{ruleTrie, allNodesTest, listTest, ruleScratchTests, ruleBuildTests}
+use Rattle.fields.proofs.Rules.{rules-good, good-rules, numbered-rules}
+use Rattle.rules.specs.Build.{ruleTrie, allNodesTest, trieListTest, ruleScratchTests, ruleBuildTests}
 
 module _ (W k : ℕ) (rs : Rules) (words m : ℕ) (from : ℕ → ℕ) where
   abbrev lastTest : List Test
@@ -40,6 +41,15 @@ module _ (W k : ℕ) (rs : Rules) (words m : ℕ) (from : ℕ → ℕ) where
   unfolding ruleTests
   scratch-tests-good e = let p = past-width e in rules-good W rs (outcome-passes (widthTest W) (ruleListTests W rs) (p .0) ∙ p .2)
 
+  -- for good rules and an allowed level count test 6 alone is left
+  pub scratch-test-left : GoodRules W rs → Within k LEVELS → outcome (ruleScratchTests W k rs words m from) ≡ outcome lastTest
+  unfolding ruleScratchTests ruleTests andThen
+  scratch-test-left g h =
+      let p = accepted-passes (widthTest W) (ruleListTests W rs) (good-rules W rs g) in
+      outcome-passes (widthTest W) (levelsTest k ∷ (ruleListTests W rs ++ lastTest)) (p .0)
+      ∙ outcome-passes (levelsTest k) (ruleListTests W rs ++ lastTest) (width-passes LEVELS k (λ (e : k ≡ 0). omega (arith, h .0)) (h .1))
+      ∙ outcome-append (ruleListTests W rs) lastTest ∙ ap (λ (o : Outcome). andThen o (outcome lastTest)) (p .1)
+
   pub numbered-rule-scratch : (most : ℕ) → 6 ≤ most → Numbered most (ruleScratchTests W k rs words m from)
   unfolding ruleScratchTests ruleTests
   numbered-rule-scratch most h =
@@ -47,30 +57,30 @@ module _ (W k : ℕ) (rs : Rules) (words m : ℕ) (from : ℕ → ℕ) where
       (n .0, ((omega arith, omega arith), numbered-append most (ruleListTests W rs) lastTest (n .1) ((omega arith, omega arith), tt)))
 
   -- 7 comes after them
-  module _ (room places : ℕ) (least : ℕ → ℕ) where
+  module _ (room numbers : ℕ) (least : ℕ → ℕ) where
     abbrev roomTests : List Test
-    roomTests = roomTest (sumFirst least (suc m)) room ∷ listTest places m ∷ []
+    roomTests = roomTest (sumFirst least (suc m)) room ∷ trieListTest numbers m ∷ []
 
-    two-parts : outcome (ruleBuildTests W k rs words room places m from least) ≡ andThen (outcome (ruleScratchTests W k rs words m from)) (outcome roomTests)
+    two-parts : outcome (ruleBuildTests W k rs words room numbers m from least) ≡ andThen (outcome (ruleScratchTests W k rs words m from)) (outcome roomTests)
     unfolding ruleBuildTests
     two-parts = outcome-append (ruleScratchTests W k rs words m from) roomTests
 
     pub rule-tests-early : {n d : ℕ} → outcome (ruleScratchTests W k rs words m from) ≡ Refused n d
-        → outcome (ruleBuildTests W k rs words room places m from least) ≡ Refused n d
+        → outcome (ruleBuildTests W k rs words room numbers m from least) ≡ Refused n d
     unfolding andThen
     rule-tests-early e = two-parts ∙ ap (λ (o : Outcome). andThen o (outcome roomTests)) e
 
     pub rule-tests-late : outcome (ruleScratchTests W k rs words m from) ≡ Accepted
-        → outcome (ruleBuildTests W k rs words room places m from least) ≡ outcome roomTests
+        → outcome (ruleBuildTests W k rs words room numbers m from least) ≡ outcome roomTests
     unfolding andThen
     rule-tests-late e = two-parts ∙ ap (λ (o : Outcome). andThen o (outcome roomTests)) e
 
-    pub rule-tests-scratch : outcome (ruleBuildTests W k rs words room places m from least) ≡ Accepted
+    pub rule-tests-scratch : outcome (ruleBuildTests W k rs words room numbers m from least) ≡ Accepted
         → outcome (ruleScratchTests W k rs words m from) ≡ Accepted
     unfolding ruleBuildTests
     rule-tests-scratch e = accepted-parts (ruleScratchTests W k rs words m from) roomTests e .0
 
-    pub numbered-rule-build : Numbered 7 (ruleBuildTests W k rs words room places m from least)
+    pub numbered-rule-build : Numbered 7 (ruleBuildTests W k rs words room numbers m from least)
     unfolding ruleBuildTests
     numbered-rule-build =
         numbered-append 7 (ruleScratchTests W k rs words m from) roomTests (numbered-rule-scratch 7 (omega arith))

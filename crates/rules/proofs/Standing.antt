@@ -18,8 +18,7 @@ use Rattle.walk.specs.declared.record.Record.{Record}
 use Rattle.layout.specs.Blocks.{Strides, rowsOf, Hold}
 use Rattle.layout.specs.Laid.{tableTrie, Laid}
 use Rattle.layout.proofs.Blocks.{rows-length}
-use Rattle.fields.specs.Runs.{part, sumFirst}
-use Rattle.fields.proofs.Nearest.{lastBefore}
+use Rattle.fields.specs.Runs.{part, sumFirst, lastBefore}
 use Rattle.verdicts.specs.Limits.{TRIE-ROW}
 use Rattle.verdicts.specs.Tries.{TrieRow, trieRow, sourceRecord, fromPlace}
 use Rattle.verdicts.proofs.Alone.{row-from, shortest-from}
@@ -215,7 +214,7 @@ module _ (kind : Kind) (W k : ℕ) (s : SplitRules) where
         CanLayAt kind W k (part i j (s .svals)) (part i j (s .slens)) (part i j (s .actions)) words place rows) (sym (add-one g)) here
 
     pub may-list : g < length (s .vals) → g * TRIE-ROW + TRIE-ROW ≤ length list
-    may-list h = omega (arith, t .long, can .places)
+    may-list h = omega (arith, t .long, can .long)
 
   -- before the first
   pub laid-none : (start : ℕ) (rows : Lists) (list : List ℕ) → LaidTo kind W k s start rows list 0 start rows list

@@ -28,7 +28,7 @@ use Rattle.tries.specs.Limits.{ELEMENTS}
 use Rattle.fields.specs.Runs.{sumFirst}
 use Rattle.verdicts.specs.Limits.{TRIE-ROW}
 use Rattle.verdicts.specs.declared.record.RuleRecord.{RuleRecord}
-use Rattle.rules.specs.Build.{allNodesTest, listTest, NoRuleRecord}
+use Rattle.rules.specs.Build.{allNodesTest, trieListTest, NoRuleRecord}
 use Rattle.rules.specs.Splitting.{SplitRules, splitTrie, splitNodes, splitCosts, CanSplit, Roomy}
 use Rattle.rules.specs.Laying.{CanLayAt, LaysAt, sourceCost, placeOf, CanLaySources, LaidTo}
 use Rattle.rules.specs.Building.{CanLayAll, SplitWritten, TriesBuilt, SplitBuilt}
@@ -51,7 +51,7 @@ nothing-written kind W k s rows list e z = record {
     lens = refl;
     links = refl;
     strides = refl;
-    places = refl;
+    long = refl;
     later = λ a. absurd (refused-not-accepted (sym e ∙ a));
     refused = λ ne. (z, refl, refl);
   };
@@ -85,7 +85,7 @@ module _ (kind : Kind) (W k : ℕ) (s : SplitRules) {words : ℕ} {rows : Lists}
       roomy = can .roomy;
       fits = rw (same-place, same-shortest (l .room)) (can .fits);
       few = rw same-place (can .few);
-      places = can .places;
+      long = can .long;
     }
 
     module _ {e : ℕ} {rows2 : Lists} {list2 : List ℕ} (t : LaidTo kind W k s (dest .elements) rows1 list (length (s .vals)) e rows2 list2) where
@@ -104,14 +104,14 @@ module _ (kind : Kind) (W k : ℕ) (s : SplitRules) {words : ℕ} {rows : Lists}
           sources = λ g h. rw d (t .stands g h);
           all = rw d (q ∙ t .reached);
           rest = t .rest;
-          places = omega (arith, t .long, can .places);
+          long = omega (arith, t .long, can .long);
         };
         keeps = record {
           hops = t .room .hops ∙ l .room .hops;
           lens = t .room .lens ∙ l .room .lens;
           links = t .room .links ∙ l .room .links;
           strides = t .room .strides ∙ l .room .strides;
-          places = t .long;
+          long = t .long;
           later = λ a i h. t .after i (omega (arith, q)) ∙ l .after i (omega (arith, q, t .reached));
           refused = λ ne. absurd (ne refl);
         };
@@ -120,7 +120,7 @@ module _ (kind : Kind) (W k : ℕ) (s : SplitRules) {words : ℕ} {rows : Lists}
 -- ---- test 7 before that
 
 module _ (kind : Kind) (W k : ℕ) (s : SplitRules) (rows : Lists) (list : List ℕ) {cost : ℕ} (costs : cost ≡ splitCosts kind W k s) {o : Outcome}
-    (tested : o ≡ outcome (roomTest cost (shortest rows) ∷ listTest (length list) (length (s .vals)) ∷ [])) where
+    (tested : o ≡ outcome (roomTest cost (shortest rows) ∷ trieListTest (length list) (length (s .vals)) ∷ [])) where
   pub room-lacks : {n d : ℕ} {out : Outcome} {rec : RuleRecord} → o ≡ Refused n d → out ≡ Refused n d → NoRuleRecord rec
       → TriesBuilt kind W k s rows list out rec rows list
   room-lacks f e z = record { tests = e ∙ sym f ∙ rw (sym costs) tested; written = nothing-written kind W k s rows list e z }
@@ -128,15 +128,15 @@ module _ (kind : Kind) (W k : ℕ) (s : SplitRules) (rows : Lists) (list : List 
   module _ (passed : o ≡ Accepted) where
     pub may-lay-all : {words : ℕ} → CanSplit W k s → Roomy W s words → CanLayAll kind W k s words rows list
     may-lay-all split roomy =
-        let p = accepted-passes (roomTest cost (shortest rows)) (listTest (length list) (length (s .vals)) ∷ []) (sym tested ∙ passed) in
-        let q = accepted-passes (listTest (length list) (length (s .vals))) [] (p .1) in
+        let p = accepted-passes (roomTest cost (shortest rows)) (trieListTest (length list) (length (s .vals)) ∷ []) (sym tested ∙ passed) in
+        let q = accepted-passes (trieListTest (length list) (length (s .vals))) [] (p .1) in
         let r = or-false (ltb (shortest rows) cost) (ltb ELEMENTS cost) (p .0) in
         record {
           split = split;
           roomy = roomy;
           fits = rw (sym costs) (ltb-false (shortest rows) cost (r .0));
           few = rw (sym costs) (ltb-false ELEMENTS cost (r .1));
-          places = omega (arith, ltb-false (length list / TRIE-ROW) (length (s .vals)) (q .0));
+          long = omega (arith, ltb-false (length list / TRIE-ROW) (length (s .vals)) (q .0));
         }
 
     pub tries-built : {rec : RuleRecord} {rows′ : Lists} {list′ : List ℕ} → SplitWritten kind W k s rows list Accepted rec rows′ list′
@@ -147,7 +147,7 @@ module _ (kind : Kind) (W k : ℕ) (s : SplitRules) (rows : Lists) (list : List 
 
 module _ (kind : Kind) (W k : ℕ) (s : SplitRules) (scratch : List ℕ) (rows : Lists) (list : List ℕ) where
   abbrev sevens : List Test
-  sevens = roomTest (splitCosts kind W k s) (shortest rows) ∷ listTest (length list) (length (s .vals)) ∷ []
+  sevens = roomTest (splitCosts kind W k s) (shortest rows) ∷ trieListTest (length list) (length (s .vals)) ∷ []
 
   module _ {out : Outcome} {rec : RuleRecord} {nodes : ℕ} (counted : nodes ≡ splitNodes W s) where
     pub all-scratch-short : length scratch / ROW < nodes → out ≡ Refused 6 nodes → NoRuleRecord rec → SplitBuilt kind W k s scratch rows list out rec scratch rows list

@@ -288,7 +288,7 @@ module _ (kind : Kind) (W k : ℕ) (rs : Rules) (scratch : List ℕ) (rows : Lis
           let q = d .keeps in (
             rule-records-same dest-one (all-one (one .tries) both),
             same-rows-one (p .hops ∙ sym (q .hops)) (p .lens ∙ sym (q .lens)) (p .links ∙ sym (q .links)) (p .strides ∙ sym (q .strides)) row-at-one,
-            ext-getD 0 list1 list2 (p .places ∙ sym (q .places)) (λ i h. number-at-one i),
+            ext-getD 0 list1 list2 (p .long ∙ sym (q .long)) (λ i h. number-at-one i),
           )
 
     pub rule-builds-unique : (out ≡ out′) × (rec ≡ rec′) × (s ≡ s′) × (rows1 ≡ rows2) × (list1 ≡ list2)

@@ -28,7 +28,7 @@ use Rattle.fields.proofs.Rules.{good-rules}
 use Rattle.fields.proofs.Tables.{dest-lengths, dest-table, source-table}
 use Rattle.verdicts.specs.Tries.{trieRow}
 use Rattle.verdicts.specs.declared.record.RuleRecord.{RuleRecord}
-use Rattle.rules.specs.Build.{RunsOf, ruleTrie, allNodesTest, listTest, ruleScratchTests, ruleBuildTests, NoRuleRecord, TriesLaid, RulesAre}
+use Rattle.rules.specs.Build.{RunsOf, ruleTrie, allNodesTest, trieListTest, ruleScratchTests, ruleBuildTests, NoRuleRecord, TriesLaid, RulesAre}
 use Rattle.rules.specs.Gathering.{Gathered}
 use Rattle.rules.specs.Splitting.{SplitRules, splitRules, splitTable, splitTrie, splitNodes, splitCosts, CanPlan, CanSplit}
 use Rattle.rules.specs.Laying.{sourceCost, SourceStands}
@@ -73,7 +73,7 @@ module _ (kind : Kind) (W k : ℕ) (rs : Rules) (scratch : List ℕ) (rows : Lis
           lens = refl;
           links = refl;
           strides = refl;
-          places = refl;
+          long = refl;
           later = λ a. absurd (refused-not-accepted (sym e ∙ a));
           refused = λ ne. (z, refl, refl);
         };
@@ -164,7 +164,7 @@ module _ (W k : ℕ) (rs : Rules) (good : GoodRules W rs) (levels : Within k LEV
           ∙ ap (λ (n : ℕ). rec .dest .elements + n) (counted m (omega arith));
       floor = λ g h. stands g h .floor;
       next = next-is;
-      listed = omega (arith, l .places, many);
+      listed = omega (arith, l .long, many);
     }
 
   module _ {kind : Kind} {scratch : List ℕ} {rows : Lists} {list : List ℕ} {out : Outcome} {rec : RuleRecord} {scratch′ : List ℕ} {rows′ : Lists} {list′ : List ℕ}
@@ -186,7 +186,7 @@ module _ (W k : ℕ) (rs : Rules) (good : GoodRules W rs) (levels : Within k LEV
         ∙ ap (λ (o : Outcome). andThen o (outcome (allNodesTest (length scratch) nodes ∷ []))) (good-rules W rs good)
 
     sevens : List Test
-    sevens = roomTest (sumFirst cost (suc m)) (shortest rows) ∷ listTest (length list) m ∷ []
+    sevens = roomTest (sumFirst cost (suc m)) (shortest rows) ∷ trieListTest (length list) m ∷ []
 
     all-left : outcome (ruleBuildTests W k rs (length scratch) (shortest rows) (length list) m (at first) cost) ≡ outcome (allNodesTest (length scratch) nodes ∷ sevens)
     unfolding ruleBuildTests sevens
@@ -194,13 +194,13 @@ module _ (W k : ℕ) (rs : Rules) (good : GoodRules W rs) (levels : Within k LEV
         outcome-append (ruleScratchTests W k rs (length scratch) m (at first)) sevens ∙ ap (λ (o : Outcome). andThen o (outcome sevens)) last-left
         ∙ sym (outcome-append (allNodesTest (length scratch) nodes ∷ []) sevens)
 
-    same-tests : outcome (allNodesTest (length scratch) (splitNodes W heldRules) ∷ roomTest (splitCosts kind W k heldRules) (shortest rows) ∷ listTest (length list) (length (tab 0 .vals)) ∷ [])
+    same-tests : outcome (allNodesTest (length scratch) (splitNodes W heldRules) ∷ roomTest (splitCosts kind W k heldRules) (shortest rows) ∷ trieListTest (length list) (length (tab 0 .vals)) ∷ [])
         ≡ outcome (allNodesTest (length scratch) nodes ∷ sevens)
     unfolding sevens
     same-tests =
-        ap (λ (n : ℕ). outcome (allNodesTest (length scratch) n ∷ roomTest (splitCosts kind W k heldRules) (shortest rows) ∷ listTest (length list) (length (tab 0 .vals)) ∷ [])) (held-sum size)
-        ∙ ap (λ (n : ℕ). outcome (allNodesTest (length scratch) nodes ∷ roomTest n (shortest rows) ∷ listTest (length list) (length (tab 0 .vals)) ∷ [])) (held-sum (leastBy plain kind k))
-        ∙ ap (λ (n : ℕ). outcome (allNodesTest (length scratch) nodes ∷ roomTest (sumFirst cost (suc m)) (shortest rows) ∷ listTest (length list) n ∷ [])) many
+        ap (λ (n : ℕ). outcome (allNodesTest (length scratch) n ∷ roomTest (splitCosts kind W k heldRules) (shortest rows) ∷ trieListTest (length list) (length (tab 0 .vals)) ∷ [])) (held-sum size)
+        ∙ ap (λ (n : ℕ). outcome (allNodesTest (length scratch) nodes ∷ roomTest n (shortest rows) ∷ trieListTest (length list) (length (tab 0 .vals)) ∷ [])) (held-sum (leastBy plain kind k))
+        ∙ ap (λ (n : ℕ). outcome (allNodesTest (length scratch) nodes ∷ roomTest (sumFirst cost (suc m)) (shortest rows) ∷ trieListTest (length list) n ∷ [])) many
 
     pub whole-built : RulesAre kind W k rs scratch rows list out rec scratch′ rows′ list′
     whole-built = record {

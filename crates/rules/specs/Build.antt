@@ -43,8 +43,8 @@ abbrev pub allNodesTest : (words nodes : ℕ) → Test
 allNodesTest words nodes = test 6 nodes (ltb (words / ROW) nodes)
 
 -- 7, after elements: a list of so many numbers has fewer whole rows than there are source tries; the detail is the rows needed
-abbrev pub listTest : (places m : ℕ) → Test
-listTest places m = test 7 m (ltb (places / TRIE-ROW) m)
+abbrev pub trieListTest : (numbers m : ℕ) → Test
+trieListTest numbers m = test 7 m (ltb (numbers / TRIE-ROW) m)
 
 -- 1, 2, 3, then 4 and 5 rule by rule, 6
 unfoldable pub ruleScratchTests : (W k : ℕ) (rs : Rules) (words m : ℕ) (from : ℕ → ℕ) → List Test
@@ -52,9 +52,9 @@ ruleScratchTests W k rs words m from =
     widthTest W ∷ levelsTest k ∷ (ruleListTests W rs ++ (allNodesTest words (sumFirst (λ g. size (ruleTrie W rs m from g)) (suc m)) ∷ []))
 
 -- and 7 for elements, then for the list; `least` is the least cost of each trie
-unfoldable pub ruleBuildTests : (W k : ℕ) (rs : Rules) (words room places m : ℕ) (from least : ℕ → ℕ) → List Test
-ruleBuildTests W k rs words room places m from least =
-    ruleScratchTests W k rs words m from ++ (roomTest (sumFirst least (suc m)) room ∷ listTest places m ∷ [])
+unfoldable pub ruleBuildTests : (W k : ℕ) (rs : Rules) (words room numbers m : ℕ) (from least : ℕ → ℕ) → List Test
+ruleBuildTests W k rs words room numbers m from least =
+    ruleScratchTests W k rs words m from ++ (roomTest (sumFirst least (suc m)) room ∷ trieListTest numbers m ∷ [])
 
 -- ---- the answer
 
@@ -82,7 +82,7 @@ pub record RulesKept (rows : Lists) (list : List ℕ) (out : Outcome) (rec : Rul
   pub lens : length (rows′ .len) ≡ length (rows .len)
   pub links : length (rows′ .link) ≡ length (rows .link)
   pub strides : length (rows′ .stride) ≡ length (rows .stride)
-  pub places : length list′ ≡ length list
+  pub long : length list′ ≡ length list
   pub later : out ≡ Accepted → (i : ℕ) → rec .elements ≤ i → rowAt rows′ i ≡ rowAt rows i
   pub refused : (out ≡ Accepted → ⊥) → NoRuleRecord rec × (rows′ ≡ rows) × (list′ ≡ list)
 

@@ -19,7 +19,7 @@ use Rattle.tries.specs.Build.{roomTest}
 use Rattle.tries.specs.Limits.{ELEMENTS}
 use Rattle.verdicts.specs.Limits.{TRIE-ROW}
 use Rattle.verdicts.specs.declared.record.RuleRecord.{RuleRecord}
-use Rattle.rules.specs.Build.{allNodesTest, listTest, RulesKept}
+use Rattle.rules.specs.Build.{allNodesTest, trieListTest, RulesKept}
 use Rattle.rules.specs.Splitting.{SplitRules, splitTrie, splitNodes, splitCosts, CanSplit, Roomy}
 use Rattle.rules.specs.Laying.{placeOf, SourceStands}
 
@@ -30,7 +30,7 @@ pub record SplitLaid (kind : Kind) (W k : ℕ) (s : SplitRules) (list : List ℕ
   pub sources : (g : ℕ) → g < length (s .vals) → SourceStands kind W k s (rec .dest .elements) rows′ list′ g
   pub all : rec .elements ≡ placeOf kind W k s (rec .dest .elements) (length (s .vals))
   pub rest : (i : ℕ) → length (s .vals) * TRIE-ROW ≤ i → at list′ i ≡ at list i
-  pub places : length (s .vals) * TRIE-ROW ≤ length list′
+  pub long : length (s .vals) * TRIE-ROW ≤ length list′
 
 pub record SplitWritten (kind : Kind) (W k : ℕ) (s : SplitRules) (rows : Lists) (list : List ℕ) (out : Outcome) (rec : RuleRecord) (rows′ : Lists)
     (list′ : List ℕ) : Type 0 where
@@ -43,19 +43,19 @@ pub record CanLayAll (kind : Kind) (W k : ℕ) (s : SplitRules) (words : ℕ) (r
   pub roomy : Roomy W s words
   pub fits : splitCosts kind W k s ≤ shortest rows
   pub few : splitCosts kind W k s ≤ ELEMENTS
-  pub places : length (s .vals) * TRIE-ROW ≤ length list
+  pub long : length (s .vals) * TRIE-ROW ≤ length list
 
 -- past test 6: 7 for elements, then for the list
 pub record TriesBuilt (kind : Kind) (W k : ℕ) (s : SplitRules) (rows : Lists) (list : List ℕ) (out : Outcome) (rec : RuleRecord) (rows′ : Lists)
     (list′ : List ℕ)
     : Type 0 where
-  pub tests : out ≡ outcome (roomTest (splitCosts kind W k s) (shortest rows) ∷ listTest (length list) (length (s .vals)) ∷ [])
+  pub tests : out ≡ outcome (roomTest (splitCosts kind W k s) (shortest rows) ∷ trieListTest (length list) (length (s .vals)) ∷ [])
   pub written : SplitWritten kind W k s rows list out rec rows′ list′
 
 -- past test 5: 6 too, after which scratch is zeroed
 pub record SplitBuilt (kind : Kind) (W k : ℕ) (s : SplitRules) (scratch : List ℕ) (rows : Lists) (list : List ℕ) (out : Outcome) (rec : RuleRecord)
     (scratch′ : List ℕ) (rows′ : Lists) (list′ : List ℕ) : Type 0 where
   pub tests : out ≡ outcome
-      (allNodesTest (length scratch) (splitNodes W s) ∷ roomTest (splitCosts kind W k s) (shortest rows) ∷ listTest (length list) (length (s .vals)) ∷ [])
+      (allNodesTest (length scratch) (splitNodes W s) ∷ roomTest (splitCosts kind W k s) (shortest rows) ∷ trieListTest (length list) (length (s .vals)) ∷ [])
   pub after : scratch′ ≡ ifAccepted (outcome (allNodesTest (length scratch) (splitNodes W s) ∷ [])) (replicate (length scratch) 0) scratch
   pub written : SplitWritten kind W k s rows list out rec rows′ list′

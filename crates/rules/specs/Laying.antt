@@ -17,8 +17,7 @@ use Rattle.walk.specs.declared.record.Record.{Record}
 use Rattle.layout.specs.Laid.{tableTrie, Laid}
 use Rattle.tries.specs.Limits.{ELEMENTS}
 use Rattle.choosers.specs.Scratch.{ROW}
-use Rattle.fields.specs.Runs.{sumFirst}
-use Rattle.fields.proofs.Nearest.{lastBefore}
+use Rattle.fields.specs.Runs.{sumFirst, lastBefore}
 use Rattle.verdicts.specs.Limits.{TRIE-ROW}
 use Rattle.verdicts.specs.Tries.{TrieRow, trieRow, sourceRecord, fromPlace}
 use Rattle.rules.specs.Splitting.{SplitRules, splitTable, splitTrie, CanPlan, CanSplit, Roomy}
@@ -90,7 +89,7 @@ module _ (kind : Kind) (W k : ℕ) (s : SplitRules) where
     pub roomy : Roomy W s words
     pub fits : placeOf start (length (s .vals)) ≤ shortest rows
     pub few : placeOf start (length (s .vals)) ≤ ELEMENTS
-    pub places : length (s .vals) * TRIE-ROW ≤ length list
+    pub long : length (s .vals) * TRIE-ROW ≤ length list
 
   -- the first g are laid, and the next one begins at `place`
   pub record LaidTo (start : ℕ) (rows₀ : Lists) (list₀ : List ℕ) (g place : ℕ) (rows : Lists) (list : List ℕ) : Type 0 where

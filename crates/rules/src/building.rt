@@ -8,7 +8,7 @@ ghost use Rattle.walk.specs.Rows.{lists, shortest};
 ghost use Rattle.tries.specs.Build.{roomTest};
 ghost use Rattle.choosers.specs.Kinds.{kindOf};
 ghost use Rattle.fields.specs.Rules.{rules};
-ghost use Rattle.rules.specs.Build.{listTest, NoRuleRecord, RulesAre, RuleBuilds};
+ghost use Rattle.rules.specs.Build.{trieListTest, NoRuleRecord, RulesAre, RuleBuilds};
 ghost use Rattle.rules.specs.Splitting.{splitRules, CanSplit, Roomy};
 ghost use Rattle.rules.specs.Building.{CanLayAll, SplitWritten, TriesBuilt, SplitBuilt};
 use crate::counting::all_costs;
@@ -71,7 +71,7 @@ fn room_outcome(
     ensures { λ r. ⌜
         r ≡ outcome
         (roomTest cost (shortest (lists (now (rowhops .entry)) (now (rowlens .entry)) (now (rowlinks .entry)) (now (rowstrides .entry))))
-        ∷ listTest (length (now (list .entry))) (length (now (vals .entry))) ∷ []) ⌝ }
+        ∷ trieListTest (length (now (list .entry))) (length (now (vals .entry))) ∷ []) ⌝ }
 {
     if is_crowded(
         cost,

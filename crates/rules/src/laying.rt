@@ -16,8 +16,8 @@ use crate::counting::nodes_of;
 use crate::linking::nearest;
 use choosers::Kind;
 use choosers::ROW;
-use verdicts::COUNT;
 use verdicts::NEXT;
+use verdicts::OWN_ELEMENTS;
 use verdicts::PLACE;
 use verdicts::ROOT;
 use verdicts::TRIE_ROW;
@@ -74,7 +74,7 @@ fn put_row(list: &mut [u32], g: usize, rec: Record, place: usize, next: usize)
     list[row] = rec.floor as u32;
     list[row + ROOT] = rec.strides[0] as u32;
     list[row + PLACE] = place as u32;
-    list[row + COUNT] = rec.elements;
+    list[row + OWN_ELEMENTS] = rec.elements;
     list[row + NEXT] = next as u32;
 }
 

@@ -1,5 +1,5 @@
-// Rules of two fields (02, [6]) turned into tries: the distinct destinations with the places where their rules begin, and for each the
-// next shorter destination that is a start of it.
+// The build of rules of two fields (02, [6]): the distinct destinations make one trie, whose hops are the numbers of source tries; each
+// source trie is an ordinary build in the lists from its place on, with a row in the list of tries. The one call takes any lists.
 
 mod building;
 mod counting;

@@ -6,7 +6,7 @@ ghost use Rattle.table.specs.Limits.{widthLimit};
 ghost use Rattle.table.specs.Prefix.{startsWith};
 ghost use Rattle.table.specs.Table.{at};
 ghost use Rattle.table.specs.Longest.{matches};
-ghost use Rattle.fields.proofs.Nearest.{lastBefore};
+ghost use Rattle.fields.specs.Runs.{lastBefore};
 ghost use Rattle.rules.specs.Gathering.{Short};
 
 // Whether the prefix (p, b) begins v.

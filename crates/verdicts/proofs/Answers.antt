@@ -13,9 +13,13 @@ use Rattle.walk.specs.Answers.{answer}
 use Rattle.walk.specs.declared.walk.Answer.the-variants.{Match}
 use Rattle.walk.specs.declared.walk.Answer as found
 use Rattle.verdicts.specs.Classify.{onward}
-use Rattle.verdicts.specs.Verdicts.{verdictNumber, actionOf, verdictReads, VerdictCase, verdict}
+use Rattle.verdicts.specs.Verdicts.{verdictNumber, actionOf, verdictReads, VerdictCase}
 use Rattle.verdicts.specs.declared.visiting.Verdict.{Verdict}
 use Rattle.verdicts.specs.declared.visiting.Verdict.the-variants.{Act, Discard, NoRule, Refused}
+
+-- the verdict of an action: 0 is no rule, `discardHop` a discard, every other is to act
+unfoldable pub verdict : (action reads : ℕ) → Verdict
+verdict action reads = cond (eqb action 0) (NoRule reads) (cond (eqb action discardHop) (Discard reads) (Act action reads))
 
 verdict-parts : (a r : ℕ) → let v = verdict a r in (verdictNumber v ≡ 0) × (actionOf v ≡ a) × (verdictReads v ≡ r) × VerdictCase v
 unfolding verdict

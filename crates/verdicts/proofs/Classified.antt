@@ -21,14 +21,13 @@ use Rattle.walk.proofs.Tests.{outside-cases, within-not}
 use Rattle.walk.proofs.Looked.{looked, damage-refused}
 use Rattle.walk.proofs.Unique.{on-path-unique}
 use Rattle.verdicts.specs.Limits.{VISITS}
-use Rattle.verdicts.specs.Verdicts.{verdict}
 use Rattle.verdicts.specs.Classify.{throughTries, earlyRefusal, fromDest, classifyOf}
 use Rattle.verdicts.specs.Meaning.{VisitsTries, calledFirst, RuleDamage, short-lists, past-all, breaks-dest, breaks-source, TriesWay, RuleTested, Classified}
 use Rattle.verdicts.specs.Visiting.{CanVisit}
 use Rattle.verdicts.specs.declared.record.RuleRecord.{RuleRecord}
 use Rattle.verdicts.specs.declared.visiting.Verdict.{Verdict}
 use Rattle.verdicts.specs.declared.visiting.Verdict.the-variants.{Refused}
-use Rattle.verdicts.proofs.Answers.{verdict-number, verdict-action, verdict-reads, verdict-case}
+use Rattle.verdicts.proofs.Answers.{verdict, verdict-number, verdict-action, verdict-reads, verdict-case}
 use Rattle.verdicts.proofs.Visits.{VisitsSay, through-says, joined-length}
 use Rattle.verdicts.proofs.Unique.{visits-unique}
 

@@ -1,9 +1,10 @@
 -- One classification, one verdict: two verdicts that the promise's meaning allows are equal. From the meaning alone; nothing here knows
 -- how a verdict is computed.
-use Prim.Native.Nat.{ℕ, _+_}
+use Prim.Native.Nat.{ℕ, _+_, _<_}
 use mathlib.Core.Path.{_≡_, refl, sym, ap, ap₂, subst, _∙_}
 use mathlib.Core.Bool.{Bool, true}
 use mathlib.Core.List.{List, _∷_, _++_}
+use mathlib.Core.Logic.{_↔_}
 use native.Mathlib.Omega.{arith}
 use native.Mathlib.Decide.{decLe}
 use lib.ListN.{length}
@@ -72,6 +73,16 @@ module _ {rec : RuleRecord} {ls : Lists} {list : List ℕ} {dest source : ℕ} w
           let q = refusal-bare w (omega arith) in
           (p .0 ∙ sym (q .0), p .1 ∙ sym (q .1))
     ]
+
+    -- the number is exactly that of the first test that fails: 9 exactly for `RuleDamage` where width, levels and addresses pass
+    pub classify-first : {v : Verdict} → Classified rec ls list dest source most v → (n : ℕ)
+        → (verdictNumber v ≡ n) ↔ RuleTested rec ls list dest source most n
+    classify-first {v} c n =
+        (λ (e : verdictNumber v ≡ n). subst (RuleTested rec ls list dest source most) e (c .tested), λ t. rule-tested-unique (c .tested) t)
+
+    -- a refused classification has no action and 0 reads
+    pub classify-refused : {v : Verdict} → Classified rec ls list dest source most v → 0 < verdictNumber v → (actionOf v ≡ 0) × (verdictReads v ≡ 0)
+    classify-refused {v} c h = refusal-bare v h
 
     -- one verdict is allowed
     pub classified-unique : {v w : Verdict} → Classified rec ls list dest source most v → Classified rec ls list dest source most w → v ≡ w

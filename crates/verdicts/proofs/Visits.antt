@@ -20,14 +20,13 @@ use Rattle.walk.proofs.Tests.{within-not}
 use Rattle.walk.proofs.Looked.{looked, tested-refused, damage-refused}
 use Rattle.verdicts.specs.Limits.{TRIE-ROW}
 use Rattle.verdicts.specs.Tries.{trieRow, sourceRecord, fromPlace, atPlace}
-use Rattle.verdicts.specs.Verdicts.{verdict}
 use Rattle.verdicts.specs.Classify.{visitable, onward, sourceLookup, sourceOf, throughTries}
 use Rattle.verdicts.specs.Meaning.{BadTrie, past-list, past-rows, breaks-rule, SourcePath, actionOn, VisitsTries, no-more, too-many, broken-off, matched-in, goes-on}
 use Rattle.verdicts.specs.Visiting.{CanVisit}
 use Rattle.verdicts.specs.declared.record.RuleRecord.{RuleRecord}
 use Rattle.verdicts.specs.declared.visiting.Verdict.{Verdict}
 use Rattle.verdicts.specs.declared.visiting.Verdict.the-variants.{NoRule, Refused}
-use Rattle.verdicts.proofs.Answers.{onward-none, onward-some}
+use Rattle.verdicts.proofs.Answers.{verdict, onward-none, onward-some}
 use Rattle.verdicts.proofs.Sources.{visitable-is}
 
 pub placed-length : (p : ℕ) (rs : List ℕ) → length (atPlace p rs) ≡ length rs

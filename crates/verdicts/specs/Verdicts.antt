@@ -2,8 +2,6 @@
 -- the hop rules of [4]": a discard is an answer of its own.
 use Prim.Native.Nat.{ℕ, _<_}
 use mathlib.Core.Path.{_≡_}
-use mathlib.Core.Bool.{cond}
-use lib.Dec.{eqb}
 use Rattle.table.specs.Limits.{discardHop}
 use Rattle.verdicts.specs.declared.visiting.Verdict.{Verdict}
 use Rattle.verdicts.specs.declared.visiting.Verdict.the-variants.{Act, Discard, NoRule, Refused}
@@ -34,7 +32,3 @@ VerdictCase (Act action reads) = (0 < action) × (action ≡ discardHop → ⊥)
 VerdictCase (Discard reads) = Unit {0}
 VerdictCase (NoRule reads) = Unit {0}
 VerdictCase (Refused number) = 0 < number
-
--- action 0 is no rule, `discardHop` a discard, every other is to act
-unfoldable pub verdict : (action reads : ℕ) → Verdict
-verdict action reads = cond (eqb action 0) (NoRule reads) (cond (eqb action discardHop) (Discard reads) (Act action reads))

@@ -6,11 +6,10 @@ mod record;
 mod visiting;
 
 pub use classifying::classify;
-pub use limits::COUNT;
 pub use limits::NEXT;
+pub use limits::OWN_ELEMENTS;
 pub use limits::PLACE;
 pub use limits::ROOT;
 pub use limits::TRIE_ROW;
-pub use limits::VISITS;
 pub use record::RuleRecord;
 pub use visiting::Verdict;

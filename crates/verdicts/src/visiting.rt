@@ -8,10 +8,10 @@ ghost use Rattle.verdicts.specs.Limits.{VISITS};
 ghost use Rattle.verdicts.specs.Classify.{visitable, onward, sourceLookup, sourceOf, throughTries};
 ghost use Rattle.verdicts.specs.Visiting.{CanVisit, Visitable};
 ghost use Rattle.verdicts.specs.declared.visiting.Verdict.the-variants.{NoRule};
-use crate::limits::COUNT;
 use crate::limits::FLOORS;
 use crate::limits::LARGEST_BYTE;
 use crate::limits::NEXT;
+use crate::limits::OWN_ELEMENTS;
 use crate::limits::PLACE;
 use crate::limits::ROOT;
 use crate::limits::TRIE_ROW;
@@ -35,7 +35,7 @@ fn is_visitable(elements: u32, list: &[u32], g: usize) -> bool
         return false;
     }
     let row = g * TRIE_ROW;
-    list[row + PLACE] as u64 + list[row + COUNT] as u64 <= elements as u64
+    list[row + PLACE] as u64 + list[row + OWN_ELEMENTS] as u64 <= elements as u64
 }
 
 // The lookup in a trie that can be visited. A root stride that no record can hold exceeds the bits left: 9.
@@ -67,7 +67,7 @@ fn look_up(
     let rec = Record {
         width: width,
         levels: levels,
-        elements: list[row + COUNT],
+        elements: list[row + OWN_ELEMENTS],
         floor: (list[row] % FLOORS) as u16,
         strides: first,
     };

@@ -1,6 +1,6 @@
 use Rattle.tries.specs.Build.{roomTest}
 use Rattle.walk.specs.Rows.{lists, shortest}
-use Rattle.rules.specs.Build.{listTest}
+use Rattle.rules.specs.Build.{trieListTest}
 use Rattle.table.specs.Refusals.{outcome}
 use mathlib.Core.Path.{sym, _∙_}
 use mathlib.Core.List.{[], _∷_}
@@ -33,8 +33,8 @@ unfolding outcome
 returns-3 c =
     let a = c .before .before .before .before .before .before .before .before .before .args in
     sym (outcome-passes (roomTest (a .cost) (shortest (lists (a .rowhops .now) (a .rowlens .now) (a .rowlinks .now) (a .rowstrides .now))))
-    (listTest (length (a .list .now)) (length (a .vals .now)) ∷ []) (sym (c .before .before .is-crowded .ensures) ∙ c .before .if1 .left)
-    ∙ outcome-passes (listTest (length (a .list .now)) (length (a .vals .now))) [] (le-ltb _ _ (c .if2 .left)))
+    (trieListTest (length (a .list .now)) (length (a .vals .now)) ∷ []) (sym (c .before .before .is-crowded .ensures) ∙ c .before .if1 .left)
+    ∙ outcome-passes (trieListTest (length (a .list .now)) (length (a .vals .now))) [] (le-ltb _ _ (c .if2 .left)))
 
 pub room-outcome-spec : {M : Type 1} → statement M
 room-outcome-spec = tie.close (tie.spec is-crowded-requires returns returns-2 returns-3)

@@ -11,12 +11,12 @@ use Rattle.rules.proofs.grouping.gather.Statement.{statement}
 use Rattle.rules.proofs.grouping.gather.Tie as tie
 
 abbrev Inv-loop : tie.InvT-loop
-Inv-loop vals lens first₀ dvals₀ dlens₀ nums₀ n m₀ i₀ first dvals dlens nums m i =
-    (i ≤ n) × Gathered vals lens i m first dvals dlens nums × (length first ≡ length first₀) × (length dvals ≡ length dvals₀) × (length dlens ≡ length dlens₀)
+Inv-loop dvals dlens first₀ vals₀ lens₀ nums₀ n m₀ i₀ first vals lens nums m i =
+    (i ≤ n) × Gathered dvals dlens i m first vals lens nums × (length first ≡ length first₀) × (length vals ≡ length vals₀) × (length lens ≡ length lens₀)
     × (length nums ≡ length nums₀)
 
 abbrev μ-loop : tie.MeasureT-loop
-μ-loop vals lens first₀ dvals₀ dlens₀ nums₀ n m₀ i₀ first dvals dlens nums m i = n - i
+μ-loop dvals dlens first₀ vals₀ lens₀ nums₀ n m₀ i₀ first vals lens nums m i = n - i
 
 slice-write-first : tie.Need-slice-write-first Inv-loop μ-loop
 slice-write-first c = omega (arith, c .before .before .before .before .before .before .pre .0)
@@ -94,7 +94,7 @@ same-length-4 c = search needs
 returns : tie.Need-returns Inv-loop μ-loop
 returns c =
     let l = c .before .loop in
-    let e : l .i ≡ length (c .before .before .before .before .before .before .before .before .args .vals .now) = omega (arith, l .inv .0, c .loop-test .left) in
+    let e : l .i ≡ length (c .before .before .before .before .before .before .before .before .args .dvals .now) = omega (arith, l .inv .0, c .loop-test .left) in
     rw e at (l .inv .1)
 
 pub gather-spec : {M : Type 1} → statement M

@@ -7,23 +7,23 @@ use Rattle.rules.proofs.grouping.taken.Tie as tie
 is-new-requires : tie.Need-is-new-requires
 is-new-requires c κs = search needs
 
-mul-dvals : tie.Need-mul-dvals
-mul-dvals c = search needs
+mul-vals : tie.Need-mul-vals
+mul-vals c = search needs
 
-shared-slice-read-dvals : tie.Need-shared-slice-read-dvals
-shared-slice-read-dvals c = search needs
+shared-slice-read-vals : tie.Need-shared-slice-read-vals
+shared-slice-read-vals c = search needs
 
-mul-dvals-2 : tie.Need-mul-dvals-2
-mul-dvals-2 c = search needs
+mul-vals-2 : tie.Need-mul-vals-2
+mul-vals-2 c = search needs
 
-slice-write-dvals : tie.Need-slice-write-dvals
-slice-write-dvals c = search needs
+slice-write-vals : tie.Need-slice-write-vals
+slice-write-vals c = search needs
 
-shared-slice-read-dlens : tie.Need-shared-slice-read-dlens
-shared-slice-read-dlens c = search needs
+shared-slice-read-lens : tie.Need-shared-slice-read-lens
+shared-slice-read-lens c = search needs
 
-slice-write-dlens : tie.Need-slice-write-dlens
-slice-write-dlens c = search needs
+slice-write-lens : tie.Need-slice-write-lens
+slice-write-lens c = search needs
 
 add-nums : tie.Need-add-nums
 add-nums c = search needs
@@ -62,12 +62,12 @@ taken-spec =
     tie.close
     (tie.spec
     is-new-requires
-    mul-dvals
-    shared-slice-read-dvals
-    mul-dvals-2
-    slice-write-dvals
-    shared-slice-read-dlens
-    slice-write-dlens
+    mul-vals
+    shared-slice-read-vals
+    mul-vals-2
+    slice-write-vals
+    shared-slice-read-lens
+    slice-write-lens
     add-nums
     cast-nums
     mul-nums

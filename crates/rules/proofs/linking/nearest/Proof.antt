@@ -5,7 +5,8 @@ use native.Mathlib.Omega.{arith}
 use borrow.Author.Needs.{needs}
 use Rattle.table.specs.Table.{at}
 use Rattle.table.specs.Longest.{matches}
-use Rattle.fields.proofs.Nearest.{lastBefore, last-here, last-on, last-zero}
+use Rattle.fields.specs.Runs.{lastBefore}
+use Rattle.fields.proofs.Nearest.{last-here, last-on, last-zero}
 use Rattle.rules.proofs.linking.nearest.Statement.{statement}
 use Rattle.rules.proofs.linking.nearest.Tie as tie
 
