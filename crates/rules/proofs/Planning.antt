@@ -8,7 +8,7 @@ use native.Mathlib.Nat.{le-refl, le-trans, sub-le, suc-mul, mul-le-mul}
 use native.Mathlib.Omega.{arith}
 use lib.ListN.{length}
 use lib.Pow.{pow-mono}
-use Rattle.table.specs.Limits.{outside}
+use Rattle.table.specs.Limits.{outside, entryLimit, widthLimit}
 use Rattle.table.specs.Refusals.{outcome}
 use Rattle.table.specs.Table.{at, checkOf}
 use Rattle.table.specs.declared.entry.Outcome.{Outcome}
@@ -86,7 +86,7 @@ module _ {W k : ℕ} {vs ls hs : List ℕ} (can : CanPlan W k vs ls hs) where
   few-nodes zero h = omega arith
   few-nodes (suc i) h = omega (arith, few-nodes i (omega arith), few-new i (omega arith), suc-mul i W)
 
-  pub size-few : size (tableTrie W vs ls hs) ≤ 2097152
+  pub size-few : size (tableTrie W vs ls hs) ≤ entryLimit * widthLimit
   size-few =
       let w = mul-le-mul (can .table .few) (can .table .width) in omega (arith, count-is, few-nodes (length vs) (le-refl (length vs)), w)
 

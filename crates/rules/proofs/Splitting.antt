@@ -6,6 +6,7 @@ use lib.ListN.{length}
 use Rattle.strides.specs.Trie.{size}
 use Rattle.strides.specs.Cheapest.{Kind}
 use Rattle.strides.specs.Recurrence.{plain, leastBy}
+use Rattle.table.specs.Limits.{entryLimit, widthLimit}
 use Rattle.choosers.specs.Limits.{COST-CAP}
 use Rattle.choosers.specs.Scratch.{ROW}
 use Rattle.fields.specs.Runs.{sumFirst}
@@ -34,10 +35,10 @@ module _ {W k : ℕ} {s : SplitRules} (can : CanSplit W k s) where
   part-roomy r g h = rw (part-is g) (r (suc g) h)
 
   -- the sums stay far below what a word holds
-  pub nodes-fit : (n : ℕ) → n ≤ suc (length (s .vals)) → sumFirst (λ g. size (splitTrie W s g)) n ≤ n * 2097152
-  nodes-fit n h = sum-few (λ g. size (splitTrie W s g)) n 2097152 (λ g l. size-few (can .plans g (omega arith)))
+  pub nodes-fit : (n : ℕ) → n ≤ suc (length (s .vals)) → sumFirst (λ g. size (splitTrie W s g)) n ≤ n * (entryLimit * widthLimit)
+  nodes-fit n h = sum-few (λ g. size (splitTrie W s g)) n (entryLimit * widthLimit) (λ g l. size-few (can .plans g (omega arith)))
 
-  pub part-size : (g : ℕ) → g < length (s .vals) → size (partTrie W (s .first) (s .svals) (s .slens) (s .actions) g) ≤ 2097152
+  pub part-size : (g : ℕ) → g < length (s .vals) → size (partTrie W (s .first) (s .svals) (s .slens) (s .actions) g) ≤ entryLimit * widthLimit
   part-size g h = size-few (part-can g h .plan)
 
   pub part-least : (kind : Kind) (g : ℕ) → g < length (s .vals) → leastBy plain kind k (partTrie W (s .first) (s .svals) (s .slens) (s .actions) g) < COST-CAP

@@ -24,7 +24,8 @@ use Rattle.verdicts.specs.Tries.{TrieRow, trieRow, sourceRecord, fromPlace}
 use Rattle.verdicts.proofs.Alone.{row-from, shortest-from}
 use Rattle.tries.specs.Limits.{ELEMENTS}
 use Rattle.rules.specs.Splitting.{SplitRules, splitTable, splitTrie, CanPart}
-use Rattle.rules.specs.Laying.{SameRoom, CanLayAt, LaysSource, nextOf, sourceCost, placeOf, SourceStands, CanLaySources, LaidTo}
+use Rattle.rules.specs.Build.{SameRoom}
+use Rattle.rules.specs.Laying.{CanLayAt, LaysSource, nextOf, sourceCost, placeOf, SourceStands, CanLaySources, LaidTo}
 use Rattle.rules.proofs.Splitting.{part-can}
 use Rattle.rules.proofs.Sums.{sum-mono}
 

@@ -47,10 +47,7 @@ nothing-written : (kind : Kind) (W k : ℕ) (s : SplitRules) (rows : Lists) (lis
 nothing-written kind W k s rows list e z = record {
   laid = λ a. absurd (refused-not-accepted (sym e ∙ a));
   keeps = record {
-    hops = refl;
-    lens = refl;
-    links = refl;
-    strides = refl;
+    room = record { hops = refl; lens = refl; links = refl; strides = refl };
     long = refl;
     later = λ a. absurd (refused-not-accepted (sym e ∙ a));
     refused = λ ne. (z, refl, refl);
@@ -107,10 +104,12 @@ module _ (kind : Kind) (W k : ℕ) (s : SplitRules) {words : ℕ} {rows : Lists}
           long = omega (arith, t .long, can .long);
         };
         keeps = record {
-          hops = t .room .hops ∙ l .room .hops;
-          lens = t .room .lens ∙ l .room .lens;
-          links = t .room .links ∙ l .room .links;
-          strides = t .room .strides ∙ l .room .strides;
+          room = record {
+            hops = t .room .hops ∙ l .room .hops;
+            lens = t .room .lens ∙ l .room .lens;
+            links = t .room .links ∙ l .room .links;
+            strides = t .room .strides ∙ l .room .strides;
+          };
           long = t .long;
           later = λ a i h. t .after i (omega (arith, q)) ∙ l .after i (omega (arith, q, t .reached));
           refused = λ ne. absurd (ne refl);

@@ -287,7 +287,8 @@ module _ (kind : Kind) (W k : ℕ) (rs : Rules) (scratch : List ℕ) (rows : Lis
           let p = c .keeps in
           let q = d .keeps in (
             rule-records-same dest-one (all-one (one .tries) both),
-            same-rows-one (p .hops ∙ sym (q .hops)) (p .lens ∙ sym (q .lens)) (p .links ∙ sym (q .links)) (p .strides ∙ sym (q .strides)) row-at-one,
+            same-rows-one (p .room .hops ∙ sym (q .room .hops)) (p .room .lens ∙ sym (q .room .lens)) (p .room .links ∙ sym (q .room .links))
+            (p .room .strides ∙ sym (q .room .strides)) row-at-one,
             ext-getD 0 list1 list2 (p .long ∙ sym (q .long)) (λ i h. number-at-one i),
           )
 

@@ -69,10 +69,7 @@ module _ (kind : Kind) (W k : ℕ) (rs : Rules) (scratch : List ℕ) (rows : Lis
         named = λ a. absurd (refused-not-accepted (sym e ∙ a));
         rest = λ a. absurd (refused-not-accepted (sym e ∙ a));
         keeps = record {
-          hops = refl;
-          lens = refl;
-          links = refl;
-          strides = refl;
+          room = record { hops = refl; lens = refl; links = refl; strides = refl };
           long = refl;
           later = λ a. absurd (refused-not-accepted (sym e ∙ a));
           refused = λ ne. (z, refl, refl);

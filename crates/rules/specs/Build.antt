@@ -76,12 +76,16 @@ pub record NoRuleRecord (rec : RuleRecord) : Type 0 where
   pub dest : NoRecord (rec .dest)
   pub elements : rec .elements ≡ 0
 
--- what element lists and the list of tries then hold besides: refused, what they held; accepted, later rows are kept
-pub record RulesKept (rows : Lists) (list : List ℕ) (out : Outcome) (rec : RuleRecord) (rows′ : Lists) (list′ : List ℕ) : Type 0 where
+-- the four element lists keep their lengths
+pub record SameRoom (rows rows′ : Lists) : Type 0 where
   pub hops : length (rows′ .hop) ≡ length (rows .hop)
   pub lens : length (rows′ .len) ≡ length (rows .len)
   pub links : length (rows′ .link) ≡ length (rows .link)
   pub strides : length (rows′ .stride) ≡ length (rows .stride)
+
+-- what element lists and the list of tries then hold besides: refused, what they held; accepted, later rows are kept (of the list, `rest`)
+pub record RulesKept (rows : Lists) (list : List ℕ) (out : Outcome) (rec : RuleRecord) (rows′ : Lists) (list′ : List ℕ) : Type 0 where
+  pub room : SameRoom rows rows′
   pub long : length list′ ≡ length list
   pub later : out ≡ Accepted → (i : ℕ) → rec .elements ≤ i → rowAt rows′ i ≡ rowAt rows i
   pub refused : (out ≡ Accepted → ⊥) → NoRuleRecord rec × (rows′ ≡ rows) × (list′ ≡ list)

@@ -20,14 +20,8 @@ use Rattle.choosers.specs.Scratch.{ROW}
 use Rattle.fields.specs.Runs.{sumFirst, lastBefore}
 use Rattle.verdicts.specs.Limits.{TRIE-ROW}
 use Rattle.verdicts.specs.Tries.{TrieRow, trieRow, sourceRecord, fromPlace}
+use Rattle.rules.specs.Build.{SameRoom}
 use Rattle.rules.specs.Splitting.{SplitRules, splitTable, splitTrie, CanPlan, CanSplit, Roomy}
-
--- the four element lists keep their lengths
-pub record SameRoom (rows rows′ : Lists) : Type 0 where
-  pub hops : length (rows′ .hop) ≡ length (rows .hop)
-  pub lens : length (rows′ .len) ≡ length (rows .len)
-  pub links : length (rows′ .link) ≡ length (rows .link)
-  pub strides : length (rows′ .stride) ≡ length (rows .stride)
 
 -- ---- one trie at a place: scratch and the lists have room for it
 pub record CanLayAt (kind : Kind) (W k : ℕ) (vs ls hs : List ℕ) (words place : ℕ) (rows : Lists) : Type 0 where

@@ -43,19 +43,24 @@ pub record CanPlan (W k : ℕ) (vs ls hs : List ℕ) : Type 0 where
   pub table : Table W vs ls hs
   pub levels : Within k LEVELS
 
--- one source table, as the code takes it: it lies in its lists, and passed
+-- one source table, as the code takes it
+abbrev pub partTable : (first svals slens actions : List ℕ) → ℕ → EntryLists
+partTable first svals slens actions g =
+    let i = at first g in
+    let j = at first (g + 1) in
+    entryLists (part i j svals) (part i j slens) (part i j actions)
+
+-- it lies in its lists, and passed
 pub record CanPart (W k : ℕ) (first svals slens actions : List ℕ) (g : ℕ) : Type 0 where
   pub inside : g + 1 < length first
   pub rises : at first g ≤ at first (g + 1)
   pub svalues : at first (g + 1) ≤ length svals
   pub slengths : at first (g + 1) ≤ length slens
   pub acts : at first (g + 1) ≤ length actions
-  pub plan : CanPlan W k (part (at first g) (at first (g + 1)) svals) (part (at first g) (at first (g + 1)) slens) (part (at first g) (at first
-      (g + 1)) actions)
+  pub plan : let t = partTable first svals slens actions g in CanPlan W k (t .vals) (t .lens) (t .hops)
 
 abbrev pub partTrie : (W : ℕ) (first svals slens actions : List ℕ) → ℕ → Trie
-partTrie W first svals slens actions g =
-    tableTrie W (part (at first g) (at first (g + 1)) svals) (part (at first g) (at first (g + 1)) slens) (part (at first g) (at first (g + 1)) actions)
+partTrie W first svals slens actions g = let t = partTable first svals slens actions g in tableTrie W (t .vals) (t .lens) (t .hops)
 
 -- so did all of them, and the parts lie in their lists
 pub record CanSplit (W k : ℕ) (s : SplitRules) : Type 0 where

@@ -123,8 +123,8 @@ pub(crate) fn all_nodes(
 ) -> usize
     requires { ⌜ CanSplit width levels (splitRules (now first) (now vals) (now lens) (now nums) (now svals) (now slens) (now actions)) ⌝ }
     ensures { λ r. ⌜
-        r ≡ splitNodes width (splitRules (now (first .entry)) (now (vals .entry)) (now (lens .entry)) (now (nums .entry)) (now (svals .entry)) (now
-        (slens .entry))
+        r ≡ splitNodes width
+        (splitRules (now (first .entry)) (now (vals .entry)) (now (lens .entry)) (now (nums .entry)) (now (svals .entry)) (now (slens .entry))
         (now (actions .entry))) ⌝ }
 {
     let m = vals.len();

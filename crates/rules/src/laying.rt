@@ -162,8 +162,8 @@ pub(crate) fn lay_sources(
         (splitRules (now (first .entry)) (now (vals .entry)) (now (lens .entry)) (now (nums .entry)) (now (svals .entry)) (now (slens .entry))
         (now (actions .entry)))
         start (lists (now (rowhops .entry)) (now (rowlens .entry)) (now (rowlinks .entry)) (now (rowstrides .entry))) (now (list .entry))
-        (length (now (vals .entry))) r (lists (now (rowhops .exit)) (now (rowlens .exit)) (now (rowlinks .exit)) (now (rowstrides .exit))) (now
-        (list .exit)) ⌝ }
+        (length (now (vals .entry))) r (lists (now (rowhops .exit)) (now (rowlens .exit)) (now (rowlinks .exit)) (now (rowstrides .exit)))
+        (now (list .exit)) ⌝ }
 {
     let m = vals.len();
     let mut place = start;
