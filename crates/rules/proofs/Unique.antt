@@ -288,7 +288,7 @@ module _ (kind : Kind) (W k : ℕ) (rs : Rules) (scratch : List ℕ) (rows : Lis
           let q = d .keeps in (
             rule-records-same dest-one (all-one (one .tries) both),
             same-rows-one (p .room .hops ∙ sym (q .room .hops)) (p .room .lens ∙ sym (q .room .lens)) (p .room .links ∙ sym (q .room .links))
-            (p .room .strides ∙ sym (q .room .strides)) row-at-one,
+                (p .room .strides ∙ sym (q .room .strides)) row-at-one,
             ext-getD 0 list1 list2 (p .long ∙ sym (q .long)) (λ i h. number-at-one i),
           )
 
