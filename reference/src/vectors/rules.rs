@@ -31,7 +31,7 @@ mod refused;
 
 use super::choosers::{name, SCRATCH};
 use super::{marks, outcome, Vectors, PLACES};
-use crate::build::{Elements, SCRATCH_ROW};
+use crate::build::{Elements, Record, SCRATCH_ROW};
 use crate::choices::{choose, Kind};
 use crate::lookup::{self, walk};
 use crate::random::Random;
@@ -215,7 +215,7 @@ fn built(vectors: &mut Vectors, rules: &Rules, kind: Kind, levels: u32, lent: Le
     let zeros = scratch.iter().filter(|x| **x == 0).count();
     let RuleRecord { dest, elements: all } = record;
     let strides: String = dest.strides.iter().map(|s| format!(" {s}")).collect();
-    let given = format!("width {} levels {} elements {} floor {}", dest.width, dest.levels, dest.elements, dest.floor);
+    let given = fields(&dest);
     let (sevens, kept) = (words - zeros, kept(&rows, all));
     vectors.case(
         format!("{} levels {levels} scratch {words} lists {hop} {length} {link} {stride} list {numbers}", name(kind)),
@@ -226,6 +226,11 @@ fn built(vectors: &mut Vectors, rules: &Rules, kind: Kind, levels: u32, lent: Le
         ),
     );
     Left { record, rows, list }
+}
+
+/// The fields of the destinations' record but its strides, as a build prints them and a `record` line gives them.
+fn fields(dest: &Record) -> String {
+    format!("width {} levels {} elements {} floor {}", dest.width, dest.levels, dest.elements, dest.floor)
 }
 
 /// The marks that stand in the element lists past the rows of all tries.
@@ -390,7 +395,7 @@ fn record(vectors: &mut Vectors, left: &mut Left, others: u8, more: usize) {
     let listed: String = lists.iter().chain([&list.len()]).map(|list| format!(" {list}")).collect();
     let given: String = (0..n).map(|i| row(e, i)).collect();
     let numbers: String = (0..list.len() + more).map(|i| format!(" {}", list.get(i).unwrap_or(&77))).collect();
-    let fields = format!("width {} levels {} elements {} floor {}", dest.width, dest.levels, dest.elements, dest.floor);
+    let fields = fields(dest);
     vectors.case(
         format!(
             "record {fields} stride {} others {others} all {elements} lists{listed} rows {n}:{given} list {}:{numbers}",
