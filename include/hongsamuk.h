@@ -45,8 +45,9 @@
  * A bitmap's scratch rows have HONGSAMUK_NODE_ROW numbers each, and it needs one for each node of the binary trie: for every start
  * of an entry, the whole entry and length 0 included. It needs as many hops as the table has entries; with these lent, and no
  * supernode, the detail of 7 is the number of supernodes.
- * A build of rules needs a scratch row (HONGSAMUK_ROW numbers) for each node of all its tries, elements as the detail of 7 says with no
- * element lent, and a row of the list (HONGSAMUK_TRIE_ROW numbers) for each destination: never more than there are rules.
+ * A build of rules needs a scratch row (HONGSAMUK_ROW numbers) for each node of all its tries, elements, and a row of the list
+ * (HONGSAMUK_TRIE_ROW numbers) for each destination. Lend it a row of the list for each rule: then the detail of 7 is the number of
+ * elements needed. (Elements are tested before the list; where none are needed, 7 could only be for the list.)
  *
  * A chooser or a build of elements takes some 50,000 bytes of stack, a build of rules some 60,000, every other call little.
  *
@@ -83,7 +84,7 @@ enum {
     HONGSAMUK_ENTRIES = 65536,     /* the most entries of a table */
     HONGSAMUK_DISCARD = 65535,     /* the hop of a route that discards packets */
     HONGSAMUK_ELEMENTS = 16777216, /* the most elements of a build */
-    HONGSAMUK_ROW = 72,            /* numbers in a scratch row of a chooser or of a build of elements */
+    HONGSAMUK_ROW = 72,            /* numbers in a scratch row of a chooser, or of a build of elements or of rules */
     HONGSAMUK_NODE_ROW = 4,        /* numbers in a scratch row of a build of a bitmap */
     HONGSAMUK_RULES = 1024,        /* the most rules */
     HONGSAMUK_TRIE_ROW = 5,        /* numbers in a row of the list of tries */
@@ -108,7 +109,7 @@ typedef struct hongsamuk_bitmap {
 
 /* The same for rules. */
 typedef struct hongsamuk_rule_record {
-    hongsamuk_record dest;               /* the destination trie's own; its hops are numbers of source tries */
+    hongsamuk_record dest;               /* the destination trie's own; its floor and its rows' hops are numbers of source tries */
     uint32_t elements;                   /* the E of all tries: rows 0 to E - 1 are the build's */
 } hongsamuk_rule_record;
 
@@ -339,10 +340,12 @@ hongsamuk_built_rules hongsamuk_build_rules_variable(
 
 /* Judges a packet by its two addresses: tests 1, 2, 8 (either address), 9. The destination is looked up, then the source in the trie
  * that it calls for and in those next to visit, until one matches. Over a record and lists that one accepted build left together: the
- * action of the rule that wins, a discard's too, or 0 where no rule matches. Over any other: by what is found there, and 9 where the E
- * of all tries is above the shortest element list or below the destinations' own, where a lookup in a trie visited would be refused by
- * 9, its rows run past the E of all tries, its row is not in the list, or a source trie after HONGSAMUK_VISITS is called for. No list
- * changes. */
+ * action of the rule that wins, a discard's too, or 0 where no rule matches. Over any other, damaged ones included, it answers too and
+ * never reads outside the lists: by what is found there, and by 9 where damage is met, that is where the E of all tries is above the
+ * shortest element list or below the destinations' own, where a lookup in a trie visited would be refused by 9, its rows run past the
+ * E of all tries, its row is not in the list, or a source trie after HONGSAMUK_VISITS is called for. The floor of the destination
+ * record and row_hop of the destinations' rows are numbers of source tries, not hops: no number of them discards, and a number past
+ * the list is damage. No list changes. */
 hongsamuk_verdict hongsamuk_classify(
     hongsamuk_rule_record record,
     const uint16_t *row_hop, size_t row_hops,

@@ -316,6 +316,19 @@ pub fn classify(
 
 /// The visits themselves, after tests 1, 2 and 8. `Err` says which clause of 9 was met.
 pub fn visit(record: &RuleRecord, rows: &Elements, list: &[u32], dest: u32, source: u32) -> Result<Visits, Damage> {
+    visit_calling(record, rows, list, dest, source, &mut 0)
+}
+
+/// The same. `called` is left the number of the source trie called for last, as it was where none is: a clause of 9 that is not about
+/// the destinations was met with this one.
+pub fn visit_calling(
+    record: &RuleRecord,
+    rows: &Elements,
+    list: &[u32],
+    dest: u32,
+    source: u32,
+    called: &mut u32,
+) -> Result<Visits, Damage> {
     if record.elements as u64 > rows.shortest() as u64 {
         return Err(Damage::ListsTooShort);
     }
@@ -327,6 +340,7 @@ pub fn visit(record: &RuleRecord, rows: &Elements, list: &[u32], dest: u32, sour
     let mut number = path.hop as u32;
     // A trie that matches ends the visits, a discard too.
     while number > 0 && visits.action == 0 {
+        *called = number;
         if visits.tries.len() == VISITS {
             return Err(Damage::TooManyTries);
         }

@@ -14,6 +14,7 @@ use crate::lookup::Found;
 use crate::random::{cut, Random};
 use crate::table::{Refusal, Table, DISCARD};
 use std::collections::BTreeMap;
+use std::path::Path;
 
 /// Everything that a vector file must hit is hit at least this often.
 const HITS: usize = 10;
@@ -52,7 +53,7 @@ impl Vectors {
         }
     }
 
-    /// Writes `stdin` and `stdout` of a program, if it is there, and tells on standard error what was hit.
+    /// Writes `stdin` and `stdout` of a program, which must be there, and tells on standard error what was hit.
     fn write(&self, top: &str, program: &str, wanted: &[&str]) {
         let folder = format!("{top}/crates/{program}");
         let mut input = format!("cases {}\n", self.cases).into_bytes();
@@ -65,10 +66,7 @@ impl Vectors {
             let times = self.hits.get(*what).copied().unwrap_or(0);
             assert!(times >= HITS, "{program}: {what} is hit only {times} times");
         }
-        if !std::path::Path::new(&folder).is_dir() {
-            eprintln!("  there is no {folder}: nothing written");
-            return;
-        }
+        assert!(Path::new(&folder).is_dir(), "there is no {folder}");
         std::fs::write(format!("{folder}/stdin"), &input).expect("stdin can be written");
         std::fs::write(format!("{folder}/stdout"), &self.output).expect("stdout can be written");
     }

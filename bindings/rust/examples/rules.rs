@@ -3,6 +3,7 @@
 
 use hongsamuk::{build_rules, classify, BuiltRules, Kind, Outcome, Rows, RowsMut, Rules, Verdict};
 use hongsamuk::{SCRATCH_ROW, TRIE_ROW};
+use std::collections::BTreeSet;
 
 const LEVELS: u32 = 2;
 
@@ -41,29 +42,31 @@ impl Lists {
     }
 }
 
-/// What a refusal for room says is needed.
+/// What a refusal for room says is needed; nothing, where the build is accepted as it is.
 fn needed(built: BuiltRules) -> usize {
     match built.outcome {
+        Outcome::Accepted => 0,
         Outcome::Refused { number: number @ 6..=7, detail } => {
             println!("refused by {number}, detail {detail}");
             detail as usize
         }
-        other => panic!("no refusal for room: {other:?}"),
+        other => panic!("neither accepted nor refused for room: {other:?}"),
     }
 }
 
 fn main() {
-    // With no scratch the build says how much it needs, then with no element how many, then with no list how many rows.
-    let mut lists = Lists::default();
+    // There are no more destinations than rules, so the list has a row for each rule. With no scratch the build then says how much it
+    // needs, and with no element how many.
+    let mut lists = Lists { list: vec![0; RULES.action.len() * TRIE_ROW], ..Lists::default() };
     lists.scratch = vec![0; needed(lists.build()) * SCRATCH_ROW];
     let elements = needed(lists.build());
     (lists.hop, lists.length) = (vec![0; elements], vec![0; elements]);
     (lists.link, lists.stride) = (vec![0; elements], vec![0; elements]);
-    lists.list = vec![0; needed(lists.build()) * TRIE_ROW];
     let built = lists.build();
     assert_eq!(built.outcome, Outcome::Accepted);
     println!("elements={} of them for destinations={}", built.record.elements, built.record.dest.elements);
-    for (g, row) in lists.list.chunks_exact(TRIE_ROW).enumerate() {
+    let dests: BTreeSet<_> = RULES.dest_value.iter().zip(RULES.dest_length).collect();
+    for (g, row) in lists.list.chunks_exact(TRIE_ROW).take(dests.len()).enumerate() {
         let [floor, root, place, elements, next] = row else { unreachable!("a row of five") };
         println!("source trie {}: floor={floor} root={root} place={place} elements={elements} next={next}", g + 1);
     }

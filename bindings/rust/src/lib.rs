@@ -11,7 +11,7 @@
 //! | 4 | an entry is no prefix of that width, or has hop 0; a rule has such a destination or source, or action 0 | its index |
 //! | 5 | an entry or rule does not stand above the one before | its index |
 //! | 6 | scratch has too few whole rows for the table's trie, or for all tries of the rules | the rows needed |
-//! | 7 | too little room for elements, or above 16,777,216; of a bitmap too little for supernodes, then for hops; of rules too little for elements, then for the list of tries | those needed, of the list its rows |
+//! | 7 | too little room for elements, or above 16,777,216; of a bitmap for supernodes, then hops; of rules then for the list | those needed, or list rows |
 //! | 8 | the address is not below 2^width, or either of two | 0 |
 //! | 9 | a damaged record, damaged elements, a damaged bitmap or a damaged list of tries | 0 |
 //! | 10 | a prefix that is asked about is malformed | 0 |
@@ -31,7 +31,8 @@ pub const ENTRIES: usize = 65_536;
 pub const DISCARD: u16 = 65_535;
 /// The most elements of a build.
 pub const ELEMENTS: u32 = 16_777_216;
-/// Numbers in a scratch row; a build needs one row for each node of the table's 1-bit trie.
+/// Numbers in a scratch row of a chooser, or of a build of elements or of rules; it needs one row for each node of the table's 1-bit trie,
+/// of rules for each node of all their tries.
 pub const SCRATCH_ROW: usize = 72;
 /// Numbers in a scratch row of a bitmap's build; it needs one row for each node of the table's binary trie: for every start of an
 /// entry, the whole entry and length 0 included.

@@ -50,7 +50,7 @@ impl From<raw::Verdict> for Verdict {
 #[repr(C)]
 #[derive(Clone, Copy, PartialEq, Eq, Debug, Default)]
 pub struct RuleRecord {
-    /// The destination trie's own; its hops are numbers of source tries.
+    /// The destination trie's own; its floor and its rows' hops are numbers of source tries, not hops.
     pub dest: Record,
     /// The E of all tries: rows 0 to E - 1 are the build's.
     pub elements: u32,
@@ -79,7 +79,8 @@ pub struct BuiltRules {
 /// counts the nodes and 7 the elements of all tries, and 7 then the whole rows of the list. A row of the list is floor, root stride,
 /// place and E of a source trie, and the number of the trie to visit after it, 0 for none; trie n is row n - 1. Accepted, all of
 /// scratch is 0, rows 0 to E - 1 and the rows of the list are the build's, and what comes after them is as it was. Refused by 7, all of
-/// scratch is 0 and nothing else changes; refused by 1 to 6, no list changes.
+/// scratch is 0 and nothing else changes; refused by 1 to 6, no list changes. Lend it a row of the list for each rule: then the detail
+/// of 7 is the number of elements needed.
 pub fn build_rules(
     kind: Kind,
     levels: u32,
@@ -126,8 +127,9 @@ pub fn build_rules(
 }
 
 /// Judges a packet by its two addresses: tests 1, 2, 8 (either address), 9. Over a record and lists that one accepted build left
-/// together: to act as the rule that wins says, a discard where that rule discards, or no rule where none matches. Over any other: by
-/// what is found there.
+/// together: to act as the rule that wins says, a discard where that rule discards, or no rule where none matches. Over any other,
+/// damaged ones included, it answers too and never reads outside the lists: by what is found there, and by 9 where damage is met. The
+/// floor of the destination record and the hops of the destinations' rows are numbers of source tries, not hops.
 #[inline]
 pub fn classify(record: &RuleRecord, rows: Rows, list: &[u32], dest: u32, source: u32) -> Verdict {
     // SAFETY: pointers and lengths are those of slices, which the call only reads.

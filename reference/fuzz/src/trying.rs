@@ -15,8 +15,8 @@ use reference::table::{self, Refusal, Table, ENTRIES};
 use reference::trie::Trie;
 
 /// Lists of the small cases: 12 entries at width 32 have at most 384 nodes and 97 supernodes; longer element lists are not needed
-/// at small widths. A table of the most entries is refused for scratch there. The most rules that are tried have 2,047 nodes and
-/// 3,072 elements, and any 12 rules at most 768 nodes.
+/// at small widths. A table of the most entries is refused for scratch there. The most rules that are tried have 2,048 nodes and
+/// 3,074 elements, or 4,096 with one level, which is refused for rows; 33 nested destinations have at most 1,088 nodes, any 12 rules 768.
 pub const SMALL: Most = Most {
     entries: ENTRIES + 8,
     words: 385 * SCRATCH_ROW,

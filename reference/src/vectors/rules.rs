@@ -31,15 +31,20 @@ mod refused;
 
 use super::choosers::{name, SCRATCH};
 use super::{marks, outcome, Vectors, PLACES};
-use crate::build::{Elements, SCRATCH_ROW};
+use crate::build::{Elements, Record, SCRATCH_ROW};
 use crate::choices::{choose, Kind};
+use crate::lookup::{self, walk};
 use crate::random::Random;
-use crate::rules::{build_rules, classify, visit, Damage, Rule, RuleRecord, Rules, Verdict, TRIE_ROW, VISITS};
+use crate::rules::{
+    build_rules, classify, visit, visit_calling, Damage, Rule, RuleRecord, Rules, Verdict, TRIE_ROW, VISITS,
+};
 use crate::table::Refusal;
 use crate::trie::Trie;
 
-/// The program's element lists, and its list of tries, have no more places.
+/// The program's element lists have no more places.
 const ROOM: usize = 20_000;
+/// Its list of tries has no more: as many as a list of supernode rows in `bitmap_cases`, which is more than the 5,120 numbers of
+/// 1,024 source tries.
 const LIST: usize = 8740;
 
 const WANTED: &[&str] = &[
@@ -210,7 +215,7 @@ fn built(vectors: &mut Vectors, rules: &Rules, kind: Kind, levels: u32, lent: Le
     let zeros = scratch.iter().filter(|x| **x == 0).count();
     let RuleRecord { dest, elements: all } = record;
     let strides: String = dest.strides.iter().map(|s| format!(" {s}")).collect();
-    let given = format!("width {} levels {} elements {} floor {}", dest.width, dest.levels, dest.elements, dest.floor);
+    let given = fields(&dest);
     let (sevens, kept) = (words - zeros, kept(&rows, all));
     vectors.case(
         format!("{} levels {levels} scratch {words} lists {hop} {length} {link} {stride} list {numbers}", name(kind)),
@@ -221,6 +226,11 @@ fn built(vectors: &mut Vectors, rules: &Rules, kind: Kind, levels: u32, lent: Le
         ),
     );
     Left { record, rows, list }
+}
+
+/// The fields of the destinations' record but its strides, as a build prints them and a `record` line gives them.
+fn fields(dest: &Record) -> String {
+    format!("width {} levels {} elements {} floor {}", dest.width, dest.levels, dest.elements, dest.floor)
 }
 
 /// The marks that stand in the element lists past the rows of all tries.
@@ -281,22 +291,20 @@ fn count_visits(vectors: &mut Vectors, left: &Left, dest: u32, source: u32, verd
     }
 }
 
-/// Counts numbers that a refusal by 9 was given for, where the whole list tells.
-fn count_damage(vectors: &mut Vectors, left: &Left, damage: Damage) {
+/// Counts the clause that a refusal by 9 was given for, and the numbers of the source trie that it was met with.
+fn count_damage(vectors: &mut Vectors, left: &Left, dest: u32, source: u32) {
+    let Left { record, rows, list } = left;
+    let mut called = 0;
+    let damage = visit_calling(record, rows, list, dest, source, &mut called).expect_err("refused by 9");
     vectors.hit(&format!("damage {damage:?}"));
-    let has = |is: &dyn Fn(&[u32]) -> bool| left.list.chunks_exact(TRIE_ROW).any(is);
+    let field = |place: usize| list[(called as usize - 1) * TRIE_ROW + place];
     match damage {
-        Damage::Source(crate::lookup::Damage::StrideTooLong) if has(&|row| row[1] > 255) => {
-            vectors.hit("root stride above 255")
-        }
-        Damage::SourcePastEnd if has(&|row| row[3] == 0 && row[2] > left.record.elements) => {
-            vectors.hit("trie of E 0 past the end")
-        }
+        Damage::Source(lookup::Damage::StrideTooLong) if field(1) > 255 => vectors.hit("root stride above 255"),
+        Damage::SourcePastEnd if field(3) == 0 => vectors.hit("trie of E 0 past the end"),
         Damage::LinkPastList => {
-            for number in [1024, 65535] {
-                if left.rows.hop.contains(&number) || left.record.dest.floor == number {
-                    vectors.hit(&format!("number {number} of a destination"));
-                }
+            let own = walk(&record.dest, rows, dest).is_ok_and(|path| path.hop as u32 == called);
+            if own && [1024, 65535].contains(&called) {
+                vectors.hit(&format!("number {called} of a destination"));
             }
         }
         _ => (),
@@ -317,8 +325,7 @@ fn count(vectors: &mut Vectors, left: &Left, dest: u32, source: u32) {
         }
         Err(Refusal { number: 9, .. }) => {
             vectors.hit("classify refused 9");
-            let damage = visit(&left.record, &left.rows, &left.list, dest, source).unwrap_err();
-            count_damage(vectors, left, damage);
+            count_damage(vectors, left, dest, source);
         }
         Err(Refusal { number, .. }) => {
             vectors.hit(&format!("classify refused {number}"));
@@ -388,7 +395,7 @@ fn record(vectors: &mut Vectors, left: &mut Left, others: u8, more: usize) {
     let listed: String = lists.iter().chain([&list.len()]).map(|list| format!(" {list}")).collect();
     let given: String = (0..n).map(|i| row(e, i)).collect();
     let numbers: String = (0..list.len() + more).map(|i| format!(" {}", list.get(i).unwrap_or(&77))).collect();
-    let fields = format!("width {} levels {} elements {} floor {}", dest.width, dest.levels, dest.elements, dest.floor);
+    let fields = fields(dest);
     vectors.case(
         format!(
             "record {fields} stride {} others {others} all {elements} lists{listed} rows {n}:{given} list {}:{numbers}",

@@ -162,7 +162,7 @@ fn rule((dest, source, action): ((u32, u8), (u32, u8), u16)) -> Rule {
     (dest.0, dest.1, source.0, source.1, action)
 }
 
-/// Random rules of widths 1 to 4, both kinds, with all pairs of addresses.
+/// Random rules of widths 2 to 4, both kinds, with all pairs of addresses.
 pub fn small(vectors: &mut Vectors, random: &mut Random) {
     for turn in 0..120 {
         let width = [2, 3, 4, 4][turn % 4];

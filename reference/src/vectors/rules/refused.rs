@@ -66,14 +66,8 @@ fn spoil(random: &mut Random, rules: &mut Rules, fault: u64) {
         7 => copy(rules, i - 1, i, true),
         8 => copy(rules, i - 1, i, false),
         9 => exchange(rules, i - 1, i),
-        10 => {
-            rules.dest_value.swap(i - 1, i);
-            rules.dest_length.swap(i - 1, i);
-        }
-        11 => {
-            rules.source_value.swap(i - 1, i);
-            rules.source_length.swap(i - 1, i);
-        }
+        10 => exchange_dests(rules, i - 1, i),
+        11 => exchange_sources(rules, i - 1, i),
         12 => exchange(rules, 0, i),
         // Of two wrong rules the one with the lower index is reported, whatever its fault.
         _ => {
@@ -97,11 +91,19 @@ fn copy(rules: &mut Rules, from: usize, to: usize, both: bool) {
     }
 }
 
-fn exchange(rules: &mut Rules, i: usize, j: usize) {
+fn exchange_dests(rules: &mut Rules, i: usize, j: usize) {
     rules.dest_value.swap(i, j);
     rules.dest_length.swap(i, j);
+}
+
+fn exchange_sources(rules: &mut Rules, i: usize, j: usize) {
     rules.source_value.swap(i, j);
     rules.source_length.swap(i, j);
+}
+
+fn exchange(rules: &mut Rules, i: usize, j: usize) {
+    exchange_dests(rules, i, j);
+    exchange_sources(rules, i, j);
     rules.action.swap(i, j);
 }
 
