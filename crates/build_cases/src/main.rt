@@ -7,24 +7,21 @@
 // `print` prints rows 0 to E-1 of the last record, `look` asks it one address, `sweep` all addresses below a number. A line
 // with another word, or with a list longer than the program's room or than the rows that it gives, is answered `bad line`
 // and changes nothing. A text that fills the page is answered `text too long`.
-mod lists;
-
+use cases::FourLengths;
 use cases::Held;
+use cases::element_rows;
+use cases::four_at;
+use cases::is_past;
+use cases::no_lists;
 use libc::STDIN_FILENO;
-use lists::Lists;
-use lists::is_longer;
-use lists::is_unfit;
-use lists::lists_at;
-use lists::no_lists;
-use lists::read_rows;
-use printing::put;
 use printing::say;
 use printing::say_answer;
-use printing::say_number;
+use printing::say_elements;
+use printing::say_kept_rows;
 use printing::say_outcome;
 use printing::say_scratch;
-use printing::say_strides;
 use printing::say_swept;
+use printing::say_trie_record;
 use tries::Built;
 use tries::Kind;
 use tries::Record;
@@ -33,7 +30,7 @@ use tries::Record;
 struct State {
     held: Held,
     record: Record,
-    lists: Lists,
+    lists: FourLengths,
     at: usize,
 }
 
@@ -49,34 +46,6 @@ enum Word {
     Other,
 }
 
-fn say_record(record: Record) {
-    let strides = record.strides;
-    say(b" width");
-    put(record.width as u64);
-    say(b" levels");
-    put(record.levels as u64);
-    say(b" elements");
-    put(record.elements as u64);
-    say(b" floor");
-    put(record.floor as u64);
-    say_strides(&strides);
-}
-
-// The marks of the rows from a place on, as the build should keep them.
-fn say_kept(
-    from: usize,
-    row_hops: &[u16],
-    row_lengths: &[u8],
-    row_links: &[u32],
-    row_strides: &[u8],
-) {
-    say(b" kept");
-    put(cases::count16(row_hops, from, 9) as u64);
-    put(cases::count8(row_lengths, from, 5) as u64);
-    put(cases::count32(row_links, from, 9) as u64);
-    put(cases::count8(row_strides, from, 9) as u64);
-}
-
 fn say_built(
     built: Built,
     scratch: &[u64],
@@ -88,9 +57,9 @@ fn say_built(
     let outcome = built.outcome;
     let record = built.record;
     say_outcome(outcome);
-    say_record(record);
+    say_trie_record(record);
     say_scratch(scratch);
-    say_kept(
+    say_kept_rows(
         record.elements as usize,
         row_hops,
         row_lengths,
@@ -237,11 +206,11 @@ fn build_line(
     let held = state.held;
     let levels = cases::number(text, at);
     let places = cases::number(text, levels.next);
-    let lists = lists_at(text, places.next);
+    let lists = four_at(text, places.next);
     if scratch.len() < places.value as usize {
         return bad_line(text, state);
     }
-    if is_longer(lists, row_hops.len()) {
+    if is_past(lists, row_hops.len()) {
         return bad_line(text, state);
     }
     let n = cases::least(places.value as usize, scratch.len());
@@ -287,7 +256,7 @@ fn record_at(text: &[u8], at: usize, held: Held) -> State {
         floor: cases::held16(floor.value),
         strides,
     };
-    let lists = lists_at(text, others.next);
+    let lists = four_at(text, others.next);
     State {
         held,
         record,
@@ -319,38 +288,6 @@ fn sweep(
     }
 }
 
-fn say_row(hop: u16, length: u8, link: u32, stride: u8) {
-    put(hop as u64);
-    say(b"/");
-    say_number(length as u64);
-    say(b"/");
-    say_number(link as u64);
-    say(b"/");
-    say_number(stride as u64);
-}
-
-fn print(
-    elements: usize,
-    row_hops: &[u16],
-    row_lengths: &[u8],
-    row_links: &[u32],
-    row_strides: &[u8],
-) {
-    say(b"rows");
-    let shortest = cases::least_of_four(
-        row_hops.len(),
-        row_lengths.len(),
-        row_links.len(),
-        row_strides.len(),
-    );
-    let n = cases::least(elements, shortest);
-    let mut i = 0;
-    while i < n {
-        say_row(row_hops[i], row_lengths[i], row_links[i], row_strides[i]);
-        i += 1;
-    }
-}
-
 // A question about the last record and its lists: `print`, `look` or `sweep`.
 fn ask(
     text: &[u8],
@@ -370,7 +307,7 @@ fn ask(
     let l = cases::front32(row_links, lists.links);
     let s = cases::front8(row_strides, lists.strides);
     if let Word::Print = word {
-        print(record.elements as usize, h, b, l, s);
+        say_elements(record.elements as usize, h, b, l, s);
         next.at = cases::seek(text, at, b'\n', b'\n');
         return next;
     }
@@ -382,6 +319,15 @@ fn ask(
     }
     say_answer(tries::lookup(record, h, b, l, s, cases::held32(number.value)));
     next
+}
+
+// Whether the rows that the text gives next are more than the room, or one of the lists is longer than the rows.
+fn is_unfit(text: &[u8], lists: FourLengths, room: usize) -> bool {
+    let rows = cases::number(text, lists.next).value as usize;
+    if room < rows {
+        return true;
+    }
+    is_past(lists, rows)
 }
 
 // A record and rows of its own.
@@ -398,7 +344,7 @@ fn record_line(
     if is_unfit(text, next.lists, row_hops.len()) {
         return bad_line(text, state);
     }
-    next.at = read_rows(text, next.at, row_hops, row_lengths, row_links, row_strides);
+    next.at = element_rows(text, next.at, row_hops, row_lengths, row_links, row_strides);
     say(b"record");
     next
 }
