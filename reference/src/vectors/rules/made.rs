@@ -46,6 +46,15 @@ pub fn examples(vectors: &mut Vectors) {
             look_held(vectors, &seven, &left, dest, source);
         }
     }
+    five(vectors);
+}
+
+/// Three destinations, one of them a start of the others, with two, two and one sources.
+fn five(vectors: &mut Vectors) {
+    let rising = [(4, 1, 0, 0, 1), (4, 1, 2, 2, 2), (4, 2, 4, 1, 3), (4, 2, 6, 2, DISCARD), (6, 2, 0, 1, 4)];
+    let made = Rules::of(3, &rising);
+    rules(vectors, &made);
+    whole(vectors, &made, Kind::Fixed, 2);
 }
 
 /// No rule, a rule of no bits, one of all bits, one field without bits, and the ends of widths and actions.
