@@ -41,10 +41,6 @@ module _ (next : ℕ → ℕ) (hit : ℕ → Bool) where
   overrun (suc f) zero = false
   overrun (suc f) (suc g) = cond (hit g) false (overrun f (next g))
 
-falls-few : (len : ℕ → ℕ) (c : ℕ) (gs : List ℕ) → Falls len c gs → length gs ≤ c
-falls-few len c [] f = omega arith
-falls-few len c (g ∷ gs) f = omega (arith, f .0, falls-few len (len g) gs (f .1))
-
 -- ---- marks
 
 pub and-both : (a b : Bool) → a ≡ true → b ≡ true → (a && b) ≡ true
@@ -265,9 +261,6 @@ module _ (W : ℕ) (val len hop : ℕ → ℕ) (m a : ℕ) (entry : (i : ℕ) �
             (record { inside = d .0; begun = d .1; less = omega (arith, entry x (d .0) .prefix .short); due = λ j l e s t. d .2 j l e t }),
       )
 
-      -- each shorter than the one before: so they are no more than there are lengths
+      -- each shorter than the one before
       pub chain-falls : Falls len (suc W) (visitedFrom next hit f n)
       chain-falls = visited-falls f (suc W) n all-below
-
-      pub chain-few : length (visitedFrom next hit f n) ≤ suc W
-      chain-few = falls-few len (suc W) (visitedFrom next hit f n) chain-falls

@@ -1,6 +1,6 @@
 -- A trie laid in the parts of the element lists from a place on, by a build that knows nothing of the place: what the lists then hold.
 use mathlib.Core.Path.{_≡_, refl, sym, ap, subst, _∙_}
-use mathlib.Core.List.{List, [], _∷_, _++_}
+use mathlib.Core.List.{List, [], _∷_, _++_, append-nil}
 use Prim.Native.Nat.{ℕ, zero, suc, _+_, _-_, _*_, _≤_, _<_}
 use native.Mathlib.Omega.{arith}
 use native.Mathlib.Nat.{le-trans}
@@ -33,10 +33,6 @@ use Rattle.rules.proofs.Planning.{plan-passes}
 -- what is left of a list from place p on was lent, and ys came back
 abbrev pub backFrom : (p : ℕ) (xs ys : List ℕ) → List ℕ
 backFrom p xs ys = take p xs ++ (ys ++ drop (length xs - p) (drop p xs))
-
-append-nil : (xs : List ℕ) → xs ++ [] ≡ xs
-append-nil [] = refl
-append-nil (x ∷ xs) = ap (λ (l : List ℕ). x ∷ l) (append-nil xs)
 
 back-is : (p : ℕ) (xs ys : List ℕ) → backFrom p xs ys ≡ take p xs ++ ys
 back-is p xs ys =

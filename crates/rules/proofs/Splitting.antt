@@ -1,5 +1,6 @@
 -- The tables of all tries as the build holds them: one of them taken out, and sums that grow by one.
 use mathlib.Core.Path.{_≡_, refl}
+use mathlib.Core.List.{List}
 use Prim.Native.Nat.{ℕ, suc, _+_, _*_, _≤_, _<_}
 use native.Mathlib.Omega.{arith}
 use lib.ListN.{length}
@@ -31,19 +32,23 @@ module _ {W k : ℕ} {s : SplitRules} (can : CanSplit W k s) where
   pub part-is : (g : ℕ) → partTrie W (s .first) (s .svals) (s .slens) (s .actions) g ≡ splitTrie W s (suc g)
   part-is g = rw (add-one g) refl
 
-  pub part-roomy : {words : ℕ} → Roomy W s words → (g : ℕ) → g < length (s .vals) → size (partTrie W (s .first) (s .svals) (s .slens) (s .actions) g) * ROW ≤ words
-  part-roomy r g h = rw (part-is g) (r (suc g) h)
+  -- whichever part is asked for its cost
+  pub part-ready : {words lent : ℕ} → lent ≡ words → Roomy W s words → (g : ℕ) → g < length (s .vals)
+      → CanPart W k (s .first) (s .svals) (s .slens) (s .actions) g × (size (partTrie W (s .first) (s .svals) (s .slens) (s .actions) g) * ROW ≤ lent)
+  part-ready e r g h = (part-can g h, rw (e, part-is g) (r (suc g) h))
 
   -- the sums stay far below what a word holds
   pub nodes-fit : (n : ℕ) → n ≤ suc (length (s .vals)) → sumFirst (λ g. size (splitTrie W s g)) n ≤ n * (entryLimit * widthLimit)
   nodes-fit n h = sum-few (λ g. size (splitTrie W s g)) n (entryLimit * widthLimit) (λ g l. size-few (can .plans g (omega arith)))
 
-  pub part-size : (g : ℕ) → g < length (s .vals) → size (partTrie W (s .first) (s .svals) (s .slens) (s .actions) g) ≤ entryLimit * widthLimit
-  part-size g h = size-few (part-can g h .plan)
-
-  pub part-least : (kind : Kind) (g : ℕ) → g < length (s .vals) → leastBy plain kind k (partTrie W (s .first) (s .svals) (s .slens) (s .actions) g) < COST-CAP
-  part-least kind g h = least-few (part-can g h .plan) kind
-
   pub costs-fit : (kind : Kind) (n : ℕ) → n ≤ suc (length (s .vals)) → sumFirst (λ g. leastBy plain kind k (splitTrie W s g)) n ≤ n * COST-CAP
   costs-fit kind n h =
       sum-few (λ g. leastBy plain kind k (splitTrie W s g)) n COST-CAP (λ g l. omega (arith, least-few (can .plans g (omega arith)) kind))
+
+-- and so does what is added to them, whichever part it is of
+module _ {W k : ℕ} {first svals slens actions : List ℕ} {g : ℕ} (can : CanPart W k first svals slens actions g) where
+  pub part-size : {x : ℕ} → x ≡ size (partTrie W first svals slens actions g) → x ≤ entryLimit * widthLimit
+  part-size e = rw e (size-few (can .plan))
+
+  pub part-least : (kind : Kind) {x : ℕ} → x ≡ leastBy plain kind k (partTrie W first svals slens actions g) → x < COST-CAP
+  part-least kind e = rw e (least-few (can .plan) kind)

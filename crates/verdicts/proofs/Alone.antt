@@ -1,13 +1,14 @@
 -- Demand 3's last sentence over two fields (02, [6]): the reads are the rows on the paths in all tries visited, at most 34 times k, and the
 -- verdict depends on the record, on those rows and on those tries' rows in their list alone; whatever record and lists are given.
-use Prim.Native.Nat.{ℕ, zero, suc, _+_, _-_, _*_, _/_, min, _≤_, _<_}
+use Prim.Native.Nat.{ℕ, _+_, _-_, _*_, _/_, min, _≤_, _<_}
 use mathlib.Core.Path.{_≡_, refl, sym, ap, subst, _∙_}
 use mathlib.Core.Bool.{Bool, true, false, true≢false}
-use mathlib.Core.List.{List, [], _∷_, _++_, List·Memᴰ, List·Memᴰ·head, List·Memᴰ·tail, Memᴰ·append-left, Memᴰ·append-right}
+use mathlib.Core.List.{List, _++_, List·Memᴰ, List·Memᴰ·head, List·Memᴰ·tail, Memᴰ·append-left, Memᴰ·append-right}
 use native.Mathlib.Omega.{arith}
 use native.Mathlib.Nat.{suc-mul, le-trans}
 use native.Mathlib.Decide.{decLe}
-use lib.ListN.{length, getD, drop, length-drop}
+use lib.ListN.{length, length-append, length-drop}
+use lib.Seq.{getD-drop}
 use Rattle.walk.specs.Refusals.{fails, passes}
 use Rattle.walk.specs.Rows.{Lists, shortest, rowAt, root}
 use Rattle.walk.specs.Answers.{HopLength, floorBest, latest}
@@ -23,7 +24,7 @@ use Rattle.verdicts.specs.Meaning.{matched-in, goes-on, calledFirst, Rul
 use Rattle.verdicts.specs.declared.record.RuleRecord.{RuleRecord}
 use Rattle.verdicts.specs.declared.visiting.Verdict.{Verdict}
 use Rattle.verdicts.proofs.Answers.{refusal-bare}
-use Rattle.verdicts.proofs.Visits.{placed-length, joined-length}
+use Rattle.verdicts.proofs.Visits.{placed-length}
 use Rattle.verdicts.proofs.Unique.{visits-unique, tries-way-unique, classified-unique}
 
 -- ---- one trie
@@ -54,13 +55,8 @@ not-rootless {rec} sound z = elim (decLe (rec .elements) 0) [
 
 -- ---- rows from a place on
 
-getD-from : (p : ℕ) (xs : List ℕ) (i : ℕ) → getD (drop p xs) i 0 ≡ getD xs (p + i) 0
-getD-from zero xs i = let e : 0 + i ≡ i = omega arith in rw e refl
-getD-from (suc p) [] i = refl
-getD-from (suc p) (x ∷ xs) i = let e : suc p + i ≡ suc (p + i) = omega arith in rw e (getD-from p xs i)
-
 pub row-from : (p : ℕ) (ls : Lists) (i : ℕ) → rowAt (fromPlace p ls) i ≡ rowAt ls (p + i)
-row-from p ls i = rw (getD-from p (ls .hop) i, getD-from p (ls .len) i, getD-from p (ls .link) i, getD-from p (ls .stride) i) refl
+row-from p ls i = rw (getD-drop p (ls .hop) i 0, getD-drop p (ls .len) i 0, getD-drop p (ls .link) i 0, getD-drop p (ls .stride) i 0) refl
 
 min-from : (p a b : ℕ) → min (a - p) (b - p) ≡ min a b - p
 min-from p a b = omega arith
@@ -95,7 +91,7 @@ visits-few {rec = rec} {list = list} (matched-in {f} {g} {rs} p s) =
 visits-few {rec = rec} {list = list} (goes-on {f} {g} {rs} {ts} {rows} p z v) =
     omega (
       arith,
-      joined-length (atPlace (trieRow list g .place) rs) rows,
+      length-append (atPlace (trieRow list g .place) rs) rows,
       placed-length (trieRow list g .place) rs,
       on-path-few (p .path),
       visits-few v,
@@ -113,7 +109,7 @@ module _ {rec : RuleRecord} {ls : Lists} {list : List ℕ} {dest source most : �
     | yes z ↦
         let t = c .told (omega arith) in
         let w = t .2 in
-        omega (arith, t .3, ap length (w .all-rows), joined-length (w .destRows) (w .sourceRows), on-path-few (w .dest-path), visits-few (w .visits))
+        omega (arith, t .3, ap length (w .all-rows), length-append (w .destRows) (w .sourceRows), on-path-few (w .dest-path), visits-few (w .visits))
     | no z ↦ omega (arith, refusal-bare v (omega arith))
   ]
 

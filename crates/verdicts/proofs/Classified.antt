@@ -7,7 +7,7 @@ use mathlib.Core.Logic.{_⊎_, inl, inr, ⊎-elim}
 use native.Mathlib.Omega.{arith}
 use native.Mathlib.Decide.{decLe}
 use lib.Dec.{eqb, ltb, leb}
-use lib.ListN.{length}
+use lib.ListN.{length, length-append}
 use borrow.Author.Tests.{ltb-true, ltb-false, leb-true, leb-false, ne-eqb}
 use Rattle.table.specs.Limits.{outside}
 use Rattle.walk.specs.Limits.{WIDTH, LEVELS, Outside, Within}
@@ -28,7 +28,7 @@ use Rattle.verdicts.specs.declared.record.RuleRecord.{RuleRecord}
 use Rattle.verdicts.specs.declared.visiting.Verdict.{Verdict}
 use Rattle.verdicts.specs.declared.visiting.Verdict.the-variants.{Refused}
 use Rattle.verdicts.proofs.Answers.{verdict, verdict-number, verdict-action, verdict-reads, verdict-case}
-use Rattle.verdicts.proofs.Visits.{VisitsSay, through-says, joined-length}
+use Rattle.verdicts.proofs.Visits.{VisitsSay, through-says}
 use Rattle.verdicts.proofs.Unique.{visits-unique}
 
 -- no test fails before the first row
@@ -129,7 +129,7 @@ module _ (rec : RuleRecord) (ls : Lists) (list : List ℕ) (dest source : ℕ) w
             = record { destRows = rs; sourceRows = s .rows; dest-path = o; visits = w; all-rows = refl } in
             rw e (record {
               tested = rw (verdict-number (s .action) n) (none (sound-way z way));
-              told = λ y. (s .tries, rs ++ s .rows, rw (verdict-action (s .action) n) way, verdict-reads (s .action) n ∙ omega (arith, r, joined-length rs (s .rows)));
+              told = λ y. (s .tries, rs ++ s .rows, rw (verdict-action (s .action) n) way, verdict-reads (s .action) n ∙ omega (arith, r, length-append rs (s .rows)));
               case = verdict-case (s .action) n;
             })
         go false w e = rw e (refused-classified (nine (breaks-source o w)) (omega arith))

@@ -6,7 +6,7 @@ use mathlib.Core.List.{List, [], _∷_, _++_}
 use native.Mathlib.Omega.{arith}
 use native.Mathlib.Decide.{decLe}
 use native.Mathlib.Nat.{add-zero}
-use lib.ListN.{length}
+use lib.ListN.{length, length-append}
 use borrow.Author.Tests.{lt-ltb, le-leb}
 use Rattle.walk.specs.Limits.{WIDTH}
 use Rattle.walk.specs.Rows.{Lists}
@@ -32,10 +32,6 @@ use Rattle.verdicts.proofs.Sources.{visitable-is}
 pub placed-length : (p : ℕ) (rs : List ℕ) → length (atPlace p rs) ≡ length rs
 placed-length p [] = refl
 placed-length p (r ∷ rs) = ap suc (placed-length p rs)
-
-pub joined-length : (xs ys : List ℕ) → length (xs ++ ys) ≡ length xs + length ys
-joined-length [] ys = omega arith
-joined-length (x ∷ xs) ys = let h = joined-length xs ys in omega arith
 
 module _ (rec : RuleRecord) (ls : Lists) (list : List ℕ) (source : ℕ)
     (can : CanVisit (rec .dest .width) (rec .dest .levels) (rec .elements) ls source) where
@@ -143,7 +139,7 @@ module _ (rec : RuleRecord) (ls : Lists) (list : List ℕ) (source : ℕ)
   ]
     where
       more : (rs rows : List ℕ) → reads + length rs + length rows ≡ reads + length (atPlace (trieRow list g .place) rs ++ rows)
-      more rs rows = omega (arith, joined-length (atPlace (trieRow list g .place) rs) rows, placed-length (trieRow list g .place) rs)
+      more rs rows = omega (arith, length-append (atPlace (trieRow list g .place) rs) rows, placed-length (trieRow list g .place) rs)
 
   pub through-says : (f n reads : ℕ) → VisitsSay f n reads (from f n reads)
   unfolding throughTries verdict

@@ -6,7 +6,7 @@ use Rattle.strides.specs.Recurrence.{plain, leastBy}
 use Rattle.choosers.specs.Kinds.{kindOf}
 use Rattle.fields.specs.Runs.{sumFirst}
 use Rattle.rules.specs.Splitting.{splitRules, splitTrie}
-use Rattle.rules.proofs.Splitting.{part-can, part-is, part-roomy, part-least, costs-fit}
+use Rattle.rules.proofs.Splitting.{part-ready, part-is, part-least, costs-fit}
 use Rattle.rules.proofs.counting.all_costs.Statement.{statement}
 use Rattle.rules.proofs.counting.all_costs.Tie as tie
 use Rattle.rules.proofs.counting.all_costs.Reads as reads
@@ -37,10 +37,8 @@ loop-holds c = (omega arith, refl, sum-first _ (c .before .before .cost-of .ensu
 source-cost-requires : tie.Need-source-cost-requires Inv-loop μ-loop
 source-cost-requires c κs =
     let l = c .before .before .loop in
-    let p = c .before .before .before .before .before .before .before .before .before .before .before .before .before .before .before .pre in (
-      part-can (p .0) (l .g) (c .before .loop-test .taken),
-      omega (arith, part-roomy (p .0) (p .1) (l .g) (c .before .loop-test .taken), l .inv .1, c .before .before .before .before .before .cost-of .kept .1 .1 .1 .1 .1 .1 .0),
-    )
+    let p = c .before .before .before .before .before .before .before .before .before .before .before .before .before .before .before .pre in
+    part-ready (p .0) (l .inv .1 ∙ c .before .before .before .before .before .cost-of .kept .1 .1 .1 .1 .1 .1 .0) (p .1) _ (omega (arith, c .before .loop-test .taken))
 
 -- src/counting.rt:162:9
 add-cost : tie.Need-add-cost Inv-loop μ-loop
@@ -55,9 +53,7 @@ add-cost c =
         arith,
         l .inv .2,
         costs-fit p (kindOf (c18 .args .kind)) (suc (l .g)) (omega (arith, h)),
-        c .before .before .source-cost .ensures,
-        part-least p (kindOf (c18 .args .kind))
-            (l .g) h,
+        part-least (source-cost-requires (c .before .before .before) (c .before .before .source-cost .lifetimes) .0) (kindOf (c18 .args .kind)) (c .before .before .source-cost .ensures),
         p .few,
         h,
       );

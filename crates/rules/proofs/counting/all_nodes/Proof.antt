@@ -32,7 +32,7 @@ loop-holds c = (omega arith, sum-first _ (c .nodes-of .ensures))
 -- src/counting.rt:132:18
 source-nodes-requires : tie.Need-source-nodes-requires Inv-loop μ-loop
 source-nodes-requires c κs =
-    part-can (c .before .before .before .before .before .before .before .before .before .before .pre) (c .before .loop .g) (c .loop-test .taken)
+    part-can (c .before .before .before .before .before .before .before .before .before .before .pre) _ (omega (arith, c .loop-test .taken))
 
 -- src/counting.rt:132:9
 add-nodes : tie.Need-add-nodes Inv-loop μ-loop
@@ -45,9 +45,7 @@ add-nodes c =
         arith,
         l .inv .1,
         nodes-fit p (suc (l .g)) (omega (arith, c .before .loop-test .taken)),
-        c .source-nodes .ensures,
-        part-size p (l .g)
-            (c .before .loop-test .taken),
+        part-size (source-nodes-requires (c .before) (c .source-nodes .lifetimes)) (c .source-nodes .ensures),
         p .few,
         c .before .loop-test .taken,
       );
