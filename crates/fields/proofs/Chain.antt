@@ -13,7 +13,7 @@ use borrow.Author.Tests.{ltb-true, lt-ltb, eqb-true, eq-eqb}
 use Rattle.table.specs.Prefix.{start, startsWith}
 use Rattle.table.specs.Table.{Entry}
 use Rattle.table.specs.Longest.{matches, IsBest, Wins, no-winner, some}
-use Rattle.table.proofs.Bools.{and-true, true-or-false}
+use Rattle.table.proofs.Bools.{and-true, and-both, true-or-false}
 use Rattle.table.proofs.Starts.{start-less}
 use Rattle.table.proofs.Table.{match-one}
 use Rattle.fields.specs.Runs.{startsShorter, Falls}
@@ -42,10 +42,6 @@ module _ (next : ℕ → ℕ) (hit : ℕ → Bool) where
   overrun (suc f) (suc g) = cond (hit g) false (overrun f (next g))
 
 -- ---- marks
-
-pub and-both : (a b : Bool) → a ≡ true → b ≡ true → (a && b) ≡ true
-and-both true b p q = q
-and-both false b p q = p
 
 -- marks that say the same have the same winners
 pub wins-same : (p q : ℕ → Bool) (len : ℕ → ℕ) (n b : ℕ) → ((i : ℕ) → i < n → (p i ≡ true) ↔ (q i ≡ true)) → Wins p len n b → Wins q len n b

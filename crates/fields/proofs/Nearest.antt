@@ -11,13 +11,12 @@ use lib.Dec.{ltb}
 use borrow.Author.Tests.{ltb-true, lt-ltb, eqb-true}
 use Rattle.table.specs.Prefix.{start, startsWith}
 use Rattle.table.specs.Longest.{matches, Wins, no-winner, some}
-use Rattle.table.proofs.Bools.{and-true, true-or-false}
+use Rattle.table.proofs.Bools.{and-true, and-both, true-or-false}
 use Rattle.table.proofs.Starts.{start-less, start-least}
 use Rattle.table.specs.Table.{Entry}
 use Rattle.table.proofs.Table.{sorted, match-one}
 use Rattle.table.proofs.Longest.{wins-unique}
 use Rattle.fields.specs.Runs.{startsShorter, lastBefore}
-use Rattle.fields.proofs.Chain.{and-both}
 
 -- `lastBefore` as a statement
 data Last (P : ℕ → Bool) (g : ℕ) : ℕ → Type 0 where

@@ -13,7 +13,7 @@ use borrow.Author.Tests.{eqb-true}
 use Rattle.table.specs.Prefix.{start, startsWith, IsPrefix}
 use Rattle.table.specs.Table.{at}
 use Rattle.table.specs.Longest.{matches, IsBest, NoMatch}
-use Rattle.table.proofs.Bools.{and-true, true-or-false}
+use Rattle.table.proofs.Bools.{and-true, and-both, true-or-false}
 use Rattle.table.proofs.Prefix.{below-not-same, below-trans}
 use Rattle.table.proofs.Starts.{start-value}
 use Rattle.table.proofs.Table.{match-one}
@@ -22,7 +22,6 @@ use Rattle.fields.specs.Winning.{matchesRule, TopRule, NoRuleMatches}
 use Rattle.fields.specs.Runs.{Runs, EntryLists, trieTable}
 use Rattle.fields.proofs.Runs.{InRun, run-of, from-within}
 use Rattle.fields.proofs.Tables.{dest-lengths, dest-at, dest-table, source-lengths, source-at}
-use Rattle.fields.proofs.Chain.{and-both}
 
 -- ---- where the winner stands
 

@@ -13,8 +13,8 @@ use lib.ListN.{length}
 use borrow.Author.Tests.{ltb-true, ltb-false}
 use Rattle.table.specs.Table.{at, Entry}
 use Rattle.table.specs.Longest.{matches, NoMatch, ofWinner, IsBest, Wins, no-winner, some}
-use Rattle.table.proofs.Bools.{and-true}
-use Rattle.table.proofs.Longest.{longest-zero, longest-winner}
+use Rattle.table.proofs.Bools.{and-true, and-both}
+use Rattle.table.proofs.Longest.{wins-within, longest-zero, longest-winner}
 use Rattle.walk.specs.Limits.{WIDTH}
 use Rattle.walk.specs.Rows.{Lists, shortest}
 use Rattle.walk.specs.Answers.{numberOf, hopOf}
@@ -30,7 +30,7 @@ use Rattle.layout.specs.Blocks.{Strides, rowsAlong}
 use Rattle.layout.proofs.Laid.{accepted, hop-longest, laid-longest, rows-exactly}
 use Rattle.fields.specs.Rules.{Rules, ruleCount, GoodRules}
 use Rattle.fields.specs.Runs.{EntryLists, trieTable, sumFirst, Falls}
-use Rattle.fields.proofs.Chain.{visitedFrom, stopsAt, overrun, and-both, chain-stops, chain-never-over, chain-visits, chain-falls}
+use Rattle.fields.proofs.Chain.{visitedFrom, stopsAt, overrun, chain-stops, chain-never-over, chain-visits, chain-falls}
 use Rattle.fields.specs.Winning.{matchesRule, TopRule}
 use Rattle.fields.proofs.Tables.{dest-lengths, dest-at, source-lengths, source-at}
 use Rattle.fields.proofs.Top.{entryMatches, top-found, top-none}
@@ -46,11 +46,6 @@ use Rattle.verdicts.proofs.Unique.{visits-unique, classified-unique}
 use Rattle.rules.specs.Build.{RunsOf, ruleTrie, TriesLaid}
 use Rattle.rules.specs.Deciding.{ActionIs, no-rule, top-rule, Calls, rowsThrough, rowsOnWay}
 use Rattle.rules.proofs.Sums.{sum-mono}
-
--- a winner's number is no greater than there are entries
-wins-within : {p : ℕ → Bool} {len : ℕ → ℕ} {n b : ℕ} → Wins p len n b → b ≤ n
-wins-within (no-winner nil) = omega arith
-wins-within (some r) = r .inside
 
 -- rows that fit from a place on end in the list, where there are any
 to-end : (p e n : ℕ) → 0 < e → e ≤ n - p → p + e ≤ n

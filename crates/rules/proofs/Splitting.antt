@@ -2,6 +2,7 @@
 use mathlib.Core.Path.{_≡_, refl}
 use mathlib.Core.List.{List}
 use Prim.Native.Nat.{ℕ, suc, _+_, _*_, _≤_, _<_}
+use native.Mathlib.Numerals.{add-one}
 use native.Mathlib.Omega.{arith}
 use lib.ListN.{length}
 use Rattle.strides.specs.Trie.{size}
@@ -14,9 +15,6 @@ use Rattle.fields.specs.Runs.{sumFirst}
 use Rattle.rules.specs.Splitting.{SplitRules, splitTrie, partTrie, CanPart, CanSplit, Roomy}
 use Rattle.rules.proofs.Planning.{size-few, least-few}
 use Rattle.rules.proofs.Sums.{sum-few}
-
-add-one : (g : ℕ) → g + 1 ≡ suc g
-add-one g = omega arith
 
 module _ {W k : ℕ} {s : SplitRules} (can : CanSplit W k s) where
   pub part-can : (g : ℕ) → g < length (s .vals) → CanPart W k (s .first) (s .svals) (s .slens) (s .actions) g

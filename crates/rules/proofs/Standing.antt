@@ -5,6 +5,7 @@ use mathlib.Core.List.{List, [], _∷_}
 use mathlib.Core.Logic.{_⊎_, ⊎-elim}
 use Prim.Native.Nat.{ℕ, zero, suc, _+_, _-_, _*_, _≤_, _<_}
 use native.Mathlib.Nat.{le-trans, eq-or-lt-of-le, le-of-suc-le-suc}
+use native.Mathlib.Numerals.{add-one}
 use native.Mathlib.Omega.{arith}
 use lib.ListN.{length}
 use Rattle.table.specs.Table.{at}
@@ -171,9 +172,6 @@ module _ (kind : Kind) (W k : ℕ) (s : SplitRules) where
           (λ i c. l .puts .before i (omega arith)) (t .stands j q)) (eq-or-lt-of-le (le-of-suc-le-suc b))
 
   -- ---- as the code counts: g + 1 is the next
-
-  add-one : (g : ℕ) → g + 1 ≡ suc g
-  add-one g = omega arith
 
   pub laid-next : (start : ℕ) {rows₀ rows rows′ : Lists} {list₀ list list′ : List ℕ} {g place r : ℕ} → g < length (s .vals)
       → LaidTo kind W k s start rows₀ list₀ g place rows list

@@ -2,10 +2,11 @@
 -- case, and what its answer leads to.
 use mathlib.Core.Path.{_≡_, refl, sym, ap, _∙_}
 use mathlib.Core.List.{List, [], _∷_}
-use mathlib.Core.Bool.{Bool, true, false, cond, not}
+use mathlib.Core.Bool.{Bool, true, false, cond}
 use Prim.Native.Nat.{ℕ, zero, suc, _+_, _-_, _/_, _≤_, _<_}
 use native.Mathlib.Omega.{arith}
 use lib.ListN.{length, take, drop, length-drop}
+use lib.Seq.{take-all}
 use lib.Dec.{ltb, leb}
 use borrow.Author.Tests.{ltb-true, leb-true}
 use Rattle.table.proofs.Bools.{and-true}
@@ -28,15 +29,9 @@ use Rattle.verdicts.specs.declared.visiting.Verdict.the-variants.{Act, N
 
 -- ---- parts of lists
 
-all-of : (k : ℕ) (xs : List ℕ) → length xs ≤ k → take k xs ≡ xs
-all-of zero [] h = refl
-all-of zero (x ∷ xs) h = absurd (omega arith)
-all-of (suc k) [] h = refl
-all-of (suc k) (x ∷ xs) h = ap (λ (l : List ℕ). x ∷ l) (all-of k xs (omega arith))
-
 -- a part to the end of its list is the list from there on
 pub part-to-end : (a : ℕ) (xs : List ℕ) → take (length xs - a) (drop a xs) ≡ drop a xs
-part-to-end a xs = all-of (length xs - a) (drop a xs) (omega (arith, length-drop a xs))
+part-to-end a xs = take-all (length xs - a) (drop a xs) (omega (arith, length-drop a xs))
 
 pub looked-up : (W k : ℕ) (hop len link stride list : List ℕ) (source g : ℕ)
     → let p = trieRow list g .place in
@@ -162,13 +157,3 @@ module _ (e W k : ℕ) (ls : Lists) (list : List ℕ) (source : ℕ) where
     where
       go : Undecided (answerAt g) reads s → s ≤ reads + k
       go (undecided {r} x y) = omega (arith, rw x at (source-reads g))
-
--- ---- tests that were turned round
-
-pub not-false : (b : Bool) → not b ≡ false → b ≡ true
-not-false true e = refl
-not-false false e = sym e
-
-pub not-true : (b : Bool) → not b ≡ true → b ≡ false
-not-true true e = sym e
-not-true false e = refl

@@ -1,6 +1,7 @@
 use mathlib.Core.Path.{refl, sym, _∙_}
+use borrow.Author.Tests.{not-true, not-false}
 use Rattle.verdicts.specs.Classify.{sourceOf}
-use Rattle.verdicts.proofs.Sources.{visitable-is, not-false, not-true}
+use Rattle.verdicts.proofs.Sources.{visitable-is}
 use borrow.Author.Needs.{needs}
 use Rattle.verdicts.proofs.visiting.source_answer.Statement.{statement}
 use Rattle.verdicts.proofs.visiting.source_answer.Tie as tie
