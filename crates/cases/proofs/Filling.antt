@@ -8,7 +8,7 @@ use lib.ListN.{length, set, length-set}
 use Rattle.cases.specs.Limits.{MOST-32, MOST-16, MOST-8}
 use Rattle.cases.specs.declared.numerals.Numeral.{Numeral}
 use Rattle.cases.specs.Numerals.{numberAt}
-use Rattle.cases.specs.Triples.{ThreeLists, putThree, fill, past, Reads}
+use Rattle.cases.specs.Triples.{putThree, fill, past, Reads}
 
 -- after i of n rows, the next at place p; only the lists' contents changed since the start
 pub record RowsRead (s : List ℕ) (n p₀ : ℕ) (a₀ b₀ c₀ : List ℕ) (p i : ℕ) (a b c : List ℕ) : Type 0 where

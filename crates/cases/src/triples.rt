@@ -1,5 +1,4 @@
 // Rows of three numbers, as an entry's value, length and hop, read into three lent slices.
-ghost use mathlib.Core.Path.{_≡_};
 ghost use Rattle.cases.specs.Triples.{Reads};
 use crate::numerals::held8;
 use crate::numerals::held16;

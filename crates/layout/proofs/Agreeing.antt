@@ -1,17 +1,16 @@
 -- Strides that agree wherever a block begins lay the same rows: what stands at other nodes, or with other levels left, is never asked.
-use Prim.Native.Nat.{ℕ, zero, suc, pred, _+_, _^_, _≤_, _<_}
+use Prim.Native.Nat.{ℕ, zero, suc, pred, _+_, _^_}
 use mathlib.Core.Path.{_≡_, refl, sym, ap, ap₂, subst, _∙_}
-use mathlib.Core.Bool.{true, false}
-use mathlib.Core.List.{List, [], _∷_, _++_}
+use mathlib.Core.List.{List, _∷_, _++_}
 use native.Mathlib.Omega.{arith}
-use Rattle.strides.specs.Trie.{Trie, none, node, left, kid, bit, markAlong, subAlong}
+use Rattle.strides.specs.Trie.{Trie, none, node, kid, bit, subAlong}
 use Rattle.strides.specs.Strides.{Good, choiceBy}
-use Rattle.strides.specs.Choice.{onSide, SameBlocks}
+use Rattle.strides.specs.Choice.{SameBlocks}
 use Rattle.walk.specs.Rows.{Row}
 use Rattle.walk.specs.declared.record.Record.{Record}
 use Rattle.walk.specs.Rows.{Lists}
 use Rattle.layout.specs.Laid.{tableTrie, Laid}
-use Rattle.layout.specs.Blocks.{Hold, Strides, wide, passed, leftOf, linkTo, strideOf, rowBelow, listOf, blockRows, levelRows, firstRow, levelsRows, rowsOf, rowCount, Begun, blocksAlong, Agree}
+use Rattle.layout.specs.Blocks.{Hold, Strides, wide, passed, leftOf, strideOf, rowBelow, listOf, blockRows, levelRows, firstRow, levelsRows, rowsOf, rowCount, Begun, blocksAlong, Agree}
 
 -- one step along a path, with what stands left of it
 at-none : (i : ℕ) (f : Trie → ℕ) → f none ≡ 0 → passed i 0 + f (kid i none) ≡ 0

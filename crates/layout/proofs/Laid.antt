@@ -1,6 +1,6 @@
 -- What a lookup reads of a record and lists that are `Laid` for a table, with any strides that can be built and any k. Nothing here
 -- knows how the strides were chosen: a further kind of build needs only be `Laid`.
-use Prim.Native.Nat.{ℕ, zero, suc, _+_, _-_, _^_, _≤_, _<_}
+use Prim.Native.Nat.{ℕ, _+_, _-_, _^_, _≤_, _<_}
 use mathlib.Core.Path.{_≡_, refl, sym, ap, _∙_}
 use mathlib.Core.Logic.{_↔_}
 use mathlib.Core.List.{List, map, List·Memᴰ}

@@ -8,18 +8,15 @@ use mathlib.Core.List.{List, [], _∷_, _++_, append-assoc, List·Memᴰ, List·
 use native.Mathlib.Omega.{arith}
 use native.Mathlib.Nat.{sub-zero, zero-add}
 use lib.ListN.{length}
-use lib.Pow.{shr-shr}
 use Rattle.table.specs.Prefix.{start}
-use Rattle.table.proofs.Starts.{start-start, start-less}
-use Rattle.strides.specs.Trie.{Trie, none, node, Some, subAlong}
+use Rattle.table.proofs.Starts.{start-start}
+use Rattle.strides.specs.Trie.{Trie, none, Some, subAlong}
 use Rattle.strides.specs.Strides.{Good}
 use Rattle.strides.proofs.Paths.{some?, sub-split}
-use Rattle.walk.specs.Rows.{Lists}
-use Rattle.layout.specs.Blocks.{Strides, leftOf, firstRow, rowsOf, rowCount, Hold, Begun, blocksAlong, blockCount, blockRow}
+use Rattle.layout.specs.Blocks.{Strides, Begun, blocksAlong, blockCount}
 use Rattle.layout.specs.PathBlocks.{nodeOn, BlockAt, at-root, after}
-use Rattle.layout.proofs.GoodStrides.{good-level, good-stride, good-block}
-use Rattle.layout.proofs.Blocks.{left-own, left-below, left-split}
-use Rattle.layout.proofs.Answering.{blocks-none, blocks-own, blocks-split, Lies, lies-all, lies-next}
+use Rattle.layout.proofs.GoodStrides.{good-level, good-block}
+use Rattle.layout.proofs.Answering.{blocks-none, blocks-own, blocks-split}
 
 -- one block further along the address
 pub next-node : (W : ℕ) (t : Trie) (x d s : ℕ) → d + s ≤ W → subAlong s (nodeOn W t x d) (start W (d + s) x) ≡ nodeOn W t x (d + s)

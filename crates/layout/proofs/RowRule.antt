@@ -1,6 +1,6 @@
 -- Every row of every block on the path of any address, in lists that hold the rows of a trie: 01's row rule, tied to the lists. A row's
 -- path, filled up with zeros, is itself an address, so the child block that a link names is the next block on that address's path.
-use Prim.Native.Nat.{ℕ, zero, suc, _+_, _-_, _*_, _/_, _^_, _≤_, _<_}
+use Prim.Native.Nat.{ℕ, suc, _+_, _-_, _*_, _/_, _^_, _≤_, _<_}
 use mathlib.Core.Path.{_≡_, refl, sym, ap, ap₂, subst, _∙_}
 use mathlib.Core.List.{List}
 use native.Mathlib.Omega.{arith}
@@ -24,7 +24,7 @@ use Rattle.layout.specs.Laid.{tableTrie, Laid}
 use Rattle.layout.proofs.Marks.{markBest, some-mark, winner-says}
 use Rattle.layout.proofs.Blocks.{hold-at, level-own, left-same, left-own, left-below, left-split}
 use Rattle.layout.proofs.Answering.{Lies, lies-all, lies-next}
-use Rattle.layout.proofs.Hops.{path-lt, path-row, path-node, row-mark}
+use Rattle.layout.proofs.Hops.{path-row, path-node, row-mark}
 use Rattle.layout.proofs.PathBlocks.{next-node, BlockHere, here}
 
 module _ (σ : Strides) (W k : ℕ) (t : Trie) (good : Good σ t W 0 k) (ls : Lists) (rows-held : Hold ls 0 (rowsOf σ k t)) where

@@ -1,15 +1,13 @@
 -- Bits of numbers: of a map, of a conjunction, of a remainder; the highest one.
-use Prim.Native.Nat.{ℕ, zero, suc, min, _+_, _-_, _*_, _/_, _%_, _^_, _≤_, _<_}
+use Prim.Native.Nat.{ℕ, zero, suc, min, _+_, _-_, _*_, _/_, _%_, _^_, _<_}
 use mathlib.Core.Path.{_≡_, refl, sym, ap, subst, _∙_}
 use mathlib.Core.Bool.{Bool, true, false, cond, _&&_}
 use mathlib.Core.Logic.{_⊎_, inl, inr, ⊎-elim}
 use native.Mathlib.Nat.{two-pow-succ, eq-or-lt-of-le, mod-lt}
 use native.Mathlib.Omega.{arith}
-use native.Mathlib.Decide.{decLe}
-use lib.Dec.{eqb, ltb}
+use lib.Dec.{eqb}
 use lib.Bits.{bitAnd, and-step, and-shr}
 use lib.Pow.{high, low, shr-lt, split, pow-pos}
-use borrow.Author.Tests.{eq-eqb, ne-eqb}
 use Rattle.strides.specs.Trie.{bit}
 use Rattle.strides.proofs.Paths.{bit-mod}
 use Rattle.pieces.specs.Maps.{digit, mapOf, bitAt}

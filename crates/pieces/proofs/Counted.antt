@@ -1,13 +1,11 @@
 -- "Before" in a map counts the places before it that are set.
-use Prim.Native.Nat.{ℕ, zero, suc, max, _+_, _-_, _*_, _%_, _^_, _≤_, _<_, zero-le}
-use mathlib.Core.Path.{_≡_, refl, sym, ap, subst, _∙_}
+use Prim.Native.Nat.{ℕ, zero, suc, _+_, _-_, _%_, _^_, _≤_, _<_}
+use mathlib.Core.Path.{_≡_, refl, sym, ap, _∙_}
 use mathlib.Core.Bool.{Bool, true, false}
-use mathlib.Core.List.{List, [], _∷_, _++_}
 use mathlib.Core.Logic.{_⊎_, ⊎-elim}
 use native.Mathlib.Nat.{eq-or-lt-of-le, mod-eq-of-lt}
 use native.Mathlib.Omega.{arith}
 use lib.Count.{ones, onesIn, ones-cat}
-use lib.ListN.{length, take, drop}
 use lib.Pow.{low, mod-mod-pow}
 use Rattle.pieces.specs.Maps.{digit, mapOf, countSet}
 use Rattle.pieces.specs.Cuts.{onesBefore}

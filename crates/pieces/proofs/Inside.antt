@@ -13,7 +13,7 @@ use borrow.Author.Tests.{lt-ltb}
 use lib.ListN.{length, length-append, drop}
 use lib.Seq.{drop-append-seam, drop-append-le}
 use Rattle.pieces.specs.BinaryTrie.{BinaryTrie, empty, knot, mark}
-use Rattle.pieces.specs.Maps.{INTERNAL, EXTERNAL, isKid, isMarked, kids, marks, digit, mapOf, bitAt, placeLevel}
+use Rattle.pieces.specs.Maps.{INTERNAL, EXTERNAL, isKid, isMarked, kids, marks, digit, mapOf, bitAt}
 use Rattle.pieces.specs.Maps.{placeOn, isNode, countSet, subtrieAlong, subtrieAt, internalMap, externalMap, ifNode, ifMark, kidsTo, marksTo}
 use Rattle.pieces.proofs.Bits.{bit-map, map-lt, no-bits}
 use Rattle.pieces.proofs.Places.{Level, level-of, place-level}

@@ -1,10 +1,10 @@
 -- Numbers breadth first: how many nodes of a level stand left of a path, from the nodes four levels higher, and by the branches of a
 -- supernode.
 use Prim.Native.Nat.{ℕ, zero, suc, _+_, _-_, _*_, _/_, _%_, _^_, _≤_, _<_, zero-le}
-use mathlib.Core.Path.{_≡_, refl, sym, ap, subst, _∙_}
-use mathlib.Core.Bool.{Bool, true, false}
+use mathlib.Core.Path.{_≡_, refl, sym, ap, _∙_}
+use mathlib.Core.Bool.{Bool}
 use mathlib.Core.List.{List, _++_, append-assoc}
-use native.Mathlib.Nat.{le-refl, two-pow-succ, mod-lt, mod-eq-of-lt}
+use native.Mathlib.Nat.{two-pow-succ, mod-lt}
 use native.Mathlib.Omega.{arith}
 use lib.ListN.{length, length-append, take}
 use lib.Pow.{pow-pos, mod-pow-add, high, low}
@@ -12,7 +12,7 @@ use lib.Seq.{take-append-le, take-append-add}
 use Rattle.strides.specs.Trie.{bit}
 use Rattle.strides.proofs.Paths.{bit-mod, bit-shr}
 use Rattle.pieces.specs.BinaryTrie.{BinaryTrie, sideOf}
-use Rattle.pieces.specs.Maps.{STEP, EXTERNAL, digit, countSet, isNode, isKid, subtrieAlong, ifNode, kids}
+use Rattle.pieces.specs.Maps.{STEP, EXTERNAL, countSet, isNode, isKid, subtrieAlong, ifNode, kids}
 use Rattle.pieces.specs.Order.{kidsOf, order, level}
 use Rattle.pieces.specs.Depth.{nodesBelow, leftSide, nodesLeft, numberOn}
 use Rattle.pieces.proofs.Order.{kids-++, kids-order}

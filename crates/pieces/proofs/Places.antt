@@ -1,16 +1,16 @@
 -- The places on a path, and what a supernode's map and mask say: the highest bit found is the longest match inside it.
 use Prim.Native.Nat.{ℕ, zero, suc, min, _+_, _-_, _*_, _/_, _%_, _^_, _≤_, _<_}
-use mathlib.Core.Path.{_≡_, refl, sym, ap, subst, _∙_}
-use mathlib.Core.Bool.{Bool, true, false, cond, _&&_}
+use mathlib.Core.Path.{_≡_, refl, sym, ap, _∙_}
+use mathlib.Core.Bool.{Bool, true, false, _&&_}
 use mathlib.Core.Logic.{_⊎_, inl, inr, ⊎-elim}
 use native.Mathlib.Omega.{arith}
 use native.Mathlib.Decide.{decLe}
 use native.Mathlib.Nat.{mod-lt}
-use lib.Dec.{eqb, ltb, eqb→eq}
+use lib.Dec.{eqb, eqb→eq}
 use lib.Bits.{bitAnd}
 use lib.Pow.{high, pow-pos, pow-mono}
 use borrow.Author.Tests.{lt-ltb, le-ltb, eq-eqb}
-use Rattle.pieces.specs.Maps.{digit, mapOf, bitAt, placeLevel, placeOn, onPath, maskOf}
+use Rattle.pieces.specs.Maps.{bitAt, placeLevel, placeOn, onPath, maskOf}
 use Rattle.pieces.specs.Cuts.{limit, found, highest, NoBit, Matchable, IsLongest}
 use Rattle.pieces.proofs.Bits.{bit-of-rest, bit-and, bit-map, highest-is, Highest, no-bits}
 

@@ -1,16 +1,14 @@
 -- What a range of entries counts: the nodes of its trie are at most its entries times its levels, and the marks are just its entries. So
 -- the hops of a table's supernodes are as many as its entries: each is the mark of one node, and each node stands in one supernode.
 use Prim.Native.Nat.{ℕ, zero, suc, _+_, _-_, _*_, _/_, _≤_, _<_, zero-le}
-use mathlib.Core.Path.{_≡_, refl, sym, ap, subst, _∙_}
+use mathlib.Core.Path.{_≡_, refl, sym, ap, _∙_}
 use mathlib.Core.Bool.{Bool, true, false, cond}
 use mathlib.Core.List.{List, [], _∷_, _++_, append-assoc}
-use mathlib.Core.Logic.{_⊎_, inl, inr, ⊎-elim}
+use mathlib.Core.Logic.{_⊎_, ⊎-elim}
 use native.Mathlib.Nat.{le-refl, add-mul, mul-le-mul, eq-or-lt-of-le}
 use native.Mathlib.Omega.{arith}
 use native.Mathlib.Decide.{decLe}
-use lib.Dec.{eqb, ltb}
 use lib.ListN.{length, length-append}
-use borrow.Author.Tests.{lt-ltb}
 use Rattle.table.specs.Prefix.{start, IsPrefix}
 use Rattle.table.specs.Entry.{Below}
 use Rattle.table.specs.Table.{Table, at}
@@ -24,7 +22,7 @@ use Rattle.pieces.specs.Rows.{supernodesOf, marksOfAll, bitmapHops}
 use Rattle.pieces.specs.Ranges.{Ranged, exactFirst, firstMark, pastExact, Turning}
 use Rattle.pieces.specs.Depth.{deep, nodesBelow}
 use Rattle.pieces.proofs.Ranges.{past-exact-is, left-range, right-range, range-empty, range-tree, whole-range}
-use Rattle.pieces.proofs.Depth.{kids-lower, lower-empty, levels-end, tree-deep}
+use Rattle.pieces.proofs.Depth.{kids-lower, levels-end, tree-deep}
 
 -- ---- the marks of a trie, and of the tries of a list
 unfoldable markCount : BinaryTrie → ℕ

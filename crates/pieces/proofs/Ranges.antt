@@ -1,24 +1,24 @@
 -- Ranges of a sorted table against its trie: where a node stands, which marks it has, and the ranges of its two sides.
 use mathlib.Core.Path.{_≡_, refl, sym, ap, subst, _∙_}
-use mathlib.Core.Bool.{Bool, true, false, cond, _&&_, _||_, true≢false, false≢true}
+use mathlib.Core.Bool.{Bool, true, false, cond, true≢false}
 use mathlib.Core.Logic.{_⊎_, inl, inr, ⊎-elim, _↔_}
-use Prim.Native.Nat.{ℕ, zero, suc, _+_, _-_, _/_, _%_, _^_, _≤_, _<_, zero-le}
-use native.Mathlib.Nat.{le-refl, eq-or-lt-of-le}
+use Prim.Native.Nat.{ℕ, zero, suc, _-_, _/_, _%_, _^_, _≤_, _<_, zero-le}
+use native.Mathlib.Nat.{le-refl}
 use native.Mathlib.Omega.{arith}
 use native.Mathlib.Decide.{decLe}
-use lib.Dec.{eqb, ltb, leb}
-use borrow.Author.Tests.{eqb-true, eq-eqb, ltb-true, lt-ltb, leb-true, le-leb}
+use lib.Dec.{eqb, ltb}
+use borrow.Author.Tests.{eqb-true, eq-eqb, ltb-true, lt-ltb}
 use Rattle.table.specs.Prefix.{start, IsPrefix}
 use Rattle.table.specs.Entry.{Below}
-use Rattle.table.proofs.Bools.{and-true, or-true}
+use Rattle.table.proofs.Bools.{and-true}
 use Rattle.table.proofs.Prefix.{below-le}
 use Rattle.table.proofs.Starts.{start-mono, start-least, start-none}
-use Rattle.strides.specs.Entries.{withBit, wholeEntry, markAt}
-use Rattle.strides.proofs.Bools.{not-so, or-right}
+use Rattle.strides.specs.Entries.{withBit, markAt}
+use Rattle.strides.proofs.Bools.{not-so}
 use Rattle.strides.proofs.Paths.{with-bit-half}
 use Rattle.strides.proofs.Entries.{start-half, whole-is, whole-of, mark-missing}
 use Rattle.strides.proofs.Sets.{mark-at}
-use Rattle.pieces.specs.BinaryTrie.{BinaryTrie, empty, knot, beginsEntry, someBegins, knotIf, binaryBelow}
+use Rattle.pieces.specs.BinaryTrie.{BinaryTrie, empty, knot, someBegins, knotIf, binaryBelow}
 use Rattle.pieces.proofs.Begins.{begins-is, begins-of}
 use Rattle.pieces.specs.Ranges.{Ranged, exactFirst, firstMark, pastExact, Turning}
 

@@ -1,7 +1,7 @@
 -- The rows of supernodes and their hops: "Supernodes lie breadth first, their hops in that order, then level order; first-child and
 -- first-hop numbers are 0 where none" (02 [1]). A supernode's children stand together, after the children of all before it; so do
 -- its hops.
-use Prim.Native.Nat.{ℕ, zero, suc, _+_, _/_}
+use Prim.Native.Nat.{ℕ, suc, _+_, _/_}
 use mathlib.Core.Bool.{cond}
 use mathlib.Core.List.{List, [], _∷_, _++_}
 use lib.Dec.{eqb}

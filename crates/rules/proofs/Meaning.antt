@@ -5,7 +5,6 @@ use Prim.Native.Nat.{ℕ, suc, _≤_}
 use native.Mathlib.Nat.{le-of-suc-le-suc}
 use native.Mathlib.Omega.{arith}
 use lib.ListN.{length, replicate}
-use Rattle.table.specs.Table.{at}
 use Rattle.table.specs.Refusals.{Test, outcome, Gives}
 use Rattle.table.specs.declared.entry.Outcome.{Outcome}
 use Rattle.table.specs.declared.entry.Outcome.the-variants.{Accepted, Refused}

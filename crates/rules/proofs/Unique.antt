@@ -27,7 +27,7 @@ use Rattle.strides.proofs.Cheapest.{least-cheapest, named-unique}
 use Rattle.strides.proofs.Follows.{follows-unique}
 use Rattle.walk.specs.declared.record.Record.{Record}
 use Rattle.walk.specs.Limits.{WIDTH, LEVELS}
-use Rattle.walk.specs.Rows.{Lists, lists, shortest, rowAt, root}
+use Rattle.walk.specs.Rows.{Lists, shortest, rowAt, root}
 use Rattle.layout.specs.Blocks.{Strides, strideOf, rowsOf, rowCount, Hold, Agree}
 use Rattle.layout.specs.Laid.{tableTrie, Laid}
 use Rattle.layout.proofs.Agreeing.{same-agree, laid-agree}

@@ -6,7 +6,7 @@ use native.Mathlib.Omega.{arith}
 use lib.ListN.{length, replicate}
 use borrow.Author.Tests.{lt-ltb, le-ltb}
 use Rattle.table.specs.Limits.{entryLimit}
-use Rattle.table.specs.Refusals.{Test, test, outcome, Gives, andThen}
+use Rattle.table.specs.Refusals.{Test, outcome, Gives, andThen}
 use Rattle.table.specs.declared.entry.Outcome.{Outcome}
 use Rattle.table.specs.declared.entry.Outcome.the-variants.{Accepted, Refused}
 use Rattle.table.proofs.Refusals.{outcome-fails, outcome-passes, outcome-append, outcome-gives, gives-outcome, refused-not-accepted}

@@ -3,7 +3,7 @@ use Prim.Native.Nat.{ℕ, suc, _+_, _-_, _*_, _≤_, _<_, zero-le}
 use mathlib.Core.Path.{_≡_, refl, sym, ap, subst, _∙_}
 use mathlib.Core.List.{List, [], _∷_, _++_, append-nil}
 use native.Mathlib.Omega.{arith}
-use lib.ListN.{length, length-append, getD, set, length-set}
+use lib.ListN.{length, length-append, getD, length-set}
 use lib.Seq.{getD-set-same, getD-set-other}
 use Rattle.pieces.specs.BinaryTrie.{BinaryTrie}
 use Rattle.pieces.specs.Maps.{EXTERNAL, kids, marks}

@@ -27,7 +27,6 @@ use Rattle.supernodes.specs.Waiting.{LineIn, LineAsk, Lined, HoldsQueue}
 use Rattle.walk.specs.Limits.{HOPS}
 use Rattle.supernodes.specs.Fitting.{FitTable, TableLined}
 use Rattle.supernodes.specs.Build.{nodesTest, upToScratch}
-use Rattle.supernodes.proofs.Sides.{nodes-few}
 use Rattle.supernodes.proofs.Growing.{link-is}
 use Rattle.supernodes.proofs.Linking.{whole-span, whole-tree, whole-count, packed-nodes, root-tree}
 

@@ -11,7 +11,7 @@ use Rattle.strides.specs.Trie.{Trie}
 use Rattle.walk.specs.declared.record.Record.{Record}
 use Rattle.walk.specs.Limits.{WIDTH}
 use Rattle.walk.specs.Rows.{Row, Lists, lists, shortest, rowAt, root}
-use Rattle.layout.specs.Blocks.{Strides, strideOf, rowsOf, rowCount}
+use Rattle.layout.specs.Blocks.{Strides, strideOf, rowsOf}
 use Rattle.tries.specs.Filling.{LayAsks, LayGives}
 use Rattle.layout.specs.Laid.{LaidTrie}
 use Rattle.layout.proofs.Blocks.{hold-unique, rows-length}

@@ -2,7 +2,7 @@
 ghost use mathlib.Core.Path.{_≡_};
 ghost use Rattle.walk.specs.Limits.{WIDTH};
 ghost use Rattle.walk.specs.Rows.{lists};
-ghost use Rattle.walk.specs.Answers.{numberOf, hopOf, readsOf};
+ghost use Rattle.walk.specs.Answers.{hopOf, readsOf};
 ghost use Rattle.verdicts.specs.Classify.{earlyRefusal, classifyOf};
 ghost use Rattle.verdicts.specs.Meaning.{Classified};
 use crate::record::RuleRecord;

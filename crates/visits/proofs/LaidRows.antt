@@ -1,17 +1,17 @@
 -- What the lists hold where the supernodes of a trie lie in them: the row of each, its children's numbers and its hops' numbers.
 use Prim.Native.Nat.{ℕ, zero, suc, _+_, _-_, _/_, _^_, _≤_, _<_}
 use mathlib.Core.Path.{_≡_, refl, sym, ap, subst, _∙_}
-use mathlib.Core.Bool.{Bool, true, false, cond}
+use mathlib.Core.Bool.{true}
 use mathlib.Core.List.{List, [], _∷_, _++_, append-assoc}
 use native.Mathlib.Omega.{arith}
-use lib.Dec.{eqb, ltb}
+use lib.Dec.{ltb}
 use lib.ListN.{length, length-append, getD, take, drop, take-append-drop, length-drop}
 use lib.Seq.{drop-append-add, drop-append-le, drop-drop, drop-nil, getD-at, length-take-le}
 use borrow.Author.Tests.{ne-eqb}
 use Rattle.table.specs.Table.{at}
 use Rattle.pieces.specs.BinaryTrie.{BinaryTrie, empty, mark}
 use Rattle.pieces.specs.Maps.{STEP, INTERNAL, EXTERNAL, placeOn, bitAt, countSet, isNode, isKid, isMarked, subtrieAt, subtrieAlong, internalMap, externalMap, ifNode, kids, marks}
-use Rattle.pieces.specs.Order.{kidsOf, order, level}
+use Rattle.pieces.specs.Order.{kidsOf, order}
 use Rattle.pieces.specs.Rows.{SupernodeRow, ifAny, supernodeRow, supernodeRows, supernodesOf, bitmapRows, marksOfAll, bitmapHops}
 use Rattle.pieces.specs.Cuts.{onesBefore, childAt}
 use Rattle.pieces.specs.Depth.{deep}

@@ -1,6 +1,6 @@
 -- The answers that the promise allows: the lookup's is one, and there is no other. A refusal is given by a number exactly when that
 -- test is the first to fail.
-use Prim.Native.Nat.{ℕ, suc, _+_, _-_, _/_, _^_, _≤_, _<_}
+use Prim.Native.Nat.{ℕ, suc, _+_, _-_, _/_, _^_, _<_}
 use mathlib.Core.Path.{_≡_, refl, sym, ap, _∙_}
 use mathlib.Core.Bool.{Bool, true, false, cond, true≢false}
 use mathlib.Core.List.{List}
@@ -17,14 +17,14 @@ use Rattle.walk.specs.Limits.{Within}
 use Rattle.walk.specs.Refusals.{fails, passes}
 use Rattle.walk.specs.declared.numbers.AnswerNumbers.{AnswerNumbers}
 use Rattle.table.specs.Answers.{Told}
-use Rattle.walk.specs.Answers.{numberOf, answer, answerNumbers}
+use Rattle.walk.specs.Answers.{answer, answerNumbers}
 use Rattle.walk.proofs.Tests.{within-not}
 use Rattle.walk.proofs.Answers.{answer-has-numbers, answer-number, answer-hop, answer-reads, answer-case}
 use Rattle.pieces.specs.Maps.{STEP}
 use Rattle.visits.specs.declared.looking.Best.{Best}
 use Rattle.visits.specs.declared.looking.Best.the-variants.{Missing, Won}
 use Rattle.visits.specs.declared.record.Bitmap.{Bitmap}
-use Rattle.visits.specs.Rows.{RowLists, rowRoom, supernodeAt}
+use Rattle.visits.specs.Rows.{RowLists, rowRoom}
 use Rattle.visits.specs.Lookup.{Visited, arrived, fromFirst, tellBest, tellVisited, visitedBy, lookupBitmapOf}
 use Rattle.visits.specs.Meaning.{BitmapPassed, FromFirst, BitmapDamage, rows-short, hops-short, strays, no-hop, OnWay, empty, visited}
 use Rattle.visits.specs.Meaning.{winningHop, winningLength, InCount, BitmapTested, LookedBitmap}

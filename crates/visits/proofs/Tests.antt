@@ -6,7 +6,6 @@ use mathlib.Core.Logic.{_⊎_, inl, inr}
 use native.Mathlib.Omega.{arith}
 use lib.Dec.{leb, ltb}
 use borrow.Author.Tests.{le-ltb, ltb-true, ltb-false}
-use Rattle.table.specs.Limits.{outside}
 use Rattle.walk.specs.Limits.{Outside, Within}
 use Rattle.walk.proofs.Tests.{outside-cases, leb-cases}
 use Rattle.visits.specs.declared.record.Bitmap.{Bitmap}

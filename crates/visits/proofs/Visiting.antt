@@ -4,7 +4,7 @@ use mathlib.Core.Path.{_≡_, refl, sym, ap, _∙_}
 use mathlib.Core.Bool.{Bool, true, false, cond}
 use mathlib.Core.List.{List}
 use native.Mathlib.Omega.{arith}
-use lib.Dec.{eqb, ltb, leb}
+use lib.Dec.{eqb}
 use lib.ListN.{length}
 use borrow.Author.Tests.{lt-ltb, le-ltb, eq-eqb, ne-eqb, le-leb, lt-leb}
 use Rattle.table.specs.Table.{at}
@@ -13,7 +13,7 @@ use Rattle.walk.specs.declared.walk.Answer.the-variants.{Refused}
 use Rattle.walk.specs.Answers.{answer}
 use Rattle.pieces.specs.Maps.{STEP, INTERNAL, bitAt, placeLevel}
 use Rattle.pieces.specs.Rows.{SupernodeRow}
-use Rattle.pieces.specs.Cuts.{pathAt, found, onesBefore, highest, childAt}
+use Rattle.pieces.specs.Cuts.{pathAt, found, onesBefore, highest}
 use Rattle.visits.specs.declared.looking.Best.{Best}
 use Rattle.visits.specs.declared.looking.Best.the-variants.{Missing, Won}
 use Rattle.visits.specs.declared.record.Bitmap.{Bitmap}

@@ -4,7 +4,6 @@ ghost use mathlib.Core.Path.{_≡_};
 ghost use mathlib.Core.Bool.{_||_};
 ghost use Prim.Native.Nat.{ℕ, suc, _/_, _≤_};
 ghost use lib.ListN.{length};
-ghost use lib.Dec.{ltb};
 ghost use Rattle.table.specs.Table.{at};
 ghost use Rattle.walk.specs.Limits.{WIDTH};
 ghost use Rattle.table.specs.Answers.{Told};

@@ -1,6 +1,6 @@
 -- One lookup, one answer: two answers that the promise's meaning allows are equal. From the meaning alone; nothing here
 -- knows how an answer is computed.
-use Prim.Native.Nat.{ℕ, _≤_}
+use Prim.Native.Nat.{ℕ}
 use mathlib.Core.Path.{_≡_, refl, sym, ap, _∙_}
 use mathlib.Core.Bool.{Bool}
 use mathlib.Core.List.{List, _∷_}

@@ -1,5 +1,4 @@
 -- The addresses left fall; nothing is promised of what is printed.
-use mathlib.Core.Path.{_≡_}
 use Prim.Native.Nat.{_≤_, _-_}
 use borrow.Author.Needs.{needs}
 use Rattle.build_cases.proofs.sweep.Statement.{statement}

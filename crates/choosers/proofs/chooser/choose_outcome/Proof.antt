@@ -1,4 +1,4 @@
-use mathlib.Core.Path.{_≡_, sym, _∙_}
+use mathlib.Core.Path.{sym, _∙_}
 use Rattle.table.proofs.Table.{accepted-table}
 use Rattle.choosers.proofs.ChooseTests.{table-prefixes, tests-width, tests-levels, tests-table, tests-scratch, tests-pass}
 use borrow.Author.Needs.{needs}

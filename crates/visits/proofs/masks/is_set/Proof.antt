@@ -1,4 +1,4 @@
-use mathlib.Core.Path.{_≡_, refl}
+use mathlib.Core.Path.{refl}
 use Rattle.pieces.specs.Maps.{bitAt}
 use borrow.Author.Needs.{needs}
 use Rattle.visits.proofs.masks.is_set.Statement.{statement}
