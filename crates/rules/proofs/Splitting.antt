@@ -1,5 +1,5 @@
 -- The tables of all tries as the build holds them: one of them taken out, and sums that grow by one.
-use mathlib.Core.Path.{_≡_, refl}
+use mathlib.Core.Path.{_≡_}
 use mathlib.Core.List.{List}
 use Prim.Native.Nat.{ℕ, suc, _*_, _≤_, _<_}
 use native.Mathlib.Numerals.{add-one}
@@ -20,20 +20,17 @@ module _ {W k : ℕ} {s : SplitRules} (can : CanSplit W k s) where
   pub part-can : (g : ℕ) → g < length (s .vals) → CanPart W k (s .first) (s .svals) (s .slens) (s .actions) g
   part-can g h = record {
     inside = omega (arith, can .firsts);
-    rises = rw (add-one g) (can .rising g h);
+    rises = can .rising g h;
     svalues = rw (add-one g) (can .svalues (suc g) h);
     slengths = rw (add-one g) (can .slengths (suc g) h);
     acts = rw (add-one g) (can .acts (suc g) h);
-    plan = rw (add-one g) (can .plans (suc g) h);
+    plan = can .plans (suc g) h;
   }
-
-  pub part-is : (g : ℕ) → partTrie W (s .first) (s .svals) (s .slens) (s .actions) g ≡ splitTrie W s (suc g)
-  part-is g = rw (add-one g) refl
 
   -- whichever part is asked for its cost
   pub part-ready : {words lent : ℕ} → lent ≡ words → Roomy W s words → (g : ℕ) → g < length (s .vals)
       → CanPart W k (s .first) (s .svals) (s .slens) (s .actions) g × (size (partTrie W (s .first) (s .svals) (s .slens) (s .actions) g) * ROW ≤ lent)
-  part-ready e r g h = (part-can g h, rw (e, part-is g) (r (suc g) h))
+  part-ready e r g h = (part-can g h, rw e (r (suc g) h))
 
   -- the sums stay far below what a word holds
   pub nodes-fit : (n : ℕ) → n ≤ suc (length (s .vals)) → sumFirst (λ g. size (splitTrie W s g)) n ≤ n * (entryLimit * widthLimit)

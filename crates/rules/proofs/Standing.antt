@@ -179,11 +179,7 @@ module _ (kind : Kind) (W k : ℕ) (s : SplitRules) where
       LaysSource kind W k (part i j (s .svals)) (part i j (s .slens)) (part i j (s .actions)) place (nextOf W (s .vals) (s .lens) g) rows list g r rows′ list′
       → length list′ ≡ length list → LaidTo kind W k s start rows₀ list₀ (g + 1) (place + r) rows′ list′
   laid-next start {rows₀} {rows} {rows′} {list₀} {list} {list′} {g} {place} {r} h t l long =
-      let e = add-one g in
-      subst (λ (n : ℕ). LaidTo kind W k s start rows₀ list₀ n (place + r) rows′ list′) (sym e)
-      (laid-on start h t
-      (subst (λ (n : ℕ). let i = at (s .first) g in let j = at (s .first) n in
-      LaysSource kind W k (part i j (s .svals)) (part i j (s .slens)) (part i j (s .actions)) place (nextOf W (s .vals) (s .lens) g) rows list g r rows′ list′) e l) long)
+      subst (λ (n : ℕ). LaidTo kind W k s start rows₀ list₀ n (place + r) rows′ list′) (sym (add-one g)) (laid-on start h t l long)
 
   module _ {start words : ℕ} {rows₀ rows : Lists} {list₀ list : List ℕ} {g place : ℕ} (can : CanLaySources kind W k s start words rows₀ list₀)
       (t : LaidTo kind W k s start rows₀ list₀ g place rows list) where
@@ -203,14 +199,12 @@ module _ (kind : Kind) (W k : ℕ) (s : SplitRules) where
         CanLayAt kind W k (part i j (s .svals)) (part i j (s .slens)) (part i j (s .actions)) words place rows
     may-lay-source h =
         let short : shortest rows ≡ shortest rows₀ = same-shortest (t .room) in
-        let here : (let v = splitTable s (suc g) in CanLayAt kind W k (v .vals) (v .lens) (v .hops) words place rows) = record {
+        record {
           plan = can .split .plans (suc g) h;
           roomy = can .roomy (suc g) h;
           fits = rw short (le-trans (next-fits h) (can .fits));
           few = omega (arith, next-fits h, can .few);
-        } in
-        subst (λ (n : ℕ). let i = at (s .first) g in let j = at (s .first) n in
-        CanLayAt kind W k (part i j (s .svals)) (part i j (s .slens)) (part i j (s .actions)) words place rows) (sym (add-one g)) here
+        }
 
     pub may-list : g < length (s .vals) → g * TRIE-ROW + TRIE-ROW ≤ length list
     may-list h = omega (arith, t .long, can .long)

@@ -3,6 +3,7 @@ use mathlib.Core.Path.{_≡_, refl, sym, ap, subst, _∙_}
 use mathlib.Core.Bool.{true, false}
 use mathlib.Core.List.{List, [], _∷_, _++_}
 use Prim.Native.Nat.{ℕ, zero, suc, _+_, _-_, _≤_, _<_}
+use native.Mathlib.Numerals.{add-one}
 use native.Mathlib.Omega.{arith}
 use lib.ListN.{length, replicate, take}
 use Rattle.table.specs.Limits.{outside}
@@ -105,7 +106,7 @@ module _ (W k : ℕ) (rs : Rules) (good : GoodRules W rs) (levels : Within k LEV
   held-table : (g : ℕ) → splitTable heldRules g ≡ tab g
   unfolding trieTable
   held-table zero = refl
-  held-table (suc g) = refl
+  held-table (suc g) = rw (add-one g) refl
 
   many : length (tab 0 .vals) ≡ m
   many = dest-lengths rs m (at first) .0
@@ -113,7 +114,7 @@ module _ (W k : ℕ) (rs : Rules) (good : GoodRules W rs) (levels : Within k LEV
   held-plan : (g : ℕ) → g ≤ m → CanPlan W k (splitTable heldRules g .vals) (splitTable heldRules g .lens) (splitTable heldRules g .hops)
   unfolding trieTable
   held-plan zero h = record { table = dest-table W rs good runs; levels = levels }
-  held-plan (suc g) h = record { table = source-table W rs good runs g h; levels = levels }
+  held-plan (suc g) h = rw (add-one g) (record { table = source-table W rs good runs g h; levels = levels })
 
   inside-rules : (g : ℕ) → g ≤ length (tab 0 .vals) → at first g ≤ ruleCount rs
   inside-rules g h = from-within runs g (omega (arith, many))
@@ -122,7 +123,7 @@ module _ (W k : ℕ) (rs : Rules) (good : GoodRules W rs) (levels : Within k LEV
   held-can = record {
     few = omega (arith, many, runs-few runs, good .few);
     firsts = omega (arith, many, enough);
-    rising = λ g h. from-mono runs g (suc g) (omega arith) (omega (arith, many));
+    rising = λ g h. from-mono runs g (g + 1) (omega arith) (omega (arith, many));
     svalues = λ g h. omega (arith, inside-rules g h, good .lengths .svalues);
     slengths = λ g h. omega (arith, inside-rules g h, good .lengths .slengths);
     acts = λ g h. omega (arith, inside-rules g h, good .lengths .acts);
@@ -155,7 +156,7 @@ module _ (W k : ℕ) (rs : Rules) (good : GoodRules W rs) (levels : Within k LEV
     unfolding trieTable
     tries-laid = record {
       dest = l .dest;
-      source = λ g h. stands g h .laid;
+      source = λ g h. rw (add-one g) at (stands g h .laid);
       place = λ g h. stands g h .placed ∙ ap (λ (n : ℕ). rec .dest .elements + n) (counted g (omega arith));
       all = l .all ∙ ap (λ (n : ℕ). rec .dest .elements + sumFirst (sourceCost kind W k heldRules) n) many
           ∙ ap (λ (n : ℕ). rec .dest .elements + n) (counted m (omega arith));

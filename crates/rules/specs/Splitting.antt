@@ -1,5 +1,5 @@
 -- The tables of all tries as the build holds them: the destinations in lists of their own, with the numbers of their source tries, and the
--- sources of destination g in the parts of the rules' lists from place `first g` to before `first (suc g)`. They are the tables that 02 speaks
+-- sources of destination g in the parts of the rules' lists from place `first g` to before `first (g + 1)`. They are the tables that 02 speaks
 -- of (`trieTable`, fields).
 use mathlib.Core.List.{List}
 use Prim.Native.Nat.{ℕ, zero, suc, _+_, _*_, _≤_, _<_}
@@ -27,13 +27,17 @@ abbrev pub splitRules : (first vals lens nums svals slens actions : List ℕ) �
 splitRules first vals lens nums svals slens actions =
     record { first = first; vals = vals; lens = lens; nums = nums; svals = svals; slens = slens; actions = actions }
 
+-- the sources of destination g, as the code takes them
+abbrev pub partTable : (first svals slens actions : List ℕ) → ℕ → EntryLists
+partTable first svals slens actions g =
+    let i = at first g in
+    let j = at first (g + 1) in
+    entryLists (part i j svals) (part i j slens) (part i j actions)
+
 -- table number 0 is the destinations', suc g that of the sources of destination g
 abbrev pub splitTable : SplitRules → ℕ → EntryLists
 splitTable s zero = entryLists (s .vals) (s .lens) (s .nums)
-splitTable s (suc g) =
-    let i = at (s .first) g in
-    let j = at (s .first) (suc g) in
-    entryLists (part i j (s .svals)) (part i j (s .slens)) (part i j (s .actions))
+splitTable s (suc g) = partTable (s .first) (s .svals) (s .slens) (s .actions) g
 
 abbrev pub splitTrie : ℕ → SplitRules → ℕ → Trie
 splitTrie W s g = tableTrie W (splitTable s g .vals) (splitTable s g .lens) (splitTable s g .hops)
@@ -43,14 +47,7 @@ pub record CanPlan (W k : ℕ) (vs ls hs : List ℕ) : Type 0 where
   pub table : Table W vs ls hs
   pub levels : Within k LEVELS
 
--- one source table, as the code takes it
-abbrev pub partTable : (first svals slens actions : List ℕ) → ℕ → EntryLists
-partTable first svals slens actions g =
-    let i = at first g in
-    let j = at first (g + 1) in
-    entryLists (part i j svals) (part i j slens) (part i j actions)
-
--- it lies in its lists, and passed
+-- so did the sources of destination g, and they lie in their lists
 pub record CanPart (W k : ℕ) (first svals slens actions : List ℕ) (g : ℕ) : Type 0 where
   pub inside : g + 1 < length first
   pub rises : at first g ≤ at first (g + 1)
@@ -62,11 +59,11 @@ pub record CanPart (W k : ℕ) (first svals slens actions : List ℕ) (g : ℕ) 
 abbrev pub partTrie : (W : ℕ) (first svals slens actions : List ℕ) → ℕ → Trie
 partTrie W first svals slens actions g = let t = partTable first svals slens actions g in tableTrie W (t .vals) (t .lens) (t .hops)
 
--- so did all of them, and the parts lie in their lists
+-- so did all of them
 pub record CanSplit (W k : ℕ) (s : SplitRules) : Type 0 where
   pub few : length (s .vals) ≤ ruleLimit
   pub firsts : length (s .vals) < length (s .first)
-  pub rising : (g : ℕ) → g < length (s .vals) → at (s .first) g ≤ at (s .first) (suc g)
+  pub rising : (g : ℕ) → g < length (s .vals) → at (s .first) g ≤ at (s .first) (g + 1)
   pub svalues : (g : ℕ) → g ≤ length (s .vals) → at (s .first) g ≤ length (s .svals)
   pub slengths : (g : ℕ) → g ≤ length (s .vals) → at (s .first) g ≤ length (s .slens)
   pub acts : (g : ℕ) → g ≤ length (s .vals) → at (s .first) g ≤ length (s .actions)

@@ -6,7 +6,7 @@ use Rattle.strides.specs.Recurrence.{plain, leastBy}
 use Rattle.choosers.specs.Kinds.{kindOf}
 use Rattle.fields.specs.Runs.{sumFirst}
 use Rattle.rules.specs.Splitting.{splitRules, splitTrie}
-use Rattle.rules.proofs.Splitting.{part-ready, part-is, part-least, costs-fit}
+use Rattle.rules.proofs.Splitting.{part-ready, part-least, costs-fit}
 use Rattle.rules.proofs.counting.all_costs.Statement.{statement}
 use Rattle.rules.proofs.counting.all_costs.Tie as tie
 use Rattle.rules.proofs.counting.all_costs.Reads as reads
@@ -73,12 +73,10 @@ loop-less c = omega (arith, c .before .before .before .before .loop-test .taken)
 -- src/counting.rt:161:5
 loop-again : tie.Need-loop-again Inv-loop μ-loop
 loop-again c =
-    let c16 = c .before .before .before .before .before .before .before .before .before .before .before .before .before .before .before .before in
-    let c18 = c16 .before .before in
     let l = c .before .before .before .before .before .loop in (
       omega (arith, c .before .before .before .before .loop-test .taken),
       c .before .before .source-cost .kept .1 .1 .1 .1 .1 .1 .1 .1 .0 ∙ l .inv .1,
-      sum-on _ (l .g) (l .inv .2) (c .before .before .source-cost .ensures ∙ ap (leastBy plain (kindOf (c18 .args .kind)) (c18 .args .levels)) (part-is (c18 .pre .0) (l .g))),
+      sum-on _ (l .g) (l .inv .2) (c .before .before .source-cost .ensures),
     )
 
 -- src/counting.rt:139:1

@@ -5,7 +5,7 @@ use lib.ListN.{length}
 use Rattle.strides.specs.Trie.{size}
 use Rattle.fields.specs.Runs.{sumFirst}
 use Rattle.rules.specs.Splitting.{splitRules, splitTrie}
-use Rattle.rules.proofs.Splitting.{part-can, part-is, part-size, nodes-fit}
+use Rattle.rules.proofs.Splitting.{part-can, part-size, nodes-fit}
 use Rattle.rules.proofs.counting.all_nodes.Statement.{statement}
 use Rattle.rules.proofs.counting.all_nodes.Tie as tie
 use Rattle.rules.proofs.counting.all_nodes.Reads as reads
@@ -63,9 +63,8 @@ loop-less c = omega (arith, c .before .loop-test .taken)
 -- src/counting.rt:131:5
 loop-again : tie.Need-loop-again Inv-loop μ-loop
 loop-again c =
-    let c11 = c .before .before .before .before .before .before .before .before .before .before .before in
     let l = c .before .before .loop in
-    (omega (arith, c .before .loop-test .taken), sum-on _ (l .g) (l .inv .1) (c .source-nodes .ensures ∙ ap size (part-is (c11 .pre) (l .g))))
+    (omega (arith, c .before .loop-test .taken), sum-on _ (l .g) (l .inv .1) (c .source-nodes .ensures))
 
 -- src/counting.rt:113:1
 returns : tie.Need-returns Inv-loop μ-loop
