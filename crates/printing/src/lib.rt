@@ -21,6 +21,19 @@ pub fn put(n: u64) {
     say_number(n);
 }
 
+fn put_word(word: u32) {
+    put(word as u64);
+}
+
+// Each number of a list, after a blank.
+pub fn put_all(numbers: &[u32]) {
+    let mut i = 0;
+    while i < numbers.len() {
+        put_word(numbers[i]);
+        i += 1;
+    }
+}
+
 pub fn say_refused(number: u32, detail: u64) {
     say(b"refused");
     put(number as u64);

@@ -1,5 +1,6 @@
 // What is printed of a build, of its rows and its list of tries, and of classifications.
 use printing::put;
+use printing::put_all;
 use printing::say;
 use printing::say_elements;
 use printing::say_kept_rows;
@@ -40,20 +41,6 @@ pub(crate) fn say_built(
     record
 }
 
-fn put_number(number: u32) {
-    put(number as u64);
-}
-
-// Every number of the list of tries.
-fn say_list(list: &[u32]) {
-    say(b" list");
-    let mut i = 0;
-    while i < list.len() {
-        put_number(list[i]);
-        i += 1;
-    }
-}
-
 // The rows of all tries, then the list of tries.
 pub(crate) fn print(
     elements: usize,
@@ -64,7 +51,8 @@ pub(crate) fn print(
     list: &[u32],
 ) {
     say_elements(elements, row_hops, row_lengths, row_links, row_strides);
-    say_list(list);
+    say(b" list");
+    put_all(list);
 }
 
 fn say_reads(reads: u32) {

@@ -6,15 +6,12 @@
 use cases::Held;
 use libc::STDIN_FILENO;
 use printing::put;
+use printing::put_all;
 use printing::say;
 use printing::say_outcome;
 use printing::say_refused;
 use table::Shared;
 use table::Span;
-
-fn put_value(value: u32) {
-    put(value as u64);
-}
 
 fn say_shared(shared: Shared) {
     match shared {
@@ -42,11 +39,7 @@ fn say_part(part: &[u32]) {
     say(b" holds");
     put(part.len() as u64);
     say(b":");
-    let mut i = 0;
-    while i < part.len() {
-        put_value(part[i]);
-        i += 1;
-    }
+    put_all(part);
 }
 
 fn check_held(held: Held, values: &[u32], lengths: &[u8], hops: &[u16]) {
