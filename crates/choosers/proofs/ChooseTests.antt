@@ -7,7 +7,7 @@ use native.Mathlib.Nat.{le-refl}
 use native.Mathlib.Omega.{arith}
 use lib.ListN.{length}
 use borrow.Author.Tests.{lt-ltb, le-ltb, ltb-false}
-use Rattle.table.specs.Entry.{hopBad}
+use Rattle.table.specs.Entry.{hopRefused}
 use Rattle.table.specs.Limits.{outside}
 use Rattle.table.specs.Refusals.{outcome, Numbered, andThen}
 use Rattle.table.specs.Table.{at, widthTest, listTests, tableTests, checkOf, Table}
@@ -43,29 +43,29 @@ pub within-levels : (k most : ℕ) → outside k most ≡ false → Within k mos
 unfolding outside
 within-levels k most e = width-is most k e
 
-module _ (W k : ℕ) (vs ls hs : List ℕ) (words : ℕ) where
-  pub tests-width : outside W WIDTH ≡ true → outcome (chooseTests W k vs ls hs words) ≡ Refused 1 0
+module _ (W k links : ℕ) (vs ls hs : List ℕ) (words : ℕ) where
+  pub tests-width : outside W WIDTH ≡ true → outcome (chooseTests W k links vs ls hs words) ≡ Refused 1 0
   unfolding chooseTests outside
-  tests-width e = outcome-fails (widthTest W) (levelsTest k ∷ (listTests hopBad W vs ls hs ++ (scratchTest W vs ls hs words ∷ []))) e
+  tests-width e = outcome-fails (widthTest W) (levelsTest k ∷ (listTests (hopRefused links) W vs ls hs ++ (scratchTest W vs ls hs words ∷ []))) e
 
   module _ (w : outside W WIDTH ≡ false) where
-    pub tests-levels : outside k LEVELS ≡ true → outcome (chooseTests W k vs ls hs words) ≡ Refused 2 0
+    pub tests-levels : outside k LEVELS ≡ true → outcome (chooseTests W k links vs ls hs words) ≡ Refused 2 0
     unfolding chooseTests outside
     tests-levels e =
-        outcome-passes (widthTest W) (levelsTest k ∷ (listTests hopBad W vs ls hs ++ (scratchTest W vs ls hs words ∷ []))) w
-        ∙ outcome-fails (levelsTest k) (listTests hopBad W vs ls hs ++ (scratchTest W vs ls hs words ∷ [])) e
+        outcome-passes (widthTest W) (levelsTest k ∷ (listTests (hopRefused links) W vs ls hs ++ (scratchTest W vs ls hs words ∷ []))) w
+        ∙ outcome-fails (levelsTest k) (listTests (hopRefused links) W vs ls hs ++ (scratchTest W vs ls hs words ∷ [])) e
 
     -- past both, the table's tests and then scratch's decide
     module _ (l : outside k LEVELS ≡ false) where
-      tests-rest : outcome (chooseTests W k vs ls hs words) ≡ andThen (checkOf W vs ls hs) (outcome (scratchTest W vs ls hs words ∷ []))
+      tests-rest : outcome (chooseTests W k links vs ls hs words) ≡ andThen (checkOf W links vs ls hs) (outcome (scratchTest W vs ls hs words ∷ []))
       unfolding chooseTests outside checkOf tableTests
       tests-rest =
-          outcome-passes (widthTest W) (levelsTest k ∷ (listTests hopBad W vs ls hs ++ (scratchTest W vs ls hs words ∷ []))) w
-          ∙ outcome-passes (levelsTest k) (listTests hopBad W vs ls hs ++ (scratchTest W vs ls hs words ∷ [])) l
-          ∙ outcome-append (listTests hopBad W vs ls hs) (scratchTest W vs ls hs words ∷ [])
-          ∙ ap (λ (o : Outcome). andThen o (outcome (scratchTest W vs ls hs words ∷ []))) (sym (outcome-passes (widthTest W) (listTests hopBad W vs ls hs) w))
+          outcome-passes (widthTest W) (levelsTest k ∷ (listTests (hopRefused links) W vs ls hs ++ (scratchTest W vs ls hs words ∷ []))) w
+          ∙ outcome-passes (levelsTest k) (listTests (hopRefused links) W vs ls hs ++ (scratchTest W vs ls hs words ∷ [])) l
+          ∙ outcome-append (listTests (hopRefused links) W vs ls hs) (scratchTest W vs ls hs words ∷ [])
+          ∙ ap (λ (o : Outcome). andThen o (outcome (scratchTest W vs ls hs words ∷ []))) (sym (outcome-passes (widthTest W) (listTests (hopRefused links) W vs ls hs) w))
 
-      pub tests-table : {n d : ℕ} → checkOf W vs ls hs ≡ Refused n d → outcome (chooseTests W k vs ls hs words) ≡ Refused n d
+      pub tests-table : {n d : ℕ} → checkOf W links vs ls hs ≡ Refused n d → outcome (chooseTests W k links vs ls hs words) ≡ Refused n d
       unfolding andThen
       tests-table e = tests-rest ∙ rw e
 
@@ -75,47 +75,47 @@ module _ (W k : ℕ) (vs ls hs : List ℕ) (words : ℕ) where
           let p = table-prefixes W vs ls hs t in
           e ∙ node-count W (at vs) (at ls) (length vs) (p .prefix) (p .rises) (entryMarks ls hs) (length vs) (le-refl (length vs))
 
-      pub tests-scratch : checkOf W vs ls hs ≡ Accepted → (c : ℕ) → c ≡ nodeCount W (at vs) (at ls) (length vs) → words / ROW < c
-          → outcome (chooseTests W k vs ls hs words) ≡ Refused 6 c
+      pub tests-scratch : checkOf W links vs ls hs ≡ Accepted → (c : ℕ) → c ≡ nodeCount W (at vs) (at ls) (length vs) → words / ROW < c
+          → outcome (chooseTests W k links vs ls hs words) ≡ Refused 6 c
       unfolding andThen outcome
-      tests-scratch e c q h = tests-rest ∙ rw (e, ← count-size (accepted-table W vs ls hs e) c q, lt-ltb (words / ROW) c h)
+      tests-scratch e c q h = tests-rest ∙ rw (e, ← count-size (accepted-table W links vs ls hs e) c q, lt-ltb (words / ROW) c h)
 
-      pub tests-pass : checkOf W vs ls hs ≡ Accepted → (c : ℕ) → c ≡ nodeCount W (at vs) (at ls) (length vs) → c ≤ words / ROW
-          → outcome (chooseTests W k vs ls hs words) ≡ Accepted
+      pub tests-pass : checkOf W links vs ls hs ≡ Accepted → (c : ℕ) → c ≡ nodeCount W (at vs) (at ls) (length vs) → c ≤ words / ROW
+          → outcome (chooseTests W k links vs ls hs words) ≡ Accepted
       unfolding andThen outcome
-      tests-pass e c q h = tests-rest ∙ rw (e, ← count-size (accepted-table W vs ls hs e) c q, le-ltb (words / ROW) c h)
+      tests-pass e c q h = tests-rest ∙ rw (e, ← count-size (accepted-table W links vs ls hs e) c q, le-ltb (words / ROW) c h)
 
-pub numbered-choose : (most : ℕ) → 6 ≤ most → (W k : ℕ) (vs ls hs : List ℕ) (words : ℕ) → Numbered most (chooseTests W k vs ls hs words)
+pub numbered-choose : (most : ℕ) → 6 ≤ most → (W k links : ℕ) (vs ls hs : List ℕ) (words : ℕ) → Numbered most (chooseTests W k links vs ls hs words)
 unfolding chooseTests
-numbered-choose most h W k vs ls hs words =
-    let lists = numbered-append most (listTests hopBad W vs ls hs) (scratchTest W vs ls hs words ∷ []) (numbered-lists most (omega arith) hopBad W vs ls hs) ((omega arith, omega arith), tt) in
+numbered-choose most h W k links vs ls hs words =
+    let lists = numbered-append most (listTests (hopRefused links) W vs ls hs) (scratchTest W vs ls hs words ∷ []) (numbered-lists most (omega arith) (hopRefused links) W vs ls hs) ((omega arith, omega arith), tt) in
     ((omega arith, omega arith), ((omega arith, omega arith), lists))
 
 -- what acceptance says
-pub accepted-levels : (W k : ℕ) (vs ls hs : List ℕ) (words : ℕ) → outcome (chooseTests W k vs ls hs words) ≡ Accepted → Within k LEVELS
+pub accepted-levels : (W k links : ℕ) (vs ls hs : List ℕ) (words : ℕ) → outcome (chooseTests W k links vs ls hs words) ≡ Accepted → Within k LEVELS
 unfolding chooseTests
-accepted-levels W k vs ls hs words e =
-    let p = accepted-passes (widthTest W) (levelsTest k ∷ (listTests hopBad W vs ls hs ++ (scratchTest W vs ls hs words ∷ []))) e in
-    within-levels k LEVELS (accepted-passes (levelsTest k) (listTests hopBad W vs ls hs ++ (scratchTest W vs ls hs words ∷ [])) (p .1) .0)
+accepted-levels W k links vs ls hs words e =
+    let p = accepted-passes (widthTest W) (levelsTest k ∷ (listTests (hopRefused links) W vs ls hs ++ (scratchTest W vs ls hs words ∷ []))) e in
+    within-levels k LEVELS (accepted-passes (levelsTest k) (listTests (hopRefused links) W vs ls hs ++ (scratchTest W vs ls hs words ∷ [])) (p .1) .0)
 
-pub accepted-tests-table : (W k : ℕ) (vs ls hs : List ℕ) (words : ℕ) → outcome (chooseTests W k vs ls hs words) ≡ Accepted → Table W vs ls hs
+pub accepted-tests-table : (W k links : ℕ) (vs ls hs : List ℕ) (words : ℕ) → outcome (chooseTests W k links vs ls hs words) ≡ Accepted → Table W vs ls hs
 unfolding chooseTests checkOf tableTests
-accepted-tests-table W k vs ls hs words e =
-    let p = accepted-passes (widthTest W) (levelsTest k ∷ (listTests hopBad W vs ls hs ++ (scratchTest W vs ls hs words ∷ []))) e in
-    let q = accepted-passes (levelsTest k) (listTests hopBad W vs ls hs ++ (scratchTest W vs ls hs words ∷ [])) (p .1) in
-    let r = accepted-parts (listTests hopBad W vs ls hs) (scratchTest W vs ls hs words ∷ []) (q .1) in
-    accepted-table W vs ls hs (outcome-passes (widthTest W) (listTests hopBad W vs ls hs) (p .0) ∙ r .0)
+accepted-tests-table W k links vs ls hs words e =
+    let p = accepted-passes (widthTest W) (levelsTest k ∷ (listTests (hopRefused links) W vs ls hs ++ (scratchTest W vs ls hs words ∷ []))) e in
+    let q = accepted-passes (levelsTest k) (listTests (hopRefused links) W vs ls hs ++ (scratchTest W vs ls hs words ∷ [])) (p .1) in
+    let r = accepted-parts (listTests (hopRefused links) W vs ls hs) (scratchTest W vs ls hs words ∷ []) (q .1) in
+    accepted-table W links vs ls hs (outcome-passes (widthTest W) (listTests (hopRefused links) W vs ls hs) (p .0) ∙ r .0)
 
-pub accepted-plan : (W k : ℕ) (vs ls hs scratch : List ℕ) → ((i : ℕ) → entryMarks ls hs i < MARKS) → outcome (chooseTests W k vs ls hs (length scratch)) ≡ Accepted
+pub accepted-plan : (W k links : ℕ) (vs ls hs scratch : List ℕ) → ((i : ℕ) → entryMarks ls hs i < MARKS) → outcome (chooseTests W k links vs ls hs (length scratch)) ≡ Accepted
     → PlanIn W k vs ls hs scratch
 unfolding chooseTests checkOf tableTests
-accepted-plan W k vs ls hs scratch small e =
-    let p = accepted-passes (widthTest W) (levelsTest k ∷ (listTests hopBad W vs ls hs ++ (scratchTest W vs ls hs (length scratch) ∷ []))) e in
-    let q = accepted-passes (levelsTest k) (listTests hopBad W vs ls hs ++ (scratchTest W vs ls hs (length scratch) ∷ [])) (p .1) in
-    let r = accepted-parts (listTests hopBad W vs ls hs) (scratchTest W vs ls hs (length scratch) ∷ []) (q .1) in
+accepted-plan W k links vs ls hs scratch small e =
+    let p = accepted-passes (widthTest W) (levelsTest k ∷ (listTests (hopRefused links) W vs ls hs ++ (scratchTest W vs ls hs (length scratch) ∷ []))) e in
+    let q = accepted-passes (levelsTest k) (listTests (hopRefused links) W vs ls hs ++ (scratchTest W vs ls hs (length scratch) ∷ [])) (p .1) in
+    let r = accepted-parts (listTests (hopRefused links) W vs ls hs) (scratchTest W vs ls hs (length scratch) ∷ []) (q .1) in
     let s = accepted-passes (scratchTest W vs ls hs (length scratch)) [] (r .1) in
     record {
-      table = accepted-tests-table W k vs ls hs (length scratch) e;
+      table = accepted-tests-table W k links vs ls hs (length scratch) e;
       levels = within-levels k LEVELS (q .0);
       room = omega (arith, ltb-false (length scratch / ROW) (size (tableTrie W vs ls hs)) (s .0));
       small = small;

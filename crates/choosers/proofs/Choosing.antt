@@ -34,16 +34,16 @@ unfolding ifAccepted
 refused-value {o = Accepted} ne x y = absurd (ne refl)
 refused-value {o = Refused n d} ne x y = refl
 
-levels-some : (W k : ℕ) (vs ls hs scratch : List ℕ) {out : Outcome} → out ≡ outcome (chooseTests W k vs ls hs (length scratch)) → out ≡ Accepted → 1 ≤ k
-levels-some W k vs ls hs scratch t e = accepted-levels W k vs ls hs (length scratch) (sym t ∙ e) .0
+levels-some : (W k links : ℕ) (vs ls hs scratch : List ℕ) {out : Outcome} → out ≡ outcome (chooseTests W k links vs ls hs (length scratch)) → out ≡ Accepted → 1 ≤ k
+levels-some W k links vs ls hs scratch t e = accepted-levels W k links vs ls hs (length scratch) (sym t ∙ e) .0
 
 -- ---- a plan: the exact answer
 
-pub plan-refused : (kind : Kind) (W k : ℕ) (vs ls hs scratch : List ℕ) {out tested : Outcome} {n d cost root : ℕ} {strides plan : List ℕ}
-    → tested ≡ outcome (chooseTests W k vs ls hs (length scratch)) → tested ≡ Refused n d → out ≡ Refused n d
+pub plan-refused : (kind : Kind) (W k links : ℕ) (vs ls hs scratch : List ℕ) {out tested : Outcome} {n d cost root : ℕ} {strides plan : List ℕ}
+    → tested ≡ outcome (chooseTests W k links vs ls hs (length scratch)) → tested ≡ Refused n d → out ≡ Refused n d
     → (cost ≡ 0) × (strides ≡ padded LEVELS []) → (plan ≡ padded LEVELS []) × (root ≡ 0)
-    → PlanIs kind W k vs ls hs scratch out cost strides plan root scratch
-plan-refused kind W k vs ls hs scratch {out} e f o z r =
+    → PlanIs kind W k links vs ls hs scratch out cost strides plan root scratch
+plan-refused kind W k links vs ls hs scratch {out} e f o z r =
     let ne : out ≡ Accepted → ⊥ = λ a. refused-not-accepted (sym o ∙ a) in
     record {
       chosen = record {
@@ -56,10 +56,10 @@ plan-refused kind W k vs ls hs scratch {out} e f o z r =
       refused = λ _. record { no-plan = r .0; no-root = r .1; kept = refl };
     }
 
-pub plan-accepted : (kind : Kind) (W k : ℕ) (vs ls hs scratch : List ℕ) {out : Outcome} {cost root : ℕ} {strides plan scratch′ : List ℕ}
-    → outcome (chooseTests W k vs ls hs (length scratch)) ≡ Accepted → PlanMade kind W k vs ls hs out cost strides plan root scratch′
-    → PlanIs kind W k vs ls hs scratch out cost strides plan root scratch′
-plan-accepted kind W k vs ls hs scratch e p =
+pub plan-accepted : (kind : Kind) (W k links : ℕ) (vs ls hs scratch : List ℕ) {out : Outcome} {cost root : ℕ} {strides plan scratch′ : List ℕ}
+    → outcome (chooseTests W k links vs ls hs (length scratch)) ≡ Accepted → PlanMade kind W k vs ls hs out cost strides plan root scratch′
+    → PlanIs kind W k links vs ls hs scratch out cost strides plan root scratch′
+plan-accepted kind W k links vs ls hs scratch e p =
     let a = p .accepted in
     record {
       chosen = record {
@@ -73,8 +73,8 @@ plan-accepted kind W k vs ls hs scratch e p =
     }
 
 -- where it accepts: what the planning past the tests gave
-pub plan-made : {kind : Kind} {W k : ℕ} {vs ls hs scratch : List ℕ} {out : Outcome} {cost root : ℕ} {strides plan scratch′ : List ℕ}
-    → PlanIs kind W k vs ls hs scratch out cost strides plan root scratch′ → out ≡ Accepted → Planned kind W k vs ls hs cost strides plan root scratch′
+pub plan-made : {kind : Kind} {W k links : ℕ} {vs ls hs scratch : List ℕ} {out : Outcome} {cost root : ℕ} {strides plan scratch′ : List ℕ}
+    → PlanIs kind W k links vs ls hs scratch out cost strides plan root scratch′ → out ≡ Accepted → Planned kind W k vs ls hs cost strides plan root scratch′
 plan-made p e = record {
   least = p .chosen .costs ∙ accepted-value e _ _;
   named = p .chosen .named ∙ ap (padded LEVELS) (accepted-value e _ _);
@@ -83,9 +83,9 @@ plan-made p e = record {
 
 -- ---- a chooser: the exact answer
 
-pub refused-is : {kind : Kind} {W k : ℕ} {vs ls hs scratch : List ℕ} {out : Outcome} {n d cost root : ℕ} {strides plan scratch′ : List ℕ}
-    → PlanIs kind W k vs ls hs scratch out cost strides plan root scratch′ → out ≡ Refused n d
-    → ChosenIs kind W k vs ls hs scratch (Refused n d) 0 (replicate LEVELS 0) scratch′
+pub refused-is : {kind : Kind} {W k links : ℕ} {vs ls hs scratch : List ℕ} {out : Outcome} {n d cost root : ℕ} {strides plan scratch′ : List ℕ}
+    → PlanIs kind W k links vs ls hs scratch out cost strides plan root scratch′ → out ≡ Refused n d
+    → ChosenIs kind W k links vs ls hs scratch (Refused n d) 0 (replicate LEVELS 0) scratch′
 unfolding ifAccepted padded
 refused-is p f = record {
   tests = sym f ∙ p .chosen .tests;
@@ -94,9 +94,9 @@ refused-is p f = record {
   after = p .refused (λ a. refused-not-accepted (sym f ∙ a)) .kept;
 }
 
-pub chosen-is : {kind : Kind} {W k : ℕ} {vs ls hs scratch : List ℕ} {out : Outcome} {cost root : ℕ} {strides plan rows rows′ : List ℕ}
-    → PlanIs kind W k vs ls hs scratch out cost strides plan root rows → out ≡ Accepted → rows′ ≡ replicate (length scratch) 0
-    → ChosenIs kind W k vs ls hs scratch Accepted cost strides rows′
+pub chosen-is : {kind : Kind} {W k links : ℕ} {vs ls hs scratch : List ℕ} {out : Outcome} {cost root : ℕ} {strides plan rows rows′ : List ℕ}
+    → PlanIs kind W k links vs ls hs scratch out cost strides plan root rows → out ≡ Accepted → rows′ ≡ replicate (length scratch) 0
+    → ChosenIs kind W k links vs ls hs scratch Accepted cost strides rows′
 unfolding ifAccepted
 chosen-is p e z =
     let m = plan-made p e in
@@ -104,12 +104,12 @@ chosen-is p e z =
 
 -- ---- and what they mean
 
-pub chosen-means : (kind : Kind) (W k : ℕ) (vs ls hs scratch : List ℕ) {out : Outcome} {cost : ℕ} {strides scratch′ : List ℕ}
-    → ChosenIs kind W k vs ls hs scratch out cost strides scratch′ → Chooses kind W k vs ls hs scratch out cost strides scratch′
-chosen-means kind W k vs ls hs scratch c =
+pub chosen-means : (kind : Kind) (W k links : ℕ) (vs ls hs scratch : List ℕ) {out : Outcome} {cost : ℕ} {strides scratch′ : List ℕ}
+    → ChosenIs kind W k links vs ls hs scratch out cost strides scratch′ → Chooses kind W k links vs ls hs scratch out cost strides scratch′
+chosen-means kind W k links vs ls hs scratch c =
     let t = tableTrie W vs ls hs in
-    let tests = chooseTests W k vs ls hs (length scratch) in
-    let some = levels-some W k vs ls hs scratch (c .tests) in
+    let tests = chooseTests W k links vs ls hs (length scratch) in
+    let some = levels-some W k links vs ls hs scratch (c .tests) in
     record {
       tested = subst (Gives tests) (sym (c .tests)) (outcome-gives tests);
       cheapest = λ e. subst (Cheapest kind k t) (sym (c .costs ∙ accepted-value e _ _)) (least-cheapest kind k t (some e));
@@ -118,17 +118,17 @@ chosen-means kind W k vs ls hs scratch c =
       refused = λ ne. (c .costs ∙ refused-value ne _ _, c .named ∙ ap (padded LEVELS) (refused-value ne _ _), c .after ∙ refused-value ne _ _);
     }
 
-pub plan-means : {kind : Kind} {W k : ℕ} {vs ls hs scratch : List ℕ} {out : Outcome} {cost root : ℕ} {strides plan scratch′ : List ℕ}
-    → PlanIs kind W k vs ls hs scratch out cost strides plan root scratch′ → Plans kind W k vs ls hs scratch out cost strides plan root scratch′
-plan-means p = record { chooses = chosen-means _ _ _ _ _ _ _ (p .chosen); holds = p .holds; refused = p .refused }
+pub plan-means : {kind : Kind} {W k links : ℕ} {vs ls hs scratch : List ℕ} {out : Outcome} {cost root : ℕ} {strides plan scratch′ : List ℕ}
+    → PlanIs kind W k links vs ls hs scratch out cost strides plan root scratch′ → Plans kind W k links vs ls hs scratch out cost strides plan root scratch′
+plan-means p = record { chooses = chosen-means _ _ _ _ _ _ _ _ (p .chosen); holds = p .holds; refused = p .refused }
 
 -- ---- what it means leaves one answer
 
-pub chooses-unique : (kind : Kind) (W k : ℕ) (vs ls hs scratch : List ℕ) {out out′ : Outcome} {cost cost′ : ℕ} {strides strides′ scratch′ scratch″ : List ℕ}
-    → Chooses kind W k vs ls hs scratch out cost strides scratch′ → Chooses kind W k vs ls hs scratch out′ cost′ strides′ scratch″
+pub chooses-unique : (kind : Kind) (W k links : ℕ) (vs ls hs scratch : List ℕ) {out out′ : Outcome} {cost cost′ : ℕ} {strides strides′ scratch′ scratch″ : List ℕ}
+    → Chooses kind W k links vs ls hs scratch out cost strides scratch′ → Chooses kind W k links vs ls hs scratch out′ cost′ strides′ scratch″
     → (out ≡ out′) × (cost ≡ cost′) × (strides ≡ strides′) × (scratch′ ≡ scratch″)
-chooses-unique kind W k vs ls hs scratch {out} {out′} {cost} {cost′} {strides} {strides′} {scratch′} {scratch″} c d =
-    let o : out ≡ out′ = gives-unique (chooseTests W k vs ls hs (length scratch)) out out′ (c .tested) (d .tested) in
+chooses-unique kind W k links vs ls hs scratch {out} {out′} {cost} {cost′} {strides} {strides′} {scratch′} {scratch″} c d =
+    let o : out ≡ out′ = gives-unique (chooseTests W k links vs ls hs (length scratch)) out out′ (c .tested) (d .tested) in
     let rest : (cost ≡ cost′) × (strides ≡ strides′) × (scratch′ ≡ scratch″)
     = ⊎-elim (λ (e : out ≡ Accepted). accepted e (sym o ∙ e)) (λ (ne : out ≡ Accepted → ⊥). not-accepted ne (λ (e : out′ ≡ Accepted). ne (o ∙ e))) (accepted-or out) in
     (o, rest .0, rest .1, rest .2)
@@ -150,11 +150,11 @@ chooses-unique kind W k vs ls hs scratch {out} {out′} {cost} {cost′} {stride
 
 -- ---- and so does a plan's, but for the rows in which the nodes lie
 
-module _ (kind : Kind) (W k : ℕ) (vs ls hs scratch : List ℕ) {out out′ : Outcome} {cost cost′ root root′ : ℕ} {strides strides′ plan plan′ scratch′ scratch″ : List ℕ}
-    (c : Plans kind W k vs ls hs scratch out cost strides plan root scratch′) (d : Plans kind W k vs ls hs scratch out′ cost′ strides′ plan′ root′ scratch″) where
+module _ (kind : Kind) (W k links : ℕ) (vs ls hs scratch : List ℕ) {out out′ : Outcome} {cost cost′ root root′ : ℕ} {strides strides′ plan plan′ scratch′ scratch″ : List ℕ}
+    (c : Plans kind W k links vs ls hs scratch out cost strides plan root scratch′) (d : Plans kind W k links vs ls hs scratch out′ cost′ strides′ plan′ root′ scratch″) where
   -- one outcome, one cost, the same strides named
   pub plans-unique : (out ≡ out′) × (cost ≡ cost′) × (strides ≡ strides′)
-  plans-unique = let one = chooses-unique kind W k vs ls hs scratch (c .chooses) (d .chooses) in (one .0, one .1, one .2)
+  plans-unique = let one = chooses-unique kind W k links vs ls hs scratch (c .chooses) (d .chooses) in (one .0, one .1, one .2)
 
   -- refused: the same plan, root and scratch
   pub no-plans-unique : (out ≡ Accepted → ⊥) → (plan ≡ plan′) × (root ≡ root′) × (scratch′ ≡ scratch″)

@@ -5,7 +5,7 @@ use mathlib.Core.List.{List, [], _∷_, _++_}
 use Prim.Native.Nat.{ℕ, _/_}
 use lib.Dec.{ltb}
 use lib.ListN.{length, replicate}
-use Rattle.table.specs.Entry.{hopBad}
+use Rattle.table.specs.Entry.{hopRefused}
 use Rattle.table.specs.Refusals.{Test, test, outcome, Gives}
 use Rattle.table.specs.Table.{widthTest, listTests}
 use Rattle.table.specs.declared.entry.Outcome.{Outcome}
@@ -29,9 +29,9 @@ levelsTest k = test 2 0 (outside k LEVELS)
 abbrev pub scratchTest : ℕ → List ℕ → List ℕ → List ℕ → ℕ → Test
 scratchTest W vs ls hs words = test 6 (size (tableTrie W vs ls hs)) (ltb (words / ROW) (size (tableTrie W vs ls hs)))
 
--- 1, 2, 3, 4, 5, 6
-unfoldable pub chooseTests : ℕ → ℕ → List ℕ → List ℕ → List ℕ → ℕ → List Test
-chooseTests W k vs ls hs words = widthTest W ∷ levelsTest k ∷ (listTests hopBad W vs ls hs ++ (scratchTest W vs ls hs words ∷ []))
+-- 1, 2, 3, 4, 5, 6; 4 by the number of links that the caller states (02, [7])
+unfoldable pub chooseTests : (W k links : ℕ) → List ℕ → List ℕ → List ℕ → ℕ → List Test
+chooseTests W k links vs ls hs words = widthTest W ∷ levelsTest k ∷ (listTests (hopRefused links) W vs ls hs ++ (scratchTest W vs ls hs words ∷ []))
 
 -- ---- the answer
 
@@ -41,16 +41,16 @@ ifAccepted Accepted x y = x
 ifAccepted (Refused n d) x y = y
 
 -- the exact answer, and what scratch then holds
-pub record ChosenIs (kind : Kind) (W k : ℕ) (vs ls hs scratch : List ℕ) (out : Outcome) (cost : ℕ) (strides scratch′ : List ℕ) : Type 0 where
-  pub tests : out ≡ outcome (chooseTests W k vs ls hs (length scratch))
+pub record ChosenIs (kind : Kind) (W k links : ℕ) (vs ls hs scratch : List ℕ) (out : Outcome) (cost : ℕ) (strides scratch′ : List ℕ) : Type 0 where
+  pub tests : out ≡ outcome (chooseTests W k links vs ls hs (length scratch))
   pub costs : cost ≡ ifAccepted out (leastBy plain kind k (tableTrie W vs ls hs)) 0
   pub named : strides ≡ padded LEVELS (ifAccepted out (stridesBy plain kind k (tableTrie W vs ls hs)) [])
   pub after : scratch′ ≡ ifAccepted out (replicate (length scratch) 0) scratch
 
 -- what it means: the first test that fails; or the least cost of all choices of the kind with at most k levels, the strides
 -- that the tie rule names, and scratch all zero
-pub record Chooses (kind : Kind) (W k : ℕ) (vs ls hs scratch : List ℕ) (out : Outcome) (cost : ℕ) (strides scratch′ : List ℕ) : Type 0 where
-  pub tested : Gives (chooseTests W k vs ls hs (length scratch)) out
+pub record Chooses (kind : Kind) (W k links : ℕ) (vs ls hs scratch : List ℕ) (out : Outcome) (cost : ℕ) (strides scratch′ : List ℕ) : Type 0 where
+  pub tested : Gives (chooseTests W k links vs ls hs (length scratch)) out
   pub cheapest : out ≡ Accepted → Cheapest kind k (tableTrie W vs ls hs) cost
   pub named : out ≡ Accepted → (ss : List ℕ) × Named kind k (tableTrie W vs ls hs) ss × (strides ≡ padded LEVELS ss)
   pub zeroed : out ≡ Accepted → scratch′ ≡ replicate (length scratch) 0

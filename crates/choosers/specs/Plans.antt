@@ -57,15 +57,15 @@ pub record NoPlan (plan : List ℕ) (root : ℕ) (scratch scratch′ : List ℕ)
   pub kept : scratch′ ≡ scratch
 
 -- by the exact answer of a chooser
-pub record PlanIs (kind : Kind) (W k : ℕ) (vs ls hs scratch : List ℕ) (out : Outcome) (cost : ℕ) (strides plan : List ℕ) (root : ℕ) (scratch′ : List ℕ)
+pub record PlanIs (kind : Kind) (W k links : ℕ) (vs ls hs scratch : List ℕ) (out : Outcome) (cost : ℕ) (strides plan : List ℕ) (root : ℕ) (scratch′ : List ℕ)
     : Type 0 where
-  pub chosen : ChosenIs kind W k vs ls hs scratch out cost strides (cleared out scratch)
+  pub chosen : ChosenIs kind W k links vs ls hs scratch out cost strides (cleared out scratch)
   pub holds : out ≡ Accepted → HoldsPlan kind W k vs ls hs plan root scratch′
   pub refused : (out ≡ Accepted → ⊥) → NoPlan plan root scratch scratch′
 
 -- and by what it means
-pub record Plans (kind : Kind) (W k : ℕ) (vs ls hs scratch : List ℕ) (out : Outcome) (cost : ℕ) (strides plan : List ℕ) (root : ℕ) (scratch′ : List ℕ)
+pub record Plans (kind : Kind) (W k links : ℕ) (vs ls hs scratch : List ℕ) (out : Outcome) (cost : ℕ) (strides plan : List ℕ) (root : ℕ) (scratch′ : List ℕ)
     : Type 0 where
-  pub chooses : Chooses kind W k vs ls hs scratch out cost strides (cleared out scratch)
+  pub chooses : Chooses kind W k links vs ls hs scratch out cost strides (cleared out scratch)
   pub holds : out ≡ Accepted → HoldsPlan kind W k vs ls hs plan root scratch′
   pub refused : (out ≡ Accepted → ⊥) → NoPlan plan root scratch scratch′

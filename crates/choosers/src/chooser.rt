@@ -42,12 +42,13 @@ pub struct Chosen {
 fn choose_outcome(
     width: u32,
     levels: u32,
+    links: u16,
     value: &[u32],
     length: &[u8],
     hop: &[u16],
     words: usize,
 ) -> Outcome
-    ensures { λ r. ⌜ r ≡ outcome (chooseTests width levels (now (value .entry)) (now (length .entry)) (now (hop .entry)) words) ⌝ }
+    ensures { λ r. ⌜ r ≡ outcome (chooseTests width levels links (now (value .entry)) (now (length .entry)) (now (hop .entry)) words) ⌝ }
 {
     if is_outside(width, WIDTH) {
         return Outcome::Refused {
@@ -61,7 +62,7 @@ fn choose_outcome(
             detail: 0,
         };
     }
-    let checked = table::check_table(width, value, length, hop);
+    let checked = table::check_table(width, links, value, length, hop);
     if let Outcome::Refused { number, detail } = checked {
         return Outcome::Refused { number, detail };
     }
@@ -186,19 +187,20 @@ pub fn plan_choice(
     kind: Kind,
     width: u32,
     levels: u32,
+    links: u16,
     value: &[u32],
     length: &[u8],
     hop: &[u16],
     scratch: &mut [u64],
 ) -> Plan
     ensures exact { λ r. ⌜
-        PlanIs (kindOf kind) width levels (now (value .entry)) (now (length .entry)) (now (hop .entry)) (now (scratch .entry)) (r .outcome)
+        PlanIs (kindOf kind) width levels links (now (value .entry)) (now (length .entry)) (now (hop .entry)) (now (scratch .entry)) (r .outcome)
         (r .cost) (r .strides) (r .plan) (r .root) (now (scratch .exit)) ⌝ }
     ensures meaning { λ r. ⌜
-        Plans (kindOf kind) width levels (now (value .entry)) (now (length .entry)) (now (hop .entry)) (now (scratch .entry)) (r .outcome)
+        Plans (kindOf kind) width levels links (now (value .entry)) (now (length .entry)) (now (hop .entry)) (now (scratch .entry)) (r .outcome)
         (r .cost) (r .strides) (r .plan) (r .root) (now (scratch .exit)) ⌝ }
 {
-    let outcome = choose_outcome(width, levels, value, length, hop, scratch.len());
+    let outcome = choose_outcome(width, levels, links, value, length, hop, scratch.len());
     if let Outcome::Refused { number, detail } = outcome {
         return no_plan(number, detail);
     }
@@ -210,16 +212,17 @@ fn choose(
     kind: Kind,
     width: u32,
     levels: u32,
+    links: u16,
     value: &[u32],
     length: &[u8],
     hop: &[u16],
     scratch: &mut [u64],
 ) -> Chosen
     ensures exact { λ r. ⌜
-        ChosenIs (kindOf kind) width levels (now (value .entry)) (now (length .entry)) (now (hop .entry)) (now (scratch .entry)) (r .outcome)
+        ChosenIs (kindOf kind) width levels links (now (value .entry)) (now (length .entry)) (now (hop .entry)) (now (scratch .entry)) (r .outcome)
         (r .cost) (r .strides) (now (scratch .exit)) ⌝ }
 {
-    let p = plan_choice(kind, width, levels, value, length, hop, scratch);
+    let p = plan_choice(kind, width, levels, links, value, length, hop, scratch);
     let outcome = p.outcome;
     let strides = p.strides;
     if let Outcome::Refused { number, detail } = outcome {
@@ -242,36 +245,38 @@ fn choose(
 pub fn choose_fixed(
     width: u32,
     levels: u32,
+    links: u16,
     value: &[u32],
     length: &[u8],
     hop: &[u16],
     scratch: &mut [u64],
 ) -> Chosen
     ensures exact { λ r. ⌜
-        ChosenIs fixed width levels (now (value .entry)) (now (length .entry)) (now (hop .entry)) (now (scratch .entry)) (r .outcome) (r .cost)
+        ChosenIs fixed width levels links (now (value .entry)) (now (length .entry)) (now (hop .entry)) (now (scratch .entry)) (r .outcome) (r .cost)
         (r .strides) (now (scratch .exit)) ⌝ }
     ensures meaning { λ r. ⌜
-        Chooses fixed width levels (now (value .entry)) (now (length .entry)) (now (hop .entry)) (now (scratch .entry)) (r .outcome) (r .cost)
+        Chooses fixed width levels links (now (value .entry)) (now (length .entry)) (now (hop .entry)) (now (scratch .entry)) (r .outcome) (r .cost)
         (r .strides) (now (scratch .exit)) ⌝ }
 {
-    choose(Kind::Fixed, width, levels, value, length, hop, scratch)
+    choose(Kind::Fixed, width, levels, links, value, length, hop, scratch)
 }
 
 // The same for a variable choice: of its strides only the root's is named.
 pub fn choose_variable(
     width: u32,
     levels: u32,
+    links: u16,
     value: &[u32],
     length: &[u8],
     hop: &[u16],
     scratch: &mut [u64],
 ) -> Chosen
     ensures exact { λ r. ⌜
-        ChosenIs variable width levels (now (value .entry)) (now (length .entry)) (now (hop .entry)) (now (scratch .entry)) (r .outcome) (r .cost)
+        ChosenIs variable width levels links (now (value .entry)) (now (length .entry)) (now (hop .entry)) (now (scratch .entry)) (r .outcome) (r .cost)
         (r .strides) (now (scratch .exit)) ⌝ }
     ensures meaning { λ r. ⌜
-        Chooses variable width levels (now (value .entry)) (now (length .entry)) (now (hop .entry)) (now (scratch .entry)) (r .outcome) (r .cost)
+        Chooses variable width levels links (now (value .entry)) (now (length .entry)) (now (hop .entry)) (now (scratch .entry)) (r .outcome) (r .cost)
         (r .strides) (now (scratch .exit)) ⌝ }
 {
-    choose(Kind::Variable, width, levels, value, length, hop, scratch)
+    choose(Kind::Variable, width, levels, links, value, length, hop, scratch)
 }

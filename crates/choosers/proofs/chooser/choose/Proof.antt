@@ -33,7 +33,7 @@ returns-2 c =
     let c9 = c .before .before .before .before .before .before .before .before .before in
     let S = c9 .before .before .before .before .before .before in
     let P = c9 .plan-choice in
-    let e : length (P .last .1 .1 .1 .1 .1 .1 .0) ≡ length (S .args .scratch .now) = omega (arith, P .kept) in
+    let e : length (P .last .1 .1 .1 .1 .1 .1 .1 .0) ≡ length (S .args .scratch .now) = omega (arith, P .kept) in
     chosen-is (P .ensures .0) (c .before .before .before .before .enum-told .given .1) (c .before .before .zero .ensures ∙ ap (λ (n : ℕ). replicate n 0) e)
 
 pub choose-spec : {M : Type 1} → statement M

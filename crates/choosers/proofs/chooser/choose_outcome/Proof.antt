@@ -12,7 +12,7 @@ returns : tie.Need-returns
 returns c =
     let c5 = c .before .before .before .before .before in
     let S = c5 in
-    sym (tests-width (S .args .width) (S .args .levels) (S .args .value .now) (S .args .length .now) (S .args .hop .now) (S .args .words) (sym (c .before .is-outside .ensures) ∙ c .if1 .taken))
+    sym (tests-width (S .args .width) (S .args .levels) (S .args .links) (S .args .value .now) (S .args .length .now) (S .args .hop .now) (S .args .words) (sym (c .before .is-outside .ensures) ∙ c .if1 .taken))
 
 is-outside-requires-2 : tie.Need-is-outside-requires-2
 is-outside-requires-2 c κs = search needs
@@ -23,7 +23,7 @@ returns-2 c =
     let c7 = c3 .before .before .before .before in
     let S = c7 in
     sym
-    (tests-levels (S .args .width) (S .args .levels) (S .args .value .now) (S .args .length .now) (S .args .hop .now) (S .args .words)
+    (tests-levels (S .args .width) (S .args .levels) (S .args .links) (S .args .value .now) (S .args .length .now) (S .args .hop .now) (S .args .words)
     (sym (c3 .is-outside .ensures) ∙ c .before .before .if1 .left) (sym (c .before .is-outside2 .ensures) ∙ c .if2 .taken))
 
 check-table-requires : tie.Need-check-table-requires
@@ -42,7 +42,7 @@ returns-3 c =
     let c11 = c7 .before .before .before .before in
     let S = c11 in
     sym
-    (tests-table (S .args .width) (S .args .levels) (S .args .value .now) (S .args .length .now) (S .args .hop .now) (S .args .words) (sym (c7 .is-outside .ensures) ∙ c6 .if1 .left)
+    (tests-table (S .args .width) (S .args .levels) (S .args .links) (S .args .value .now) (S .args .length .now) (S .args .hop .now) (S .args .words) (sym (c7 .is-outside .ensures) ∙ c6 .if1 .left)
     (sym (c5 .is-outside2 .ensures) ∙ c4 .if2 .left) (sym (c3 .check-table .ensures .0) ∙ c .before .checked .given .1))
 
 enum-told : tie.Need-enum-told
@@ -51,7 +51,7 @@ enum-told c = search needs
 node-count-requires : tie.Need-node-count-requires
 node-count-requires c κs =
     let S = c .before .before .before .before .before .before .before .before .before .before in
-    let t = accepted-table _ _ _ _ (sym (c .before .before .check-table .ensures .0) ∙ c .enum-told .given .1) in
+    let t = accepted-table _ _ _ _ _ (sym (c .before .before .check-table .ensures .0) ∙ c .enum-told .given .1) in
     (table-prefixes _ _ _ _ t, t .few)
 
 returns-4 : tie.Need-returns-4
@@ -61,7 +61,7 @@ returns-4 c =
     let c8 = c6 .before .before in
     let S = c8 .before .before .before .before in
     sym
-    (tests-scratch (S .args .width) (S .args .levels) (S .args .value .now) (S .args .length .now) (S .args .hop .now) (S .args .words)
+    (tests-scratch (S .args .width) (S .args .levels) (S .args .links) (S .args .value .now) (S .args .length .now) (S .args .hop .now) (S .args .words)
     (sym (c8 .is-outside .ensures) ∙ c6 .before .if1 .left) (sym (c6 .is-outside2 .ensures) ∙ c4 .before .if2 .left)
     (sym (c4 .check-table .ensures .0) ∙ c .before .before .enum-told .given .1) _ (c .before .node-count .ensures) (c .if3 .taken))
 
@@ -72,7 +72,7 @@ returns-5 c =
     let c8 = c6 .before .before in
     let S = c8 .before .before .before .before in
     sym
-    (tests-pass (S .args .width) (S .args .levels) (S .args .value .now) (S .args .length .now) (S .args .hop .now) (S .args .words)
+    (tests-pass (S .args .width) (S .args .levels) (S .args .links) (S .args .value .now) (S .args .length .now) (S .args .hop .now) (S .args .words)
     (sym (c8 .is-outside .ensures) ∙ c6 .before .if1 .left) (sym (c6 .is-outside2 .ensures) ∙ c4 .before .if2 .left)
     (sym (c4 .check-table .ensures .0) ∙ c .before .before .enum-told .given .1) _ (c .before .node-count .ensures) (c .if3 .left))
 

@@ -10,7 +10,7 @@ same-length : tie.Need-same-length
 same-length c = search needs
 
 returns : tie.Need-returns
-returns c = let e = c .before .before .choose .ensures in (e, chosen-means _ _ _ _ _ _ _ e)
+returns c = let e = c .before .before .choose .ensures in (e, chosen-means _ _ _ _ _ _ _ _ e)
 
 pub choose-variable-spec : {M : Type 1} → statement M
 choose-variable-spec = tie.close (tie.spec choose-requires same-length returns)

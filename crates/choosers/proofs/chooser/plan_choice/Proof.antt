@@ -18,7 +18,7 @@ no-plan-requires c κs = search needs
 returns : tie.Need-returns
 returns c =
     let S = c .before .before .before .before .before .before .before .before .before in
-    let b = plan-refused _ (S .args .width) (S .args .levels) (S .args .value .now) (S .args .length .now) (S .args .hop .now) (S .args .scratch .now)
+    let b = plan-refused _ (S .args .width) (S .args .levels) (S .args .links) (S .args .value .now) (S .args .length .now) (S .args .hop .now) (S .args .scratch .now)
     (c .before .before .before .before .choose-outcome .ensures) (c .before .before .outcome .given .1) (c .no-plan .ensures .0) (c .no-plan .ensures .1 .0) (c .no-plan .ensures .1 .1) in
     (b, plan-means b)
 
@@ -28,7 +28,7 @@ enum-told c = search needs
 planned-requires : tie.Need-planned-requires
 planned-requires c κs =
     let S = c .before .before .before .before .before .before .before .before in
-    accepted-plan (S .args .width) (S .args .levels) (S .args .value .now) (S .args .length .now) (S .args .hop .now) (S .args .scratch .now)
+    accepted-plan (S .args .width) (S .args .levels) (S .args .links) (S .args .value .now) (S .args .length .now) (S .args .hop .now) (S .args .scratch .now)
     (λ i. omega (arith, c .before .before .before .before .before .shared-slice-known3 .given i, c .before .before .before .before .before .before .shared-slice-known2 .given i))
     (sym (c .before .before .before .choose-outcome .ensures) ∙ c .before .enum-told .given .1)
 
@@ -38,7 +38,7 @@ same-length c = search needs
 returns-2 : tie.Need-returns-2
 returns-2 c =
     let S = c .before .before .before .before .before .before .before .before .before .before .before in
-    let b = plan-accepted _ (S .args .width) (S .args .levels) (S .args .value .now) (S .args .length .now) (S .args .hop .now) (S .args .scratch .now)
+    let b = plan-accepted _ (S .args .width) (S .args .levels) (S .args .links) (S .args .value .now) (S .args .length .now) (S .args .hop .now) (S .args .scratch .now)
     (sym (c .before .before .before .before .before .before .choose-outcome .ensures) ∙ c .before .before .before .before .enum-told .given .1) (c .before .before .planned .ensures) in
     (b, plan-means b)
 
