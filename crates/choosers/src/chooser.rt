@@ -258,7 +258,16 @@ pub fn choose_fixed(
         Chooses fixed width levels links (now (value .entry)) (now (length .entry)) (now (hop .entry)) (now (scratch .entry)) (r .outcome) (r .cost)
         (r .strides) (now (scratch .exit)) ⌝ }
 {
-    choose(Kind::Fixed, width, levels, links, value, length, hop, scratch)
+    choose(
+        Kind::Fixed,
+        width,
+        levels,
+        links,
+        value,
+        length,
+        hop,
+        scratch,
+    )
 }
 
 // The same for a variable choice: of its strides only the root's is named.
@@ -278,5 +287,14 @@ pub fn choose_variable(
         Chooses variable width levels links (now (value .entry)) (now (length .entry)) (now (hop .entry)) (now (scratch .entry)) (r .outcome) (r .cost)
         (r .strides) (now (scratch .exit)) ⌝ }
 {
-    choose(Kind::Variable, width, levels, links, value, length, hop, scratch)
+    choose(
+        Kind::Variable,
+        width,
+        levels,
+        links,
+        value,
+        length,
+        hop,
+        scratch,
+    )
 }

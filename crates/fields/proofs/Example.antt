@@ -10,11 +10,11 @@ use lib.Dec.{ltb}
 use borrow.Author.Tests.{eq-eqb}
 use Rattle.table.specs.Limits.{outside}
 use Rattle.table.specs.Prefix.{start, startsWith, prefixBad}
-use Rattle.table.specs.Entry.{hopBad, below}
+use Rattle.table.specs.Entry.{unlinked, hopRefused, below}
 use Rattle.table.specs.Refusals.{outcome}
 use Rattle.table.specs.Table.{at, testsAt, eachTests}
 use Rattle.table.specs.Lists.{listed}
-use Rattle.table.specs.declared.entry.Outcome.the-variants.{Accepted}
+use Rattle.table.specs.declared.entry.Outcome.the-variants.{Accepted, Refused}
 use Rattle.fields.specs.Limits.{ruleLimit}
 use Rattle.fields.specs.Rules.{Rules, rules, rulesShapeBad, ruleBad, ruleBelow, ruleOrderBad, ruleListTests, ruleTests, checkRulesOf}
 use Rattle.fields.specs.Winning.{matchesRule, TopRule, NoRuleMatches}
@@ -25,9 +25,10 @@ use Rattle.fields.proofs.Runs.{runCount, runFrom}
 abbrev five : List ℕ
 five = 0 ∷ 1 ∷ 2 ∷ 3 ∷ 4 ∷ []
 
-pub example-accepted : checkRulesOf 3 exampleRules ≡ Accepted
-unfolding outside prefixBad hopBad below outcome testsAt eachTests rulesShapeBad ruleBad ruleBelow ruleOrderBad ruleListTests ruleTests checkRulesOf
-example-accepted = refl
+-- by a gateway with the four links of their actions; with three, the last rule is refused
+pub example-accepted : (checkRulesOf 3 4 exampleRules ≡ Accepted) × (checkRulesOf 3 3 exampleRules ≡ Refused 4 4)
+unfolding outside prefixBad unlinked hopRefused below outcome testsAt eachTests rulesShapeBad ruleBad ruleBelow ruleOrderBad ruleListTests ruleTests checkRulesOf
+example-accepted = (refl, refl)
 
 -- rule 3 stands below rule 4 by its destination, though its source stands above; rule 0 below rule 1 by its source
 pub example-order : (map (ruleBelow exampleRules 3) five ≡ false ∷ false ∷ false ∷ false ∷ true ∷ []) × (map (ruleBelow exampleRules 0) five ≡ false ∷ true ∷ true ∷ true ∷ true ∷ [])

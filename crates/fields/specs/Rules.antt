@@ -9,7 +9,7 @@ use lib.ListN.{length}
 use lib.Dec.{ltb, eqb}
 use Rattle.table.specs.Limits.{widthLimit}
 use Rattle.table.specs.Prefix.{prefixBad, IsPrefix}
-use Rattle.table.specs.Entry.{hopBad, below, Below}
+use Rattle.table.specs.Entry.{hopRefused, below, Below}
 use Rattle.table.specs.Refusals.{Test, test, outcome}
 use Rattle.table.specs.Table.{at, widthTest, testsAt, eachTests}
 use Rattle.table.specs.declared.entry.Outcome.{Outcome}
@@ -44,10 +44,10 @@ pub record SameLengths (rs : Rules) : Type 0 where
   pub slengths : length (rs .slens) ≡ ruleCount rs
   pub acts : length (rs .actions) ≡ ruleCount rs
 
--- 4: a destination or a source that is no prefix, or a bad action: "actions follow the hop rules of [4]"
-unfoldable pub ruleBad : ℕ → Rules → ℕ → Bool
-ruleBad W rs i =
-    prefixBad W (at (rs .dvals) i) (at (rs .dlens) i) || (prefixBad W (at (rs .svals) i) (at (rs .slens) i) || hopBad (at (rs .actions) i))
+-- 4: a destination or a source that is no prefix, or a bad action: "actions follow the hop rules of [4]", and of [7], "an entry or rule"
+unfoldable pub ruleBad : (W links : ℕ) → Rules → ℕ → Bool
+ruleBad W links rs i =
+    prefixBad W (at (rs .dvals) i) (at (rs .dlens) i) || (prefixBad W (at (rs .svals) i) (at (rs .slens) i) || hopRefused links (at (rs .actions) i))
 
 -- rule i stands below rule j: by destination value and length, then by source value and length
 unfoldable pub ruleBelow : Rules → ℕ → ℕ → Bool
@@ -68,22 +68,22 @@ unfoldable pub ruleOrderBad : Rules → ℕ → Bool
 ruleOrderBad rs i = ltb 0 i && not (ruleBelow rs (i - 1) i)
 
 -- 4 and 5 at rule i, 4 first, and at the m rules from i on
-abbrev pub ruleTestsAt : ℕ → Rules → ℕ → List Test
-ruleTestsAt W rs i = testsAt (ruleBad W rs) (ruleOrderBad rs) i
+abbrev pub ruleTestsAt : (W links : ℕ) → Rules → ℕ → List Test
+ruleTestsAt W links rs i = testsAt (ruleBad W links rs) (ruleOrderBad rs) i
 
-abbrev pub eachRuleTests : ℕ → Rules → ℕ → ℕ → List Test
-eachRuleTests W rs i m = eachTests (ruleBad W rs) (ruleOrderBad rs) i m
+abbrev pub eachRuleTests : (W links : ℕ) → Rules → ℕ → ℕ → List Test
+eachRuleTests W links rs i m = eachTests (ruleBad W links rs) (ruleOrderBad rs) i m
 
 -- 3, then 4 and 5 rule by rule
-unfoldable pub ruleListTests : ℕ → Rules → List Test
-ruleListTests W rs = test 3 0 (rulesShapeBad rs) ∷ eachRuleTests W rs 0 (ruleCount rs)
+unfoldable pub ruleListTests : (W links : ℕ) → Rules → List Test
+ruleListTests W links rs = test 3 0 (rulesShapeBad rs) ∷ eachRuleTests W links rs 0 (ruleCount rs)
 
 -- the check of rules tests 1, 3, 4, 5
-unfoldable pub ruleTests : ℕ → Rules → List Test
-ruleTests W rs = widthTest W ∷ ruleListTests W rs
+unfoldable pub ruleTests : (W links : ℕ) → Rules → List Test
+ruleTests W links rs = widthTest W ∷ ruleListTests W links rs
 
-unfoldable pub checkRulesOf : ℕ → Rules → Outcome
-checkRulesOf W rs = outcome (ruleTests W rs)
+unfoldable pub checkRulesOf : (W links : ℕ) → Rules → Outcome
+checkRulesOf W links rs = outcome (ruleTests W links rs)
 
 -- ---- what accepted rules are
 

@@ -4,7 +4,7 @@ ghost use mathlib.Core.List.{[]};
 ghost use Prim.Native.Nat.{_≤_, _<_};
 ghost use lib.ListN.{length};
 ghost use Rattle.table.specs.Limits.{widthLimit};
-ghost use Rattle.table.specs.Entry.{hopBad};
+ghost use Rattle.table.specs.Entry.{hopRefused};
 ghost use Rattle.table.specs.Refusals.{outcome, Gives};
 ghost use Rattle.table.specs.Table.{at, entryBad};
 ghost use Rattle.fields.specs.Rules.{rules, rulesShapeBad, SameLengths, ruleBelow, ruleTestsAt, eachRuleTests, ruleTests, checkRulesOf};
@@ -41,13 +41,13 @@ fn rules_shape_bad(
 }
 
 // Test 4 of one field of rule i and of its action: whether a table of that one entry is refused.
-fn field_bad(width: u32, vals: &[u32], lens: &[u8], actions: &[u16], i: usize) -> bool
+fn field_bad(width: u32, links: u16, vals: &[u32], lens: &[u8], actions: &[u16], i: usize) -> bool
     requires { ⌜ (0 < width) × (width ≤ widthLimit) ⌝ }
     requires { ⌜ (i < length (now vals)) × (i < length (now lens)) × (i < length (now actions)) ⌝ }
-    ensures { λ r. ⌜ r ≡ entryBad hopBad width (at (now (vals .entry))) (at (now (lens .entry))) (at (now (actions .entry))) i ⌝ }
+    ensures { λ r. ⌜ r ≡ entryBad (hopRefused links) width (at (now (vals .entry))) (at (now (lens .entry))) (at (now (actions .entry))) i ⌝ }
 {
     let end = i + 1;
-    let checked = check_table(width, &vals[i..end], &lens[i..end], &actions[i..end]);
+    let checked = check_table(width, links, &vals[i..end], &lens[i..end], &actions[i..end]);
     match checked {
         Outcome::Accepted => false,
         Outcome::Refused {
@@ -85,6 +85,7 @@ fn is_rule_below(
 // Tests 4 and 5 at rule i, 4 first.
 fn rule_outcome(
     width: u32,
+    links: u16,
     dvals: &[u32],
     dlens: &[u8],
     svals: &[u32],
@@ -95,16 +96,16 @@ fn rule_outcome(
     requires { ⌜ (0 < width) × (width ≤ widthLimit) ⌝ }
     requires { ⌜ SameLengths (rules (now dvals) (now dlens) (now svals) (now slens) (now actions)) × (i < length (now dvals)) ⌝ }
     ensures { λ r. ⌜
-        r ≡ outcome (ruleTestsAt width (rules (now (dvals .entry)) (now (dlens .entry)) (now (svals .entry)) (now (slens .entry)) (now (actions .entry))) i) ⌝ }
+        r ≡ outcome (ruleTestsAt width links (rules (now (dvals .entry)) (now (dlens .entry)) (now (svals .entry)) (now (slens .entry)) (now (actions .entry))) i) ⌝ }
 {
     let bad = Outcome::Refused {
         number: 4,
         detail: i as u64,
     };
-    if field_bad(width, dvals, dlens, actions, i) {
+    if field_bad(width, links, dvals, dlens, actions, i) {
         return bad;
     }
-    if field_bad(width, svals, slens, actions, i) {
+    if field_bad(width, links, svals, slens, actions, i) {
         return bad;
     }
     if i == 0 {
@@ -122,6 +123,7 @@ fn rule_outcome(
 // Tests 4 and 5 rule by rule: the lowest index is reported.
 fn rules_outcome(
     width: u32,
+    links: u16,
     dvals: &[u32],
     dlens: &[u8],
     svals: &[u32],
@@ -132,13 +134,13 @@ fn rules_outcome(
     requires { ⌜ SameLengths (rules (now dvals) (now dlens) (now svals) (now slens) (now actions)) ⌝ }
     ensures { λ r. ⌜
         r ≡ outcome
-        (eachRuleTests width (rules (now (dvals .entry)) (now (dlens .entry)) (now (svals .entry)) (now (slens .entry)) (now (actions .entry))) 0
+        (eachRuleTests width links (rules (now (dvals .entry)) (now (dlens .entry)) (now (svals .entry)) (now (slens .entry)) (now (actions .entry))) 0
         (length (now (dvals .entry)))) ⌝ }
 {
     let n = dvals.len();
     let mut i = 0;
     while i < n {
-        let r = rule_outcome(width, dvals, dlens, svals, slens, actions, i);
+        let r = rule_outcome(width, links, dvals, dlens, svals, slens, actions, i);
         if let Outcome::Refused { number, detail } = r {
             return Outcome::Refused { number, detail };
         }
@@ -147,10 +149,11 @@ fn rules_outcome(
     Outcome::Accepted
 }
 
-// Says whether five lists are rules of the width: accepted, or the first refusal among 1, 3, 4 (detail: the rule's index) and 5 (the
-// same). It changes nothing.
+// Says whether five lists are rules of the width for a gateway with so many links: accepted, or the first refusal among 1, 3, 4 (detail:
+// the rule's index) and 5 (the same). It changes nothing.
 pub fn check_rules(
     width: u32,
+    links: u16,
     dvals: &[u32],
     dlens: &[u8],
     svals: &[u32],
@@ -158,9 +161,9 @@ pub fn check_rules(
     actions: &[u16],
 ) -> Outcome
     ensures exact { λ r. ⌜
-        r ≡ checkRulesOf width (rules (now (dvals .entry)) (now (dlens .entry)) (now (svals .entry)) (now (slens .entry)) (now (actions .entry))) ⌝ }
+        r ≡ checkRulesOf width links (rules (now (dvals .entry)) (now (dlens .entry)) (now (svals .entry)) (now (slens .entry)) (now (actions .entry))) ⌝ }
     ensures meaning { λ r. ⌜
-        Gives (ruleTests width (rules (now (dvals .entry)) (now (dlens .entry)) (now (svals .entry)) (now (slens .entry)) (now (actions .entry)))) r ⌝ }
+        Gives (ruleTests width links (rules (now (dvals .entry)) (now (dlens .entry)) (now (svals .entry)) (now (slens .entry)) (now (actions .entry)))) r ⌝ }
 {
     if is_outside(width, WIDTH) {
         return Outcome::Refused {
@@ -174,5 +177,5 @@ pub fn check_rules(
             detail: 0,
         };
     }
-    rules_outcome(width, dvals, dlens, svals, slens, actions)
+    rules_outcome(width, links, dvals, dlens, svals, slens, actions)
 }

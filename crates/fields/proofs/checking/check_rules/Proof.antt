@@ -13,7 +13,7 @@ is-outside-requires c κs = search needs
 
 returns : tie.Need-returns
 unfolding checkRulesOf ruleTests outcome
-returns c = check-rules-means _ _ (simp (sym (c .before .is-outside .ensures) ∙ c .if1 .taken))
+returns c = check-rules-means _ _ _ (simp (sym (c .before .is-outside .ensures) ∙ c .if1 .taken))
 
 rules-shape-bad-requires : tie.Need-rules-shape-bad-requires
 rules-shape-bad-requires c κs = search needs
@@ -21,8 +21,8 @@ rules-shape-bad-requires c κs = search needs
 returns-2 : tie.Need-returns-2
 returns-2 c =
     let w = c .before .before in
-    check-rules-means _ _
-    (sym (check-rules-shape _ _ (sym (w .before .is-outside .ensures) ∙ w .if1 .left) (sym (c .before .rules-shape-bad .ensures) ∙ c .if2 .taken)))
+    check-rules-means _ _ _
+    (sym (check-rules-shape _ _ _ (sym (w .before .is-outside .ensures) ∙ w .if1 .left) (sym (c .before .rules-shape-bad .ensures) ∙ c .if2 .taken)))
 
 rules-outcome-requires : tie.Need-rules-outcome-requires
 rules-outcome-requires c κs =
@@ -33,9 +33,9 @@ returns-3 : tie.Need-returns-3
 returns-3 c =
     let d = c .before in
     let w = d .before .before in
-    check-rules-means _ _
+    check-rules-means _ _ _
     (c .rules-outcome .ensures
-    ∙ sym (check-rules-each _ _ (sym (w .before .is-outside .ensures) ∙ w .if1 .left) (sym (d .before .rules-shape-bad .ensures) ∙ d .if2 .left)))
+    ∙ sym (check-rules-each _ _ _ (sym (w .before .is-outside .ensures) ∙ w .if1 .left) (sym (d .before .rules-shape-bad .ensures) ∙ d .if2 .left)))
 
 pub check-rules-spec : {M : Type 1} → statement M
 check-rules-spec =

@@ -52,12 +52,12 @@ enum-told-2 c = search needs
 returns : tie.Need-returns
 returns c =
     let s = c .before .before .before .before .before .before .before .before .before in
-    part-accepted _ _ _ _ (s .args .i) (s .pre .0) (s .pre .1) (sym (c .before .before .check-table .ensures .0) ∙ c .enum-told .given .1)
+    part-accepted _ _ _ _ _ (s .args .i) (s .pre .0) (s .pre .1) (sym (c .before .before .check-table .ensures .0) ∙ c .enum-told .given .1)
 
 returns-2 : tie.Need-returns-2
 returns-2 c =
     let s = c .before .before .before .before .before .before .before .before .before in
-    part-refused _ _ _ _ (s .args .i) (s .pre .0) (s .pre .1) (sym (c .before .before .check-table .ensures .0) ∙ c .enum-told2 .given .1)
+    part-refused _ _ _ _ _ (s .args .i) (s .pre .0) (s .pre .1) (sym (c .before .before .check-table .ensures .0) ∙ c .enum-told2 .given .1)
 
 pub field-bad-spec : {M : Type 1} → statement M
 field-bad-spec =

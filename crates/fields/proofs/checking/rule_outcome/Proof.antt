@@ -9,7 +9,7 @@ field-bad-requires : tie.Need-field-bad-requires
 field-bad-requires c κs = search needs
 
 returns : tie.Need-returns
-returns c = dest-fails _ _ _ (sym (c .if1 .taken) ∙ c .before .field-bad .ensures)
+returns c = dest-fails _ _ _ _ (sym (c .if1 .taken) ∙ c .before .field-bad .ensures)
 
 field-bad-requires-2 : tie.Need-field-bad-requires-2
 field-bad-requires-2 c κs = search needs
@@ -17,13 +17,13 @@ field-bad-requires-2 c κs = search needs
 returns-2 : tie.Need-returns-2
 returns-2 c =
     let d = c .before .before in
-    source-fails _ _ _ (sym (d .if1 .left) ∙ d .before .field-bad .ensures) (sym (c .if2 .taken) ∙ c .before .field-bad2 .ensures)
+    source-fails _ _ _ _ (sym (d .if1 .left) ∙ d .before .field-bad .ensures) (sym (c .if2 .taken) ∙ c .before .field-bad2 .ensures)
 
 returns-3 : tie.Need-returns-3
 returns-3 c =
     let e = c .before in
     let d = e .before .before in
-    first-in-order _ _ _ (sym (d .if1 .left) ∙ d .before .field-bad .ensures) (sym (e .if2 .left) ∙ e .before .field-bad2 .ensures) (c .if3 .taken)
+    first-in-order _ _ _ _ (sym (d .if1 .left) ∙ d .before .field-bad .ensures) (sym (e .if2 .left) ∙ e .before .field-bad2 .ensures) (c .if3 .taken)
 
 sub-is-rule-below : tie.Need-sub-is-rule-below
 sub-is-rule-below c = search needs
@@ -36,7 +36,7 @@ returns-4 c =
     let b = c .before .before in
     let e = b .before in
     let d = e .before .before in
-    place-passes _ _ _ (sym (d .if1 .left) ∙ d .before .field-bad .ensures) (sym (e .if2 .left) ∙ e .before .field-bad2 .ensures) (b .if3 .left)
+    place-passes _ _ _ _ (sym (d .if1 .left) ∙ d .before .field-bad .ensures) (sym (e .if2 .left) ∙ e .before .field-bad2 .ensures) (b .if3 .left)
     (sym (c .before .is-rule-below .ensures) ∙ c .if4 .taken)
 
 returns-5 : tie.Need-returns-5
@@ -44,7 +44,7 @@ returns-5 c =
     let b = c .before .before in
     let e = b .before in
     let d = e .before .before in
-    place-fails _ _ _ (sym (d .if1 .left) ∙ d .before .field-bad .ensures) (sym (e .if2 .left) ∙ e .before .field-bad2 .ensures) (b .if3 .left)
+    place-fails _ _ _ _ (sym (d .if1 .left) ∙ d .before .field-bad .ensures) (sym (e .if2 .left) ∙ e .before .field-bad2 .ensures) (b .if3 .left)
     (sym (c .before .is-rule-below .ensures) ∙ c .if4 .left)
 
 pub rule-outcome-spec : {M : Type 1} → statement M

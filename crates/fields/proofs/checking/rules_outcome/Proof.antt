@@ -11,12 +11,12 @@ use Rattle.fields.proofs.checking.rules_outcome.Statement.{statement}
 use Rattle.fields.proofs.checking.rules_outcome.Tie as tie
 
 abbrev Inv-loop : tie.InvT-loop
-Inv-loop width dvals dlens svals slens actions n i₀ i =
+Inv-loop width links dvals dlens svals slens actions n i₀ i =
     let rs = rules dvals dlens svals slens actions in
-    (i ≤ n) × (outcome (eachRuleTests width rs 0 n) ≡ outcome (eachRuleTests width rs i (n - i)))
+    (i ≤ n) × (outcome (eachRuleTests width links rs 0 n) ≡ outcome (eachRuleTests width links rs i (n - i)))
 
 abbrev μ-loop : tie.MeasureT-loop
-μ-loop width dvals dlens svals slens actions n i₀ i = n - i
+μ-loop width links dvals dlens svals slens actions n i₀ i = n - i
 
 loop-holds : tie.Need-loop-holds Inv-loop μ-loop
 loop-holds c = (omega arith, rw sub-zero)
