@@ -132,17 +132,17 @@ module _ {W : ℕ} {vs ls hs scratch : List ℕ} (g : FitTable W vs ls hs scratc
           }
 
 -- ---- the whole build
-module _ (W : ℕ) (vs ls hs scratch : List ℕ) (rows : RowLists) (hops : List ℕ) where
+module _ (W links : ℕ) (vs ls hs scratch : List ℕ) (rows : RowLists) (hops : List ℕ) where
   abbrev rest : List Test
   rest = bitmapRoomTests W (tableBinary W vs ls hs) (rowRoom rows) (length hops)
 
-  all-tests : outcome (bitmapTests W vs ls hs (length scratch) (rowRoom rows) (length hops)) ≡ andThen (outcome (upToScratch W vs ls hs (length scratch))) (outcome rest)
+  all-tests : outcome (bitmapTests W links vs ls hs (length scratch) (rowRoom rows) (length hops)) ≡ andThen (outcome (upToScratch W links vs ls hs (length scratch))) (outcome rest)
   unfolding bitmapTests
-  all-tests = outcome-append (upToScratch W vs ls hs (length scratch)) rest
+  all-tests = outcome-append (upToScratch W links vs ls hs (length scratch)) rest
 
   -- refused by 1 to 6
-  pub early-bitmap : {out res : Outcome} {n d : ℕ} {rec : Bitmap} → res ≡ outcome (upToScratch W vs ls hs (length scratch)) → res ≡ Refused n d → out ≡ Refused n d
-      → NoBitmap rec → BitmapIs W vs ls hs scratch rows hops out rec scratch rows hops
+  pub early-bitmap : {out res : Outcome} {n d : ℕ} {rec : Bitmap} → res ≡ outcome (upToScratch W links vs ls hs (length scratch)) → res ≡ Refused n d → out ≡ Refused n d
+      → NoBitmap rec → BitmapIs W links vs ls hs scratch rows hops out rec scratch rows hops
   unfolding andThen
   early-bitmap e f o z =
       let c = sym e ∙ f in
@@ -154,9 +154,9 @@ module _ (W : ℕ) (vs ls hs scratch : List ℕ) (rows : RowLists) (hops : List 
       }
 
   -- past them
-  pub past-scratch : {out res : Outcome} {rec : Bitmap} {scratch′ : List ℕ} {rows′ : RowLists} {hops′ : List ℕ} → res ≡ outcome (upToScratch W vs ls hs (length scratch))
+  pub past-scratch : {out res : Outcome} {rec : Bitmap} {scratch′ : List ℕ} {rows′ : RowLists} {hops′ : List ℕ} → res ≡ outcome (upToScratch W links vs ls hs (length scratch))
       → res ≡ Accepted → BitmapFilled W vs ls hs rows hops out rec rows′ hops′ → scratch′ ≡ replicate (length scratch) 0
-      → BitmapIs W vs ls hs scratch rows hops out rec scratch′ rows′ hops′
+      → BitmapIs W links vs ls hs scratch rows hops out rec scratch′ rows′ hops′
   unfolding andThen
   past-scratch e f b z =
       let c = sym e ∙ f in
@@ -168,11 +168,11 @@ module _ (W : ℕ) (vs ls hs scratch : List ℕ) (rows : RowLists) (hops : List 
       }
 
   -- and what it means
-  pub bitmap-means : {out : Outcome} {rec : Bitmap} {scratch′ : List ℕ} {rows′ : RowLists} {hops′ : List ℕ} → BitmapIs W vs ls hs scratch rows hops out rec scratch′ rows′ hops′
-      → BuildsBitmap W vs ls hs scratch rows hops out rec scratch′ rows′ hops′
+  pub bitmap-means : {out : Outcome} {rec : Bitmap} {scratch′ : List ℕ} {rows′ : RowLists} {hops′ : List ℕ} → BitmapIs W links vs ls hs scratch rows hops out rec scratch′ rows′ hops′
+      → BuildsBitmap W links vs ls hs scratch rows hops out rec scratch′ rows′ hops′
   bitmap-means b =
-      let ts = bitmapTests W vs ls hs (length scratch) (rowRoom rows) (length hops) in
-      let us = upToScratch W vs ls hs (length scratch) in
+      let ts = bitmapTests W links vs ls hs (length scratch) (rowRoom rows) (length hops) in
+      let us = upToScratch W links vs ls hs (length scratch) in
       record {
         tested = subst (Gives ts) (sym (b .tests)) (outcome-gives ts);
         laid = b .written .laid;

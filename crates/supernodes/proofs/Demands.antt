@@ -38,33 +38,33 @@ use Rattle.visits.proofs.Laid.{bitmap-not-refused, laid-bitmap-longest, no-bitm
 use Rattle.supernodes.specs.Build.{nodesTest, upToScratch, bitmapRoomTests, bitmapTests, NoBitmap, BuildsBitmap}
 
 -- ---- every test has its number
-pub numbered-scratch : (most : ℕ) → 6 ≤ most → (W : ℕ) (vs ls hs : List ℕ) (words : ℕ) → Numbered most (upToScratch W vs ls hs words)
+pub numbered-scratch : (most : ℕ) → 6 ≤ most → (W links : ℕ) (vs ls hs : List ℕ) (words : ℕ) → Numbered most (upToScratch W links vs ls hs words)
 unfolding upToScratch
-numbered-scratch most h W vs ls hs words =
-    numbered-append most (tableTests W vs ls hs) (nodesTest (tableBinary W vs ls hs) words ∷ []) (numbered-table most (omega arith) W vs ls hs) ((omega arith, h), tt)
+numbered-scratch most h W links vs ls hs words =
+    numbered-append most (tableTests W links vs ls hs) (nodesTest (tableBinary W vs ls hs) words ∷ []) (numbered-table most (omega arith) W links vs ls hs) ((omega arith, h), tt)
 
-pub numbered-bitmap : (W : ℕ) (vs ls hs : List ℕ) (words room hopRoom : ℕ) → Numbered 7 (bitmapTests W vs ls hs words room hopRoom)
+pub numbered-bitmap : (W links : ℕ) (vs ls hs : List ℕ) (words room hopRoom : ℕ) → Numbered 7 (bitmapTests W links vs ls hs words room hopRoom)
 unfolding bitmapTests bitmapRoomTests
-numbered-bitmap W vs ls hs words room hopRoom =
-    numbered-append 7 (upToScratch W vs ls hs words) (bitmapRoomTests W (tableBinary W vs ls hs) room hopRoom) (numbered-scratch 7 (omega arith) W vs ls hs words)
+numbered-bitmap W links vs ls hs words room hopRoom =
+    numbered-append 7 (upToScratch W links vs ls hs words) (bitmapRoomTests W (tableBinary W vs ls hs) room hopRoom) (numbered-scratch 7 (omega arith) W links vs ls hs words)
     ((omega arith, omega arith), ((omega arith, omega arith), tt))
 
 -- ==== demand 1: bad input is refused by number, in a fixed order; the numbers say what is returned and what each list then holds
 
-module _ {W : ℕ} {vs ls hs scratch : List ℕ} {rows : RowLists} {hops : List ℕ} {out : Outcome} {rec : Bitmap} {s : List ℕ} {rows′ : RowLists} {hops′ : List ℕ}
-    (b : BuildsBitmap W vs ls hs scratch rows hops out rec s rows′ hops′) where
+module _ {W links : ℕ} {vs ls hs scratch : List ℕ} {rows : RowLists} {hops : List ℕ} {out : Outcome} {rec : Bitmap} {s : List ℕ} {rows′ : RowLists} {hops′ : List ℕ}
+    (b : BuildsBitmap W links vs ls hs scratch rows hops out rec s rows′ hops′) where
   abbrev tests : List Test
-  tests = upToScratch W vs ls hs (length scratch)
+  tests = upToScratch W links vs ls hs (length scratch)
 
   abbrev roomTests : List Test
   roomTests = bitmapRoomTests W (tableBinary W vs ls hs) (rowRoom rows) (length hops)
 
   -- an outcome is given exactly when the tests, in order, give it
-  pub bitmap-first : (o : Outcome) → (out ≡ o) ↔ Gives (bitmapTests W vs ls hs (length scratch) (rowRoom rows) (length hops)) o
-  bitmap-first = given-exactly (bitmapTests W vs ls hs (length scratch) (rowRoom rows) (length hops)) (b .tested)
+  pub bitmap-first : (o : Outcome) → (out ≡ o) ↔ Gives (bitmapTests W links vs ls hs (length scratch) (rowRoom rows) (length hops)) o
+  bitmap-first = given-exactly (bitmapTests W links vs ls hs (length scratch) (rowRoom rows) (length hops)) (b .tested)
 
-  all-tests : out ≡ outcome (bitmapTests W vs ls hs (length scratch) (rowRoom rows) (length hops))
-  all-tests = gives-outcome (bitmapTests W vs ls hs (length scratch) (rowRoom rows) (length hops)) out (b .tested)
+  all-tests : out ≡ outcome (bitmapTests W links vs ls hs (length scratch) (rowRoom rows) (length hops))
+  all-tests = gives-outcome (bitmapTests W links vs ls hs (length scratch) (rowRoom rows) (length hops)) out (b .tested)
 
   -- refusals 1 to 6 change no list
   pub bitmap-refused-early : {n d : ℕ} → Gives tests (Refused n d)
@@ -91,7 +91,7 @@ module _ {W : ℕ} {vs ls hs scratch : List ℕ} {rows : RowLists} {hops : List 
       go Accepted p = subst (Gives tests) p (outcome-gives tests)
       go (Refused n x) p =
           let g = subst (Gives tests) p (outcome-gives tests) in
-          absurd (omega (arith, refused-number 6 tests n x (numbered-scratch 6 (omega arith) W vs ls hs (length scratch)) g, ap outcomeNumber (sym (bitmap-refused-early g .0) ∙ e)))
+          absurd (omega (arith, refused-number 6 tests n x (numbered-scratch 6 (omega arith) W links vs ls hs (length scratch)) g, ap outcomeNumber (sym (bitmap-refused-early g .0) ∙ e)))
 
   -- an accepted build zeroes all scratch, writes the rows and hops that its record counts, and keeps later ones
   pub bitmap-accepted : out ≡ Accepted → (s ≡ replicate (length scratch) 0) × ((i : ℕ) → rec .supernodes ≤ i → supernodeAt rows′ i ≡ supernodeAt rows i)
@@ -167,8 +167,8 @@ module _ {most : ℕ} {rec : Bitmap} {rows : RowLists} {hops : List ℕ} {a : �
 
 -- ==== demands 2 and 3 over one accepted build, and a lookup over what it left
 
-module _ {W : ℕ} {vs ls hs scratch : List ℕ} {rows : RowLists} {hops : List ℕ} {out : Outcome} {rec : Bitmap} {s : List ℕ} {rows′ : RowLists} {hops′ : List ℕ}
-    (b : BuildsBitmap W vs ls hs scratch rows hops out rec s rows′ hops′) (e : out ≡ Accepted) where
+module _ {W links : ℕ} {vs ls hs scratch : List ℕ} {rows : RowLists} {hops : List ℕ} {out : Outcome} {rec : Bitmap} {s : List ℕ} {rows′ : RowLists} {hops′ : List ℕ}
+    (b : BuildsBitmap W links vs ls hs scratch rows hops out rec s rows′ hops′) (e : out ≡ Accepted) where
   -- as many hops as entries
   pub bitmap-hops : rec .hops ≡ length vs
   bitmap-hops = let g = b .laid e in g .built .hop-count ∙ ap (λ (w : ℕ). length (bitmapHops w (tableBinary W vs ls hs))) (g .width) ∙ hops-are-entries W vs ls hs (g .table)

@@ -31,44 +31,44 @@ use Rattle.supernodes.proofs.Growing.{link-is}
 use Rattle.supernodes.proofs.Linking.{whole-span, whole-tree, whole-count, packed-nodes, root-tree}
 
 -- ---- the tests
-module _ (W : ℕ) (vs ls hs : List ℕ) (words : ℕ) where
-  scratch-rest : outcome (upToScratch W vs ls hs words) ≡ andThen (checkOf W vs ls hs) (outcome (nodesTest (tableBinary W vs ls hs) words ∷ []))
+module _ (W links : ℕ) (vs ls hs : List ℕ) (words : ℕ) where
+  scratch-rest : outcome (upToScratch W links vs ls hs words) ≡ andThen (checkOf W links vs ls hs) (outcome (nodesTest (tableBinary W vs ls hs) words ∷ []))
   unfolding upToScratch checkOf
-  scratch-rest = outcome-append (tableTests W vs ls hs) (nodesTest (tableBinary W vs ls hs) words ∷ [])
+  scratch-rest = outcome-append (tableTests W links vs ls hs) (nodesTest (tableBinary W vs ls hs) words ∷ [])
 
-  pub scratch-early : {r : Outcome} {n d : ℕ} → r ≡ checkOf W vs ls hs → r ≡ Refused n d → Refused n d ≡ outcome (upToScratch W vs ls hs words)
+  pub scratch-early : {r : Outcome} {n d : ℕ} → r ≡ checkOf W links vs ls hs → r ≡ Refused n d → Refused n d ≡ outcome (upToScratch W links vs ls hs words)
   unfolding andThen
   scratch-early e f = let c = sym e ∙ f in sym (scratch-rest ∙ rw c refl)
 
-  module _ {r : Outcome} (e : r ≡ checkOf W vs ls hs) (f : r ≡ Accepted) where
+  module _ {r : Outcome} (e : r ≡ checkOf W links vs ls hs) (f : r ≡ Accepted) where
     checked-table : Table W vs ls hs
-    checked-table = accepted-table W vs ls hs (sym e ∙ f)
+    checked-table = accepted-table W links vs ls hs (sym e ∙ f)
 
     pub checked-ask : CountAsk W vs ls 0 0 (length vs)
     checked-ask = (0, whole-span W vs ls hs checked-table)
 
     module _ {c : ℕ} (q : CountedNodes W vs ls 0 0 (length vs) c) where
-      pub scratch-short : words / NODE-ROW < c → Refused 6 c ≡ outcome (upToScratch W vs ls hs words)
+      pub scratch-short : words / NODE-ROW < c → Refused 6 c ≡ outcome (upToScratch W links vs ls hs words)
       unfolding andThen
       scratch-short h =
           let n = whole-count W vs ls hs c checked-table q in
           let fails = outcome-fails (nodesTest (tableBinary W vs ls hs) words) [] (rw (← n) (lt-ltb (words / NODE-ROW) c h)) in
           ap (λ (m : ℕ). Refused 6 m) n ∙ sym (scratch-rest ∙ rw (sym e ∙ f) fails)
 
-      pub scratch-passes : c ≤ words / NODE-ROW → Accepted ≡ outcome (upToScratch W vs ls hs words)
+      pub scratch-passes : c ≤ words / NODE-ROW → Accepted ≡ outcome (upToScratch W links vs ls hs words)
       unfolding andThen outcome
       scratch-passes h =
           let n = whole-count W vs ls hs c checked-table q in
           sym (scratch-rest ∙ rw (sym e ∙ f) (outcome-passes (nodesTest (tableBinary W vs ls hs) words) [] (rw (← n) (le-ltb (words / NODE-ROW) c h))))
 
 -- ---- a table that passes
-pub fit-table : (W : ℕ) (vs ls hs scratch : List ℕ) → ((i : ℕ) → at hs i < HOPS) → outcome (upToScratch W vs ls hs (length scratch)) ≡ Accepted → FitTable W vs ls hs scratch
+pub fit-table : (W links : ℕ) (vs ls hs scratch : List ℕ) → ((i : ℕ) → at hs i < HOPS) → outcome (upToScratch W links vs ls hs (length scratch)) ≡ Accepted → FitTable W vs ls hs scratch
 unfolding upToScratch checkOf
-fit-table W vs ls hs scratch small e =
+fit-table W links vs ls hs scratch small e =
     let t = tableBinary W vs ls hs in
-    let p = accepted-parts (tableTests W vs ls hs) (nodesTest t (length scratch) ∷ []) e in
+    let p = accepted-parts (tableTests W links vs ls hs) (nodesTest t (length scratch) ∷ []) e in
     let s = ltb-false (length scratch / NODE-ROW) (binaryNodes t) (accepted-passes (nodesTest t (length scratch)) [] (p .1) .0) in
-    record { table = accepted-table W vs ls hs (p .0); small = small; room = omega arith }
+    record { table = accepted-table W links vs ls hs (p .0); small = small; room = omega arith }
 
 -- ---- its marks are hops
 abbrev SmallMarks : BinaryTrie → Type 0

@@ -39,19 +39,19 @@ bitmap-same r s w n h =
 row-lists-same : {a a′ b b′ c c′ d d′ : List ℕ} → a ≡ a′ → b ≡ b′ → c ≡ c′ → d ≡ d′ → rowLists a b c d ≡ rowLists a′ b′ c′ d′
 row-lists-same p q r s = rw (p, q, r, s)
 
-module _ (W : ℕ) (vs ls hs scratch : List ℕ) (rows : RowLists) (hops : List ℕ) {out out′ : Outcome} {rec rec′ : Bitmap} {s s′ : List ℕ} {rows1 rows2 : RowLists}
-    {hops1 hops2 : List ℕ} (c : BuildsBitmap W vs ls hs scratch rows hops out rec s rows1 hops1) (d : BuildsBitmap W vs ls hs scratch rows hops out′ rec′ s′ rows2 hops2) where
+module _ (W links : ℕ) (vs ls hs scratch : List ℕ) (rows : RowLists) (hops : List ℕ) {out out′ : Outcome} {rec rec′ : Bitmap} {s s′ : List ℕ} {rows1 rows2 : RowLists}
+    {hops1 hops2 : List ℕ} (c : BuildsBitmap W links vs ls hs scratch rows hops out rec s rows1 hops1) (d : BuildsBitmap W links vs ls hs scratch rows hops out′ rec′ s′ rows2 hops2) where
   abbrev t : BinaryTrie
   t = tableBinary W vs ls hs
 
   one-outcome : out ≡ out′
-  one-outcome = gives-unique (bitmapTests W vs ls hs (length scratch) (rowRoom rows) (length hops)) out out′ (c .tested) (d .tested)
+  one-outcome = gives-unique (bitmapTests W links vs ls hs (length scratch) (rowRoom rows) (length hops)) out out′ (c .tested) (d .tested)
 
   one-scratch : s ≡ s′
   one-scratch = go (outcome tests) refl
     where
       tests : List Test
-      tests = upToScratch W vs ls hs (length scratch)
+      tests = upToScratch W links vs ls hs (length scratch)
 
       go : (o : Outcome) → outcome tests ≡ o → s ≡ s′
       go Accepted e = let a = subst (Gives tests) e (outcome-gives tests) in c .zeroed a ∙ sym (d .zeroed a)

@@ -31,14 +31,14 @@ abbrev pub hopsTest : (W : ℕ) (t : BinaryTrie) (room : ℕ) → Test
 hopsTest W t room = test 7 (length (bitmapHops W t)) (ltb room (length (bitmapHops W t)))
 
 -- 1, 3, 4, 5, 6; both of 7; all, where scratch has so many words, the shortest row list so much room, and the hop list so much
-unfoldable pub upToScratch : (W : ℕ) (vs ls hs : List ℕ) (words : ℕ) → List Test
-upToScratch W vs ls hs words = tableTests W vs ls hs ++ (nodesTest (tableBinary W vs ls hs) words ∷ [])
+unfoldable pub upToScratch : (W links : ℕ) (vs ls hs : List ℕ) (words : ℕ) → List Test
+upToScratch W links vs ls hs words = tableTests W links vs ls hs ++ (nodesTest (tableBinary W vs ls hs) words ∷ [])
 
 unfoldable pub bitmapRoomTests : (W : ℕ) (t : BinaryTrie) (room hopRoom : ℕ) → List Test
 bitmapRoomTests W t room hopRoom = supernodesTest W t room ∷ hopsTest W t hopRoom ∷ []
 
-unfoldable pub bitmapTests : (W : ℕ) (vs ls hs : List ℕ) (words room hopRoom : ℕ) → List Test
-bitmapTests W vs ls hs words room hopRoom = upToScratch W vs ls hs words ++ bitmapRoomTests W (tableBinary W vs ls hs) room hopRoom
+unfoldable pub bitmapTests : (W links : ℕ) (vs ls hs : List ℕ) (words room hopRoom : ℕ) → List Test
+bitmapTests W links vs ls hs words room hopRoom = upToScratch W links vs ls hs words ++ bitmapRoomTests W (tableBinary W vs ls hs) room hopRoom
 
 -- ---- the answer
 
@@ -72,18 +72,18 @@ pub record BitmapFilled (W : ℕ) (vs ls hs : List ℕ) (rows : RowLists) (hops 
   pub written : BitmapWritten W vs ls hs rows hops out rec rows′ hops′
 
 -- the exact answer: all tests, then the rows; scratch is zeroed past test 6
-pub record BitmapIs (W : ℕ) (vs ls hs scratch : List ℕ) (rows : RowLists) (hops : List ℕ) (out : Outcome) (rec : Bitmap) (scratch′ : List ℕ)
+pub record BitmapIs (W links : ℕ) (vs ls hs scratch : List ℕ) (rows : RowLists) (hops : List ℕ) (out : Outcome) (rec : Bitmap) (scratch′ : List ℕ)
     (rows′ : RowLists) (hops′ : List ℕ) : Type 0 where
-  pub tests : out ≡ outcome (bitmapTests W vs ls hs (length scratch) (rowRoom rows) (length hops))
-  pub zeroed : outcome (upToScratch W vs ls hs (length scratch)) ≡ Accepted → scratch′ ≡ replicate (length scratch) 0
-  pub untouched : (outcome (upToScratch W vs ls hs (length scratch)) ≡ Accepted → ⊥) → scratch′ ≡ scratch
+  pub tests : out ≡ outcome (bitmapTests W links vs ls hs (length scratch) (rowRoom rows) (length hops))
+  pub zeroed : outcome (upToScratch W links vs ls hs (length scratch)) ≡ Accepted → scratch′ ≡ replicate (length scratch) 0
+  pub untouched : (outcome (upToScratch W links vs ls hs (length scratch)) ≡ Accepted → ⊥) → scratch′ ≡ scratch
   pub written : BitmapWritten W vs ls hs rows hops out rec rows′ hops′
 
 -- what it means: the first test that fails; accepted, the rows and hops of the table's supernodes; scratch unchanged by 1 to 6, else all zero
-pub record BuildsBitmap (W : ℕ) (vs ls hs scratch : List ℕ) (rows : RowLists) (hops : List ℕ) (out : Outcome) (rec : Bitmap) (scratch′ : List ℕ)
+pub record BuildsBitmap (W links : ℕ) (vs ls hs scratch : List ℕ) (rows : RowLists) (hops : List ℕ) (out : Outcome) (rec : Bitmap) (scratch′ : List ℕ)
     (rows′ : RowLists) (hops′ : List ℕ) : Type 0 where
-  pub tested : Gives (bitmapTests W vs ls hs (length scratch) (rowRoom rows) (length hops)) out
+  pub tested : Gives (bitmapTests W links vs ls hs (length scratch) (rowRoom rows) (length hops)) out
   pub laid : out ≡ Accepted → LaidBitmap WIDTH W vs ls hs rec rows′ hops′
-  pub zeroed : Gives (upToScratch W vs ls hs (length scratch)) Accepted → scratch′ ≡ replicate (length scratch) 0
-  pub untouched : (Gives (upToScratch W vs ls hs (length scratch)) Accepted → ⊥) → scratch′ ≡ scratch
+  pub zeroed : Gives (upToScratch W links vs ls hs (length scratch)) Accepted → scratch′ ≡ replicate (length scratch) 0
+  pub untouched : (Gives (upToScratch W links vs ls hs (length scratch)) Accepted → ⊥) → scratch′ ≡ scratch
   pub keeps : KeepsBitmap rows hops out rec rows′ hops′

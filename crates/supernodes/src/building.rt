@@ -38,10 +38,17 @@ fn no_bitmap(number: u32, detail: u64) -> BuiltBitmap
 }
 
 // Tests 1 to 6, in order: `words` is the length of the lent scratch. No list is touched.
-fn scratch_outcome(width: u32, vals: &[u32], lens: &[u8], hops: &[u16], words: usize) -> Outcome
-    ensures { λ r. ⌜ r ≡ outcome (upToScratch width (now (vals .entry)) (now (lens .entry)) (now (hops .entry)) words) ⌝ }
+fn scratch_outcome(
+    width: u32,
+    links: u16,
+    vals: &[u32],
+    lens: &[u8],
+    hops: &[u16],
+    words: usize,
+) -> Outcome
+    ensures { λ r. ⌜ r ≡ outcome (upToScratch width links (now (vals .entry)) (now (lens .entry)) (now (hops .entry)) words) ⌝ }
 {
-    let checked = table::check_table(width, vals, lens, hops);
+    let checked = table::check_table(width, links, vals, lens, hops);
     if let Outcome::Refused { number, detail } = checked {
         return Outcome::Refused { number, detail };
     }
@@ -114,6 +121,7 @@ fn fill_rows(
 // rows, then too few hop rows). Refused, the record is all zeros and no row or hop changes; 1 to 6 keep scratch too, else all of it is 0.
 pub fn build_bitmap(
     width: u32,
+    links: u16,
     value: &[u32],
     length: &[u8],
     hop: &[u16],
@@ -125,19 +133,19 @@ pub fn build_bitmap(
     hops: &mut [u16],
 ) -> BuiltBitmap
     ensures exact { λ r. ⌜
-        BitmapIs width (now (value .entry)) (now (length .entry)) (now (hop .entry)) (now (scratch .entry))
+        BitmapIs width links (now (value .entry)) (now (length .entry)) (now (hop .entry)) (now (scratch .entry))
         (rowLists (now (internal .entry)) (now (external .entry)) (now (child .entry)) (now (first .entry)))
         (now (hops .entry)) (r .outcome) (r .record) (now (scratch .exit))
         (rowLists (now (internal .exit)) (now (external .exit)) (now (child .exit)) (now (first .exit)))
         (now (hops .exit)) ⌝ }
     ensures meaning { λ r. ⌜
-        BuildsBitmap width (now (value .entry)) (now (length .entry)) (now (hop .entry)) (now (scratch .entry))
+        BuildsBitmap width links (now (value .entry)) (now (length .entry)) (now (hop .entry)) (now (scratch .entry))
         (rowLists (now (internal .entry)) (now (external .entry)) (now (child .entry)) (now (first .entry)))
         (now (hops .entry)) (r .outcome) (r .record) (now (scratch .exit))
         (rowLists (now (internal .exit)) (now (external .exit)) (now (child .exit)) (now (first .exit)))
         (now (hops .exit)) ⌝ }
 {
-    let outcome = scratch_outcome(width, value, length, hop, scratch.len());
+    let outcome = scratch_outcome(width, links, value, length, hop, scratch.len());
     if let Outcome::Refused { number, detail } = outcome {
         return no_bitmap(number, detail);
     }

@@ -23,10 +23,10 @@ returns c =
     let c4 = c .before .before .before .before in
     let c14 = c4 .before .before .before .before .before .before .before .before .before .before in
     let A = c14 .args in
-    let b = early-bitmap (A .width) (A .value .now) (A .length .now) (A .hop .now) (A .scratch .now)
+    let b = early-bitmap (A .width) (A .links) (A .value .now) (A .length .now) (A .hop .now) (A .scratch .now)
     (rowLists (A .internal .now) (A .external .now) (A .child .now) (A .first .now)) (A .hops .now) (c4 .scratch-outcome .ensures) (c .before .before .outcome .given .1)
     (c .no-bitmap .ensures .0) (c .no-bitmap .ensures .1) in
-    (b, bitmap-means _ _ _ _ _ _ _ b)
+    (b, bitmap-means _ _ _ _ _ _ _ _ b)
 
 enum-told : tie.Need-enum-told
 enum-told c = search needs
@@ -38,7 +38,7 @@ fill-rows-requires c κs =
     let c15 = c8 .before .before .before .before .before .before .before in
     let c18 = c15 .before .before .before in
     let A = c18 .args in
-    fit-table (A .width) (A .value .now) (A .length .now) (A .hop .now) (A .scratch .now) (λ i. omega (arith, c15 .shared-slice-known3 .given i))
+    fit-table (A .width) (A .links) (A .value .now) (A .length .now) (A .hop .now) (A .scratch .now) (λ i. omega (arith, c15 .shared-slice-known3 .given i))
     (sym (c8 .scratch-outcome .ensures) ∙ c6 .enum-told .given .1)
 
 zero-requires : tie.Need-zero-requires
@@ -70,10 +70,10 @@ returns-2 c =
     let c35 = c25 .before .before .before .before .before .before .before .before .before .before in
     let A = c35 .args in
     let e : length (c16 .fill-rows .last .1 .1 .1 .1 .0) ≡ length (A .scratch .now) = omega (arith, c16 .fill-rows .kept) in
-    let b = past-scratch (A .width) (A .value .now) (A .length .now) (A .hop .now) (A .scratch .now)
+    let b = past-scratch (A .width) (A .links) (A .value .now) (A .length .now) (A .hop .now) (A .scratch .now)
     (rowLists (A .internal .now) (A .external .now) (A .child .now) (A .first .now)) (A .hops .now) (c25 .scratch-outcome .ensures) (c23 .enum-told .given .1)
     (c16 .fill-rows .ensures) (c .before .before .zero .ensures ∙ ap (λ (n : ℕ). replicate n 0) e) in
-    (b, bitmap-means _ _ _ _ _ _ _ b)
+    (b, bitmap-means _ _ _ _ _ _ _ _ b)
 
 pub build-bitmap-spec : {M : Type 1} → statement M
 build-bitmap-spec =
