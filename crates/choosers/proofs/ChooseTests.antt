@@ -10,11 +10,11 @@ use borrow.Author.Tests.{lt-ltb, le-ltb, ltb-false}
 use Rattle.table.specs.Entry.{hopRefused}
 use Rattle.table.specs.Limits.{outside}
 use Rattle.table.specs.Refusals.{outcome, Numbered, andThen}
-use Rattle.table.specs.Table.{at, widthTest, listTests, tableTests, checkOf, Table}
+use Rattle.table.specs.Table.{at, widthTest, listTests, tableTests, checkOf, Table, Linked}
 use Rattle.table.specs.declared.entry.Outcome.{Outcome}
 use Rattle.table.specs.declared.entry.Outcome.the-variants.{Accepted, Refused}
 use Rattle.table.proofs.Refusals.{outcome-fails, outcome-passes, outcome-append, accepted-passes, accepted-parts}
-use Rattle.table.proofs.Table.{width-is, accepted-table, entries-rise}
+use Rattle.table.proofs.Table.{width-is, accepted-table, accepted-linked, entries-rise}
 use Rattle.table.proofs.Numbered.{numbered-append, numbered-lists}
 use Rattle.strides.specs.Trie.{size}
 use Rattle.strides.specs.Insertion.{nodeCount}
@@ -98,13 +98,20 @@ accepted-levels W k links vs ls hs words e =
     let p = accepted-passes (widthTest W) (levelsTest k ∷ (listTests (hopRefused links) W vs ls hs ++ (scratchTest W vs ls hs words ∷ []))) e in
     within-levels k LEVELS (accepted-passes (levelsTest k) (listTests (hopRefused links) W vs ls hs ++ (scratchTest W vs ls hs words ∷ [])) (p .1) .0)
 
-pub accepted-tests-table : (W k links : ℕ) (vs ls hs : List ℕ) (words : ℕ) → outcome (chooseTests W k links vs ls hs words) ≡ Accepted → Table W vs ls hs
-unfolding chooseTests checkOf tableTests
-accepted-tests-table W k links vs ls hs words e =
-    let p = accepted-passes (widthTest W) (levelsTest k ∷ (listTests (hopRefused links) W vs ls hs ++ (scratchTest W vs ls hs words ∷ []))) e in
-    let q = accepted-passes (levelsTest k) (listTests (hopRefused links) W vs ls hs ++ (scratchTest W vs ls hs words ∷ [])) (p .1) in
-    let r = accepted-parts (listTests (hopRefused links) W vs ls hs) (scratchTest W vs ls hs words ∷ []) (q .1) in
-    accepted-table W links vs ls hs (outcome-passes (widthTest W) (listTests (hopRefused links) W vs ls hs) (p .0) ∙ r .0)
+module _ (W k links : ℕ) (vs ls hs : List ℕ) (words : ℕ) (e : outcome (chooseTests W k links vs ls hs words) ≡ Accepted) where
+  accepted-check : checkOf W links vs ls hs ≡ Accepted
+  unfolding chooseTests checkOf tableTests
+  accepted-check =
+      let p = accepted-passes (widthTest W) (levelsTest k ∷ (listTests (hopRefused links) W vs ls hs ++ (scratchTest W vs ls hs words ∷ []))) e in
+      let q = accepted-passes (levelsTest k) (listTests (hopRefused links) W vs ls hs ++ (scratchTest W vs ls hs words ∷ [])) (p .1) in
+      let r = accepted-parts (listTests (hopRefused links) W vs ls hs) (scratchTest W vs ls hs words ∷ []) (q .1) in
+      outcome-passes (widthTest W) (listTests (hopRefused links) W vs ls hs) (p .0) ∙ r .0
+
+  pub accepted-tests-table : Table W vs ls hs
+  accepted-tests-table = accepted-table W links vs ls hs accepted-check
+
+  pub accepted-tests-linked : Linked links hs
+  accepted-tests-linked = accepted-linked W links vs ls hs accepted-check
 
 pub accepted-plan : (W k links : ℕ) (vs ls hs scratch : List ℕ) → ((i : ℕ) → entryMarks ls hs i < MARKS) → outcome (chooseTests W k links vs ls hs (length scratch)) ≡ Accepted
     → PlanIn W k vs ls hs scratch

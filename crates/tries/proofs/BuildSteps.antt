@@ -93,20 +93,20 @@ crowded room e most h = rw (lt-ltb room e h) refl
 pub roomy : (room e most : ℕ) → e ≤ room → ltb most e ≡ (ltb room e || ltb most e)
 roomy room e most h = rw (le-ltb room e h) refl
 
-pub early : (W k : ℕ) (vs ls hs : List ℕ) (words room least : ℕ) {n d : ℕ} → outcome (chooseTests W k vs ls hs words) ≡ Refused n d
-    → outcome (buildTests W k vs ls hs words room least) ≡ Refused n d
+pub early : (W k links : ℕ) (vs ls hs : List ℕ) (words room least : ℕ) {n d : ℕ} → outcome (chooseTests W k links vs ls hs words) ≡ Refused n d
+    → outcome (buildTests W k links vs ls hs words room least) ≡ Refused n d
 unfolding buildTests andThen
-early W k vs ls hs words room least e = outcome-append (chooseTests W k vs ls hs words) (roomTest least room ∷ []) ∙ ap (λ (o : Outcome). andThen o (outcome (roomTest least room ∷ []))) e
+early W k links vs ls hs words room least e = outcome-append (chooseTests W k links vs ls hs words) (roomTest least room ∷ []) ∙ ap (λ (o : Outcome). andThen o (outcome (roomTest least room ∷ []))) e
 
-pub late : (W k : ℕ) (vs ls hs : List ℕ) (words room least : ℕ) → outcome (chooseTests W k vs ls hs words) ≡ Accepted
-    → outcome (buildTests W k vs ls hs words room least) ≡ outcome (roomTest least room ∷ [])
+pub late : (W k links : ℕ) (vs ls hs : List ℕ) (words room least : ℕ) → outcome (chooseTests W k links vs ls hs words) ≡ Accepted
+    → outcome (buildTests W k links vs ls hs words room least) ≡ outcome (roomTest least room ∷ [])
 unfolding buildTests andThen
-late W k vs ls hs words room least e = outcome-append (chooseTests W k vs ls hs words) (roomTest least room ∷ []) ∙ ap (λ (o : Outcome). andThen o (outcome (roomTest least room ∷ []))) e
+late W k links vs ls hs words room least e = outcome-append (chooseTests W k links vs ls hs words) (roomTest least room ∷ []) ∙ ap (λ (o : Outcome). andThen o (outcome (roomTest least room ∷ []))) e
 
-pub numbered-build : (W k : ℕ) (vs ls hs : List ℕ) (words room least : ℕ) → Numbered 7 (buildTests W k vs ls hs words room least)
+pub numbered-build : (W k links : ℕ) (vs ls hs : List ℕ) (words room least : ℕ) → Numbered 7 (buildTests W k links vs ls hs words room least)
 unfolding buildTests
-numbered-build W k vs ls hs words room least =
-    numbered-append 7 (chooseTests W k vs ls hs words) (roomTest least room ∷ []) (numbered-choose 7 (omega arith) W k vs ls hs words) ((omega arith, omega arith), tt)
+numbered-build W k links vs ls hs words room least =
+    numbered-append 7 (chooseTests W k links vs ls hs words) (roomTest least room ∷ []) (numbered-choose 7 (omega arith) W k links vs ls hs words) ((omega arith, omega arith), tt)
 
 pub few-rows : (room e : ℕ) → (ltb room e || ltb ELEMENTS e) ≡ false → e ≤ ELEMENTS
 few-rows room e f = ltb-false ELEMENTS e (or-false (ltb room e) (ltb ELEMENTS e) f .1)
@@ -236,70 +236,70 @@ module _ {kind : Kind} {W k : ℕ} {vs ls hs : List ℕ} {cost root : ℕ} {stri
         };
       }
 
-module _ {kind : Kind} {W k : ℕ} {vs ls hs scratch : List ℕ} {planned : Outcome} {cost root : ℕ} {strides plan rows : List ℕ}
-    (p : PlanIs kind W k vs ls hs scratch planned cost strides plan root rows) where
+module _ {kind : Kind} {W k links : ℕ} {vs ls hs scratch : List ℕ} {planned : Outcome} {cost root : ℕ} {strides plan rows : List ℕ}
+    (p : PlanIs kind W k links vs ls hs scratch planned cost strides plan root rows) where
   -- an accepted plan is one for this table
   pub plan-for : planned ≡ Accepted → PlanFor kind W k vs ls hs cost strides plan root rows
   plan-for e =
       let a = sym (p .chosen .tests) ∙ e in
-      record { table = accepted-tests-table W k vs ls hs (length scratch) a; levels = accepted-levels W k vs ls hs (length scratch) a; planned = plan-made p e }
+      record { table = accepted-tests-table W k links vs ls hs (length scratch) a; levels = accepted-levels W k links vs ls hs (length scratch) a; planned = plan-made p e }
 
   module _ (lent : Lists) {out : Outcome} {rec : Record} where
     -- refused by 1 to 6
-    pub early-is : {n d : ℕ} → planned ≡ Refused n d → out ≡ Refused n d → NoRecord rec → BuildIs kind W k vs ls hs scratch lent out rec rows lent
+    pub early-is : {n d : ℕ} → planned ≡ Refused n d → out ≡ Refused n d → NoRecord rec → BuildIs kind W k links vs ls hs scratch lent out rec rows lent
     unfolding ifAccepted
     early-is f o z =
         let t = sym (p .chosen .tests) ∙ f in
         record {
-          tests = o ∙ sym (early W k vs ls hs (length scratch) (shortest lent) (leastBy plain kind k (tableTrie W vs ls hs)) t);
+          tests = o ∙ sym (early W k links vs ls hs (length scratch) (shortest lent) (leastBy plain kind k (tableTrie W vs ls hs)) t);
           after = p .refused (λ a. refused-not-accepted (sym f ∙ a)) .kept ∙ rw t refl;
           written = nothing-written kind W k vs ls hs lent o z;
         }
 
     -- past them
     pub past-is : {scratch′ : List ℕ} {lent′ : Lists} → planned ≡ Accepted → RowsBuilt kind W k vs ls hs lent out rec lent′ → scratch′ ≡ replicate (length scratch) 0
-        → BuildIs kind W k vs ls hs scratch lent out rec scratch′ lent′
+        → BuildIs kind W k links vs ls hs scratch lent out rec scratch′ lent′
     unfolding ifAccepted
     past-is f b z =
         let t = sym (p .chosen .tests) ∙ f in
         record {
-          tests = b .tests ∙ sym (late W k vs ls hs (length scratch) (shortest lent) (leastBy plain kind k (tableTrie W vs ls hs)) t);
+          tests = b .tests ∙ sym (late W k links vs ls hs (length scratch) (shortest lent) (leastBy plain kind k (tableTrie W vs ls hs)) t);
           after = rw t z;
           written = b .written;
         }
 
 -- ---- and what it means
 
-module _ (kind : Kind) (W k : ℕ) (vs ls hs : List ℕ) where
+module _ (kind : Kind) (W k links : ℕ) (vs ls hs : List ℕ) where
   -- the tests take no other number than the least cost of all choices
   pub tests-least : (words room least : ℕ) → (1 ≤ k → Cheapest kind k (tableTrie W vs ls hs) least)
-      → outcome (buildTests W k vs ls hs words room (leastBy plain kind k (tableTrie W vs ls hs))) ≡ outcome (buildTests W k vs ls hs words room least)
-  tests-least words room least c = go (outcome (chooseTests W k vs ls hs words)) refl
+      → outcome (buildTests W k links vs ls hs words room (leastBy plain kind k (tableTrie W vs ls hs))) ≡ outcome (buildTests W k links vs ls hs words room least)
+  tests-least words room least c = go (outcome (chooseTests W k links vs ls hs words)) refl
     where
-      go : (o : Outcome) → outcome (chooseTests W k vs ls hs words) ≡ o
-          → outcome (buildTests W k vs ls hs words room (leastBy plain kind k (tableTrie W vs ls hs))) ≡ outcome (buildTests W k vs ls hs words room least)
+      go : (o : Outcome) → outcome (chooseTests W k links vs ls hs words) ≡ o
+          → outcome (buildTests W k links vs ls hs words room (leastBy plain kind k (tableTrie W vs ls hs))) ≡ outcome (buildTests W k links vs ls hs words room least)
       go Accepted e =
-          let some = accepted-levels W k vs ls hs words e .0 in
-          ap (λ (m : ℕ). outcome (buildTests W k vs ls hs words room m)) (cheapest-unique kind k (tableTrie W vs ls hs) (least-cheapest kind k (tableTrie W vs ls hs) some) (c some))
-      go (Refused n d) e = early W k vs ls hs words room (leastBy plain kind k (tableTrie W vs ls hs)) e ∙ sym (early W k vs ls hs words room least e)
+          let some = accepted-levels W k links vs ls hs words e .0 in
+          ap (λ (m : ℕ). outcome (buildTests W k links vs ls hs words room m)) (cheapest-unique kind k (tableTrie W vs ls hs) (least-cheapest kind k (tableTrie W vs ls hs) some) (c some))
+      go (Refused n d) e = early W k links vs ls hs words room (leastBy plain kind k (tableTrie W vs ls hs)) e ∙ sym (early W k links vs ls hs words room least e)
 
-module _ {kind : Kind} {W k : ℕ} {vs ls hs scratch : List ℕ} {rows : Lists} {out : Outcome} {rec : Record} {scratch′ : List ℕ} {rows′ : Lists}
-    (b : BuildIs kind W k vs ls hs scratch rows out rec scratch′ rows′) where
+module _ {kind : Kind} {W k links : ℕ} {vs ls hs scratch : List ℕ} {rows : Lists} {out : Outcome} {rec : Record} {scratch′ : List ℕ} {rows′ : Lists}
+    (b : BuildIs kind W k links vs ls hs scratch rows out rec scratch′ rows′) where
   abbrev T : Trie
   T = tableTrie W vs ls hs
 
   abbrev tests : List Test
-  tests = chooseTests W k vs ls hs (length scratch)
+  tests = chooseTests W k links vs ls hs (length scratch)
 
   some-levels : out ≡ Accepted → 1 ≤ k
   some-levels e = let l = b .written .laid e in omega (arith, l .levels, l .built .levels .0)
 
-  pub build-means : Builds kind W k vs ls hs scratch rows out rec scratch′ rows′
+  pub build-means : Builds kind W k links vs ls hs scratch rows out rec scratch′ rows′
   unfolding ifAccepted
   build-means = record {
     tested = λ least c.
-        subst (Gives (buildTests W k vs ls hs (length scratch) (shortest rows) least)) (sym (b .tests ∙ tests-least kind W k vs ls hs (length scratch) (shortest rows) least c))
-        (outcome-gives (buildTests W k vs ls hs (length scratch) (shortest rows) least));
+        subst (Gives (buildTests W k links vs ls hs (length scratch) (shortest rows) least)) (sym (b .tests ∙ tests-least kind W k links vs ls hs (length scratch) (shortest rows) least c))
+        (outcome-gives (buildTests W k links vs ls hs (length scratch) (shortest rows) least));
     laid = λ e. (chosenBy plain kind k T, chosen-follows kind k T (some-levels e), b .written .laid e);
     named = λ e. (stridesBy plain kind k T, strides-named kind k T (some-levels e), b .written .named e);
     zeroed = λ a. b .after ∙ rw (sym (gives-outcome tests Accepted a));

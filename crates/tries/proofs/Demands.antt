@@ -15,7 +15,8 @@ use borrow.Author.Tests.{lt-ltb, le-ltb}
 use Rattle.table.specs.Refusals.{Test, outcome, Gives}
 use Rattle.table.specs.Prefix.{start}
 use Rattle.table.specs.Longest.{ofWinner, winnerIn, NoPrefix, LongestEntry, LongestDiscards}
-use Rattle.table.specs.Table.{at, tableTests}
+use Rattle.table.specs.Entry.{unlinked}
+use Rattle.table.specs.Table.{at, tableTests, Linked}
 use Rattle.table.specs.Zone.{PartOf}
 use Rattle.table.specs.Answers.{sharedOutcome, sharedTests, Shares, spanOutcome, spanIndex, spanCount, zoneTests, Spans, PartFor, HandsBack}
 use Rattle.table.specs.declared.entry.Outcome.{Outcome}
@@ -25,7 +26,7 @@ use Rattle.table.specs.declared.zoning.Span.{Span}
 use Rattle.table.specs.declared.zoning.Span.the-variants.{Part}
 use Rattle.table.proofs.Refusals.{outcome-gives, outcome-fails, outcome-passes, gives-outcome, gives-unique, given-exactly, refused-not-accepted}
 use Rattle.table.proofs.Numbered.{refused-number}
-use Rattle.table.proofs.Unique.{longest-discards}
+use Rattle.table.proofs.Unique.{longest-discards, longest-linked}
 use Rattle.table.specs.Lists.{padded}
 use Rattle.strides.specs.Trie.{Some}
 use Rattle.strides.specs.Entries.{SomeStart}
@@ -57,36 +58,36 @@ use Rattle.walk.proofs.Reading.{path-rows, reads-path, reads-most, lookup-local
 use Rattle.layout.proofs.PathBlocks.{blocks-are, blocks-counted}
 use Rattle.layout.proofs.RowRule.{row-rule}
 use Rattle.layout.proofs.Laid.{accepted, laid-longest, no-route, rows-exactly, reads-blocks, reads-few, rows-alone, elements-cost, one-answer}
-use Rattle.choosers.proofs.ChooseTests.{numbered-choose}
+use Rattle.choosers.proofs.ChooseTests.{numbered-choose, accepted-tests-linked}
 use Rattle.tries.proofs.BuildSteps.{early, late}
 
 -- ==== demand 1: bad input is refused by number, in a fixed order; the numbers say what is returned and what each list then holds
 
-pub check-first : (W : ℕ) (vs ls hs : List ℕ) {out : Outcome} → Gives (tableTests W vs ls hs) out → (o : Outcome)
-    → (out ≡ o) ↔ Gives (tableTests W vs ls hs) o
-check-first W vs ls hs = given-exactly (tableTests W vs ls hs)
+pub check-first : (W links : ℕ) (vs ls hs : List ℕ) {out : Outcome} → Gives (tableTests W links vs ls hs) out → (o : Outcome)
+    → (out ≡ o) ↔ Gives (tableTests W links vs ls hs) o
+check-first W links vs ls hs = given-exactly (tableTests W links vs ls hs)
 
 pub shared-first : (W a l b m : ℕ) {r : Shared} → Shares W a l b m r → (o : Outcome) → (sharedOutcome r ≡ o) ↔ Gives (sharedTests W a l b m) o
 shared-first W a l b m s = given-exactly (sharedTests W a l b m) (s .tested)
 
-pub span-first : (W : ℕ) (vs ls hs : List ℕ) (p b : ℕ) {r : Span} → Spans W vs ls hs p b r → (o : Outcome)
-    → (spanOutcome r ≡ o) ↔ Gives (zoneTests W vs ls hs p b) o
-span-first W vs ls hs p b s = given-exactly (zoneTests W vs ls hs p b) (s .tested)
+pub span-first : (W links : ℕ) (vs ls hs : List ℕ) (p b : ℕ) {r : Span} → Spans W links vs ls hs p b r → (o : Outcome)
+    → (spanOutcome r ≡ o) ↔ Gives (zoneTests W links vs ls hs p b) o
+span-first W links vs ls hs p b s = given-exactly (zoneTests W links vs ls hs p b) (s .tested)
 
 -- refused, the part handed back is the empty part at 0
-pub zone-refused : (W : ℕ) (v : RefT (List ℕ)) (ls hs : List ℕ) (p b n d : ℕ) {r : RefT (List ℕ)} → HandsBack W v ls hs p b r
-    → Gives (zoneTests W (now v) ls hs p b) (Refused n d) → PartOf v r 0 0
+pub zone-refused : (W links : ℕ) (v : RefT (List ℕ)) (ls hs : List ℕ) (p b n d : ℕ) {r : RefT (List ℕ)} → HandsBack W links v ls hs p b r
+    → Gives (zoneTests W links (now v) ls hs p b) (Refused n d) → PartOf v r 0 0
 unfolding spanOutcome spanIndex spanCount
-zone-refused W v ls hs p b n d {r} h g = go (h .0) (gives-unique (zoneTests W (now v) ls hs p b) _ _ (h .1 .tested) g) (h .2)
+zone-refused W links v ls hs p b n d {r} h g = go (h .0) (gives-unique (zoneTests W links (now v) ls hs p b) _ _ (h .1 .tested) g) (h .2)
   where
     go : (z : Span) → spanOutcome z ≡ Refused n d → PartFor v r z → PartOf v r 0 0
     go (Part i k) e q = absurd (refused-not-accepted (sym e))
     go (Span.Refused x y) e q = q
 
-module _ {kind : Kind} {W k : ℕ} {vs ls hs scratch : List ℕ} {out : Outcome} {cost : ℕ} {strides s : List ℕ}
-    (c : Chooses kind W k vs ls hs scratch out cost strides s) where
-  pub choose-first : (o : Outcome) → (out ≡ o) ↔ Gives (chooseTests W k vs ls hs (length scratch)) o
-  choose-first = given-exactly (chooseTests W k vs ls hs (length scratch)) (c .tested)
+module _ {kind : Kind} {W k links : ℕ} {vs ls hs scratch : List ℕ} {out : Outcome} {cost : ℕ} {strides s : List ℕ}
+    (c : Chooses kind W k links vs ls hs scratch out cost strides s) where
+  pub choose-first : (o : Outcome) → (out ≡ o) ↔ Gives (chooseTests W k links vs ls hs (length scratch)) o
+  choose-first = given-exactly (chooseTests W k links vs ls hs (length scratch)) (c .tested)
 
   -- refused, it answers cost 0 and zero strides and changes nothing; accepted, it zeroes all scratch
   pub choose-refused : {n d : ℕ} → out ≡ Refused n d → (cost ≡ 0) × (strides ≡ padded LEVELS []) × (s ≡ scratch)
@@ -95,28 +96,28 @@ module _ {kind : Kind} {W k : ℕ} {vs ls hs scratch : List ℕ} {out : Outcome}
   pub choose-accepted : out ≡ Accepted → s ≡ replicate (length scratch) 0
   choose-accepted = c .zeroed
 
-module _ {kind : Kind} {W k : ℕ} {vs ls hs scratch : List ℕ} {rows : Lists} {out : Outcome} {rec : Record} {s : List ℕ} {rows′ : Lists}
-    (b : Builds kind W k vs ls hs scratch rows out rec s rows′) where
+module _ {kind : Kind} {W k links : ℕ} {vs ls hs scratch : List ℕ} {rows : Lists} {out : Outcome} {rec : Record} {s : List ℕ} {rows′ : Lists}
+    (b : Builds kind W k links vs ls hs scratch rows out rec s rows′) where
   abbrev tests : List Test
-  tests = chooseTests W k vs ls hs (length scratch)
+  tests = chooseTests W k links vs ls hs (length scratch)
 
   -- where 1 to 6 pass, the least cost is that of all choices of the kind with at most k levels
   pub build-first : (least : ℕ) → (1 ≤ k → Cheapest kind k (tableTrie W vs ls hs) least) → (o : Outcome)
-      → (out ≡ o) ↔ Gives (buildTests W k vs ls hs (length scratch) (shortest rows) least) o
-  build-first least c = given-exactly (buildTests W k vs ls hs (length scratch) (shortest rows) least) (b .tested least c)
+      → (out ≡ o) ↔ Gives (buildTests W k links vs ls hs (length scratch) (shortest rows) least) o
+  build-first least c = given-exactly (buildTests W k links vs ls hs (length scratch) (shortest rows) least) (b .tested least c)
 
   passes : Gives tests Accepted → (least : ℕ) → Cheapest kind k (tableTrie W vs ls hs) least → out ≡ outcome (roomTest least (shortest rows) ∷ [])
   passes g least c =
-      gives-outcome (buildTests W k vs ls hs (length scratch) (shortest rows) least) out (b .tested least (λ h. c))
-      ∙ late W k vs ls hs (length scratch) (shortest rows) least (sym (gives-outcome tests Accepted g))
+      gives-outcome (buildTests W k links vs ls hs (length scratch) (shortest rows) least) out (b .tested least (λ h. c))
+      ∙ late W k links vs ls hs (length scratch) (shortest rows) least (sym (gives-outcome tests Accepted g))
 
   -- refusals 1 to 6 change no list
   pub refused-early : {n d : ℕ} → Gives tests (Refused n d) → (out ≡ Refused n d) × NoRecord rec × (s ≡ scratch) × (rows′ ≡ rows)
   refused-early {n} {d} g =
       let least = leastBy plain kind k (tableTrie W vs ls hs) in
       let e : out ≡ Refused n d =
-      gives-outcome (buildTests W k vs ls hs (length scratch) (shortest rows) least) out (b .tested least (least-cheapest kind k (tableTrie W vs ls hs)))
-      ∙ early W k vs ls hs (length scratch) (shortest rows) least (sym (gives-outcome tests (Refused n d) g)) in
+      gives-outcome (buildTests W k links vs ls hs (length scratch) (shortest rows) least) out (b .tested least (least-cheapest kind k (tableTrie W vs ls hs)))
+      ∙ early W k links vs ls hs (length scratch) (shortest rows) least (sym (gives-outcome tests (Refused n d) g)) in
       let kept = b .keeps .refused (λ a. refused-not-accepted (sym e ∙ a)) in
       (e, kept .0, b .untouched (λ a. refused-not-accepted (gives-unique tests (Refused n d) Accepted g a)), kept .1)
 
@@ -131,7 +132,7 @@ module _ {kind : Kind} {W k : ℕ} {vs ls hs scratch : List ℕ} {rows : Lists} 
       go Accepted p = subst (Gives tests) p (outcome-gives tests)
       go (Refused n x) p =
           let g = subst (Gives tests) p (outcome-gives tests) in
-          absurd (omega (arith, refused-number 6 tests n x (numbered-choose 6 (omega arith) W k vs ls hs (length scratch)) g, seven (sym (refused-early g .0) ∙ e)))
+          absurd (omega (arith, refused-number 6 tests n x (numbered-choose 6 (omega arith) W k links vs ls hs (length scratch)) g, seven (sym (refused-early g .0) ∙ e)))
 
   -- refusal 7 zeroes all scratch and changes no element
   pub refused-room : {d : ℕ} → out ≡ Refused 7 d → NoRecord rec × (s ≡ replicate (length scratch) 0) × (rows′ ≡ rows)
@@ -139,13 +140,16 @@ module _ {kind : Kind} {W k : ℕ} {vs ls hs scratch : List ℕ} {rows : Lists} 
       let kept = b .keeps .refused (λ a. refused-not-accepted (sym e ∙ a)) in
       (kept .0, b .zeroed (room-tested e), kept .1)
 
-  -- an accepted build zeroes all scratch, writes rows 0 to E - 1 and keeps later rows
-  pub build-accepted : out ≡ Accepted → (s ≡ replicate (length scratch) 0) × ((i : ℕ) → rec .elements ≤ i → rowAt rows′ i ≡ rowAt rows i)
-  build-accepted e = (b .zeroed (go (outcome tests) refl), b .keeps .later e)
+  -- an accepted build passes 1 to 6, zeroes all scratch, writes rows 0 to E - 1 and keeps later rows
+  all-passed : out ≡ Accepted → Gives tests Accepted
+  all-passed e = go (outcome tests) refl
     where
       go : (o : Outcome) → outcome tests ≡ o → Gives tests Accepted
       go Accepted p = subst (Gives tests) p (outcome-gives tests)
       go (Refused n x) p = absurd (refused-not-accepted (sym (refused-early (subst (Gives tests) p (outcome-gives tests)) .0) ∙ e))
+
+  pub build-accepted : out ≡ Accepted → (s ≡ replicate (length scratch) 0) × ((i : ℕ) → rec .elements ≤ i → rowAt rows′ i ≡ rowAt rows i)
+  build-accepted e = (b .zeroed (all-passed e), b .keeps .later e)
 
 -- a lookup gives number n exactly when test n is the first that fails, 0 when none does; refused, it has no hop, no length and 0 reads
 module _ {most : ℕ} {rec : Record} {ls : Lists} {a : ℕ} where
@@ -157,8 +161,8 @@ module _ {most : ℕ} {rec : Record} {ls : Lists} {a : ℕ} where
 
 -- ==== demands 2 and 3 over one accepted build, and a lookup over what it left
 
-module _ {kind : Kind} {W k : ℕ} {vs ls hs scratch : List ℕ} {rows : Lists} {out : Outcome} {rec : Record} {s : List ℕ} {rows′ : Lists}
-    (b : Builds kind W k vs ls hs scratch rows out rec s rows′) where
+module _ {kind : Kind} {W k links : ℕ} {vs ls hs scratch : List ℕ} {rows : Lists} {out : Outcome} {rec : Record} {s : List ℕ} {rows′ : Lists}
+    (b : Builds kind W k links vs ls hs scratch rows out rec s rows′) where
   -- ---- demand 3: the build uses the fewest elements that any stride choice of the kind with at most k levels needs
   pub build-fewest : out ≡ Accepted → Cheapest kind k (tableTrie W vs ls hs) (rec .elements)
   build-fewest e =
@@ -168,7 +172,7 @@ module _ {kind : Kind} {W k : ℕ} {vs ls hs scratch : List ℕ} {rows : Lists} 
 
   -- for a well-formed table, an allowed k and enough scratch, it is refused for room exactly when that least number exceeds the room
   -- lent or the most elements
-  pub room-refused : {least : ℕ} → Cheapest kind k (tableTrie W vs ls hs) least → Gives (chooseTests W k vs ls hs (length scratch)) Accepted
+  pub room-refused : {least : ℕ} → Cheapest kind k (tableTrie W vs ls hs) least → Gives (chooseTests W k links vs ls hs (length scratch)) Accepted
       → (out ≡ Refused 7 least) ↔ ((shortest rows < least) ⊎ (ELEMENTS < least))
   unfolding outcome
   room-refused {least} c g = (
@@ -227,6 +231,10 @@ module _ {kind : Kind} {W k : ℕ} {vs ls hs scratch : List ℕ} {rows : Lists} 
       }
   build-rows e = row-rule (b .laid e .2)
 
+  -- ---- the gateway has every hop of a table that is accepted (02, [7])
+  pub build-linked : out ≡ Accepted → Linked links hs
+  build-linked e = accepted-tests-linked W k links vs ls hs (length scratch) (sym (gives-outcome (chooseTests W k links vs ls hs (length scratch)) Accepted (all-passed b e)))
+
   module _ (e : out ≡ Accepted) (a : ℕ) (h : a < 2 ^ W) {r : Answer} (l : Looked WIDTH rec rows′ a r) where
     is-looked : r ≡ lookupOf WIDTH rec rows′ a
     is-looked = looked-unique l (looked WIDTH rec rows′ a)
@@ -242,6 +250,10 @@ module _ {kind : Kind} {W k : ℕ} {vs ls hs scratch : List ℕ} {rows : Lists} 
     -- and it is a discard exactly when the longest prefix that begins the address discards (02, [4])
     pub build-discard : (r ≡ Discard (lengthOf r) (readsOf r)) ↔ LongestDiscards W vs ls hs a
     build-discard = Iff·trans (discard-by-hop r (l .case)) (longest-discards W vs ls hs (b .laid e .2 .table) a (build-longest .1))
+
+    -- and a hop that is answered is a link that the gateway has, or a discard's, or none (02, [7])
+    pub build-link : unlinked links (hopOf r) ≡ false
+    build-link = longest-linked W links vs ls hs (b .laid e .2 .table) (build-linked e) a (build-longest .1)
 
     -- ---- demand 3: the rows on the path are exactly those of the blocks of the 1-bit nodes that begin the address and at which the
     -- chosen strides begin a block: the block's first row plus the next s bits
@@ -278,16 +290,16 @@ module _ {kind : Kind} {W k : ℕ} {vs ls hs scratch : List ℕ} {rows : Lists} 
         → {r′ : Answer} → Looked WIDTH rec other a r′ → r ≡ r′
     build-alone other fits same l′ = is-looked ∙ rows-alone (b .laid e .2) a h other fits same ∙ looked-unique (looked WIDTH rec other a) l′
 
--- one table gives one answer, however it is built: any kinds, any k, any room
-pub one-table : {kind kind′ : Kind} {W k k′ : ℕ} {vs ls hs scratch scratch′ : List ℕ} {rows rows′ : Lists} {out out′ : Outcome} {rec rec′ : Record} {s s′ : List ℕ} {rows1 rows2 : Lists}
-    → Builds kind W k vs ls hs scratch rows out rec s rows1 → Builds kind′ W k′ vs ls hs scratch′ rows′ out′ rec′ s′ rows2 → out ≡ Accepted → out′ ≡ Accepted
+-- one table gives one answer, however it is built: any kinds, any k, any numbers of links, any room
+pub one-table : {kind kind′ : Kind} {W k k′ links links′ : ℕ} {vs ls hs scratch scratch′ : List ℕ} {rows rows′ : Lists} {out out′ : Outcome} {rec rec′ : Record} {s s′ : List ℕ} {rows1 rows2 : Lists}
+    → Builds kind W k links vs ls hs scratch rows out rec s rows1 → Builds kind′ W k′ links′ vs ls hs scratch′ rows′ out′ rec′ s′ rows2 → out ≡ Accepted → out′ ≡ Accepted
     → (a : ℕ) → a < 2 ^ W → {r r′ : Answer} → Looked WIDTH rec rows1 a r → Looked WIDTH rec′ rows2 a r′ → (hopOf r ≡ hopOf r′) × (lengthOf r ≡ lengthOf r′)
 one-table b c e e′ a h l l′ = rw (is-looked b e a h l, is-looked c e′ a h l′) (one-answer (b .laid e .2) (c .laid e′ .2) a h)
 
 -- an entry counts by its prefix, whatever its hop is, a discard's too: two accepted builds of one kind and k, of tables with the same
 -- prefixes, have as many elements (02, [4])
-pub build-hops-free : {kind : Kind} {W k : ℕ} {vs ls hs hs′ scratch scratch′ : List ℕ} {rows rows′ : Lists} {out out′ : Outcome} {rec rec′ : Record} {s s′ : List ℕ} {rows1 rows2 : Lists}
-    → Builds kind W k vs ls hs scratch rows out rec s rows1 → Builds kind W k vs ls hs′ scratch′ rows′ out′ rec′ s′ rows2 → out ≡ Accepted → out′ ≡ Accepted
+pub build-hops-free : {kind : Kind} {W k links links′ : ℕ} {vs ls hs hs′ scratch scratch′ : List ℕ} {rows rows′ : Lists} {out out′ : Outcome} {rec rec′ : Record} {s s′ : List ℕ} {rows1 rows2 : Lists}
+    → Builds kind W k links vs ls hs scratch rows out rec s rows1 → Builds kind W k links′ vs ls hs′ scratch′ rows′ out′ rec′ s′ rows2 → out ≡ Accepted → out′ ≡ Accepted
     → rec .elements ≡ rec′ .elements
 build-hops-free {kind} {W} {k} {vs} {ls} {hs} {hs′} {rec = rec} b c e e′ =
     let same = trie-nodes W (at vs) (at ls) (entryMarks ls hs) (entryMarks ls hs′) (length vs) in

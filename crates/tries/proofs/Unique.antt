@@ -35,12 +35,12 @@ record-same r s w l e f t =
     ∙ ap (λ (x : ℕ). record { width = s .width; levels = s .levels; elements = s .elements; floor = x; strides = r .strides }) f
     ∙ ap (λ (x : List ℕ). record { width = s .width; levels = s .levels; elements = s .elements; floor = s .floor; strides = x }) t
 
-module _ (kind : Kind) (W k : ℕ) (vs ls hs scratch : List ℕ) (rows : Lists) where
+module _ (kind : Kind) (W k links : ℕ) (vs ls hs scratch : List ℕ) (rows : Lists) where
   abbrev t : Trie
   t = tableTrie W vs ls hs
 
   abbrev tests : List Test
-  tests = chooseTests W k vs ls hs (length scratch)
+  tests = chooseTests W k links vs ls hs (length scratch)
 
   -- what a build laid, as any strides that agree would have
   laid-as : {σ τ : Strides} {rec : Record} {rows′ : Lists} → Agree σ τ (tableTrie W vs ls hs) 0 k → Laid WIDTH W vs ls hs τ k rec rows′
@@ -51,12 +51,12 @@ module _ (kind : Kind) (W k : ℕ) (vs ls hs scratch : List ℕ) (rows : Lists) 
     after = later;
   }
 
-  module _ {out out′ : Outcome} {rec rec′ : Record} {s s′ : List ℕ} {rows1 rows2 : Lists} (c : Builds kind W k vs ls hs scratch rows out rec s rows1)
-      (d : Builds kind W k vs ls hs scratch rows out′ rec′ s′ rows2) where
+  module _ {out out′ : Outcome} {rec rec′ : Record} {s s′ : List ℕ} {rows1 rows2 : Lists} (c : Builds kind W k links vs ls hs scratch rows out rec s rows1)
+      (d : Builds kind W k links vs ls hs scratch rows out′ rec′ s′ rows2) where
     pub outcome-one : out ≡ out′
     outcome-one =
         let m = leastBy plain kind k t in
-        gives-unique (buildTests W k vs ls hs (length scratch) (shortest rows) m) out out′ (c .tested m (least-cheapest kind k t)) (d .tested m (least-cheapest kind k t))
+        gives-unique (buildTests W k links vs ls hs (length scratch) (shortest rows) m) out out′ (c .tested m (least-cheapest kind k t)) (d .tested m (least-cheapest kind k t))
 
     pub scratch-one : s ≡ s′
     scratch-one = go (outcome tests) refl

@@ -27,8 +27,8 @@ abbrev pub roomTest : (least room : ℕ) → Test
 roomTest least room = test 7 least (ltb room least || ltb ELEMENTS least)
 
 -- 1 to 7, where scratch has so many words, the shortest element list so much room, and the least cost is `least`
-unfoldable pub buildTests : (W k : ℕ) (vs ls hs : List ℕ) (words room least : ℕ) → List Test
-buildTests W k vs ls hs words room least = chooseTests W k vs ls hs words ++ (roomTest least room ∷ [])
+unfoldable pub buildTests : (W k links : ℕ) (vs ls hs : List ℕ) (words room least : ℕ) → List Test
+buildTests W k links vs ls hs words room least = chooseTests W k links vs ls hs words ++ (roomTest least room ∷ [])
 
 -- ---- the answer
 
@@ -56,19 +56,19 @@ pub record RowsAre (kind : Kind) (W k : ℕ) (vs ls hs : List ℕ) (rows : Lists
   pub keeps : Keeps rows out rec rows′
 
 -- the exact answer: all seven tests, then the rows; scratch is zeroed past test 6
-pub record BuildIs (kind : Kind) (W k : ℕ) (vs ls hs scratch : List ℕ) (rows : Lists) (out : Outcome) (rec : Record) (scratch′ : List ℕ) (rows′ : Lists)
+pub record BuildIs (kind : Kind) (W k links : ℕ) (vs ls hs scratch : List ℕ) (rows : Lists) (out : Outcome) (rec : Record) (scratch′ : List ℕ) (rows′ : Lists)
     : Type 0 where
-  pub tests : out ≡ outcome (buildTests W k vs ls hs (length scratch) (shortest rows) (leastBy plain kind k (tableTrie W vs ls hs)))
-  pub after : scratch′ ≡ ifAccepted (outcome (chooseTests W k vs ls hs (length scratch))) (replicate (length scratch) 0) scratch
+  pub tests : out ≡ outcome (buildTests W k links vs ls hs (length scratch) (shortest rows) (leastBy plain kind k (tableTrie W vs ls hs)))
+  pub after : scratch′ ≡ ifAccepted (outcome (chooseTests W k links vs ls hs (length scratch))) (replicate (length scratch) 0) scratch
   pub written : RowsAre kind W k vs ls hs rows out rec rows′
 
 -- what it means: the first test that fails, where 7 tests the least cost of all choices of the kind with at most k levels; accepted,
 -- the rows of the choice that the tie rule names, and its strides in the record; scratch unchanged by 1 to 6, else all zero
-pub record Builds (kind : Kind) (W k : ℕ) (vs ls hs scratch : List ℕ) (rows : Lists) (out : Outcome) (rec : Record) (scratch′ : List ℕ) (rows′ : Lists)
+pub record Builds (kind : Kind) (W k links : ℕ) (vs ls hs scratch : List ℕ) (rows : Lists) (out : Outcome) (rec : Record) (scratch′ : List ℕ) (rows′ : Lists)
     : Type 0 where
-  pub tested : (least : ℕ) → (1 ≤ k → Cheapest kind k (tableTrie W vs ls hs) least) → Gives (buildTests W k vs ls hs (length scratch) (shortest rows) least) out
+  pub tested : (least : ℕ) → (1 ≤ k → Cheapest kind k (tableTrie W vs ls hs) least) → Gives (buildTests W k links vs ls hs (length scratch) (shortest rows) least) out
   pub laid : out ≡ Accepted → (σ : Strides) × Follows kind k (tableTrie W vs ls hs) σ × Laid WIDTH W vs ls hs σ k rec rows′
   pub named : out ≡ Accepted → (ss : List ℕ) × Named kind k (tableTrie W vs ls hs) ss × (rec .strides ≡ padded LEVELS ss)
-  pub zeroed : Gives (chooseTests W k vs ls hs (length scratch)) Accepted → scratch′ ≡ replicate (length scratch) 0
-  pub untouched : (Gives (chooseTests W k vs ls hs (length scratch)) Accepted → ⊥) → scratch′ ≡ scratch
+  pub zeroed : Gives (chooseTests W k links vs ls hs (length scratch)) Accepted → scratch′ ≡ replicate (length scratch) 0
+  pub untouched : (Gives (chooseTests W k links vs ls hs (length scratch)) Accepted → ⊥) → scratch′ ≡ scratch
   pub keeps : Keeps rows out rec rows′

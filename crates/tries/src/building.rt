@@ -46,10 +46,16 @@ fn refused(number: u32, detail: u64) -> Built
 }
 
 // Test 7: whether e rows are more than one of the lists has, or more than there may be.
-pub fn is_crowded(e: u64, hops: usize, lens: usize, links: usize, strides: usize) -> bool
-    ensures { λ r. ⌜ r ≡ (ltb (min hops (min lens (min links strides))) e || ltb ELEMENTS e) ⌝ }
+pub fn is_crowded(
+    e: u64,
+    rowhops: usize,
+    rowlens: usize,
+    rowlinks: usize,
+    rowstrides: usize,
+) -> bool
+    ensures { λ r. ⌜ r ≡ (ltb (min rowhops (min rowlens (min rowlinks rowstrides))) e || ltb ELEMENTS e) ⌝ }
 {
-    if (smaller(hops, smaller(lens, smaller(links, strides))) as u64) < e {
+    if (smaller(rowhops, smaller(rowlens, smaller(rowlinks, rowstrides))) as u64) < e {
         return true;
     }
     (ELEMENTS as u64) < e
@@ -77,19 +83,25 @@ fn build_rows(
     length: &[u8],
     hop: &[u16],
     scratch: &[u64],
-    hops: &mut [u16],
-    lens: &mut [u8],
-    links: &mut [u32],
-    strides: &mut [u8],
+    rowhops: &mut [u16],
+    rowlens: &mut [u8],
+    rowlinks: &mut [u32],
+    rowstrides: &mut [u8],
 ) -> Built
     requires { ⌜ CanBuild width levels (now length) (now hop) (p .cost) (p .strides) (p .plan) (p .root) (now scratch) ⌝ }
     ensures { λ r. ⌜
         RowsDone width levels (now (length .entry)) (now (hop .entry)) (p .cost) (p .strides) (p .plan) (p .root) (now (scratch .entry))
-        (lists (now (hops .entry)) (now (lens .entry)) (now (links .entry)) (now (strides .entry))) (r .outcome) (r .record)
-        (lists (now (hops .exit)) (now (lens .exit)) (now (links .exit)) (now (strides .exit))) ⌝ }
+        (lists (now (rowhops .entry)) (now (rowlens .entry)) (now (rowlinks .entry)) (now (rowstrides .entry))) (r .outcome) (r .record)
+        (lists (now (rowhops .exit)) (now (rowlens .exit)) (now (rowlinks .exit)) (now (rowstrides .exit))) ⌝ }
 {
     let e = p.cost;
-    if is_crowded(e, hops.len(), lens.len(), links.len(), strides.len()) {
+    if is_crowded(
+        e,
+        rowhops.len(),
+        rowlens.len(),
+        rowlinks.len(),
+        rowstrides.len(),
+    ) {
         return refused(7, e);
     }
     let k = levels as usize;
@@ -100,10 +112,10 @@ fn build_rows(
         p.root,
         width as usize,
         k,
-        hops,
-        lens,
-        links,
-        strides,
+        rowhops,
+        rowlens,
+        rowlinks,
+        rowstrides,
     );
     let named = p.strides;
     Built {
@@ -124,25 +136,26 @@ pub fn build(
     kind: Kind,
     width: u32,
     levels: u32,
+    links: u16,
     value: &[u32],
     length: &[u8],
     hop: &[u16],
     scratch: &mut [u64],
-    hops: &mut [u16],
-    lens: &mut [u8],
-    links: &mut [u32],
-    strides: &mut [u8],
+    rowhops: &mut [u16],
+    rowlens: &mut [u8],
+    rowlinks: &mut [u32],
+    rowstrides: &mut [u8],
 ) -> Built
     ensures exact { λ r. ⌜
-        BuildIs (kindOf kind) width levels (now (value .entry)) (now (length .entry)) (now (hop .entry)) (now (scratch .entry))
-        (lists (now (hops .entry)) (now (lens .entry)) (now (links .entry)) (now (strides .entry))) (r .outcome) (r .record) (now (scratch .exit))
-        (lists (now (hops .exit)) (now (lens .exit)) (now (links .exit)) (now (strides .exit))) ⌝ }
+        BuildIs (kindOf kind) width levels links (now (value .entry)) (now (length .entry)) (now (hop .entry)) (now (scratch .entry))
+        (lists (now (rowhops .entry)) (now (rowlens .entry)) (now (rowlinks .entry)) (now (rowstrides .entry))) (r .outcome) (r .record) (now (scratch .exit))
+        (lists (now (rowhops .exit)) (now (rowlens .exit)) (now (rowlinks .exit)) (now (rowstrides .exit))) ⌝ }
     ensures meaning { λ r. ⌜
-        Builds (kindOf kind) width levels (now (value .entry)) (now (length .entry)) (now (hop .entry)) (now (scratch .entry))
-        (lists (now (hops .entry)) (now (lens .entry)) (now (links .entry)) (now (strides .entry))) (r .outcome) (r .record) (now (scratch .exit))
-        (lists (now (hops .exit)) (now (lens .exit)) (now (links .exit)) (now (strides .exit))) ⌝ }
+        Builds (kindOf kind) width levels links (now (value .entry)) (now (length .entry)) (now (hop .entry)) (now (scratch .entry))
+        (lists (now (rowhops .entry)) (now (rowlens .entry)) (now (rowlinks .entry)) (now (rowstrides .entry))) (r .outcome) (r .record) (now (scratch .exit))
+        (lists (now (rowhops .exit)) (now (rowlens .exit)) (now (rowlinks .exit)) (now (rowstrides .exit))) ⌝ }
 {
-    let p = plan_choice(kind, width, levels, value, length, hop, scratch);
+    let p = plan_choice(kind, width, levels, links, value, length, hop, scratch);
     let outcome = p.outcome;
     if let Outcome::Refused { number, detail } = outcome {
         return refused(number, detail);
@@ -154,10 +167,10 @@ pub fn build(
         length,
         hop,
         scratch,
-        hops,
-        lens,
-        links,
-        strides,
+        rowhops,
+        rowlens,
+        rowlinks,
+        rowstrides,
     );
     zero(scratch);
     built

@@ -24,7 +24,7 @@ returns : tie.Need-returns
 returns c =
     let c6 = c .before .before .before .before .before .before in
     let S = c6 .before .before .before .before .before .before .before .before .before .before in
-    let b = early-is (c6 .plan-choice .ensures .0) (lists (S .args .hops .now) (S .args .lens .now) (S .args .links .now) (S .args .strides .now)) (c .before .before .outcome .given .1)
+    let b = early-is (c6 .plan-choice .ensures .0) (lists (S .args .rowhops .now) (S .args .rowlens .now) (S .args .rowlinks .now) (S .args .rowstrides .now)) (c .before .before .outcome .given .1)
     (c .refused .ensures .0) (c .refused .ensures .1) in
     (b, build-means b)
 
@@ -60,8 +60,8 @@ returns-2 c =
     let S = c22 .before .before .before .before .before .before .before .before .before .before in
     let P = c22 .plan-choice in
     let told = c18 .enum-told .given .1 in
-    let e : length (P .last .1 .1 .1 .1 .1 .1 .0) ≡ length (S .args .scratch .now) = omega (arith, P .kept) in
-    let b = past-is (P .ensures .0) (lists (S .args .hops .now) (S .args .lens .now) (S .args .links .now) (S .args .strides .now)) told
+    let e : length (P .last .1 .1 .1 .1 .1 .1 .1 .0) ≡ length (S .args .scratch .now) = omega (arith, P .kept) in
+    let b = past-is (P .ensures .0) (lists (S .args .rowhops .now) (S .args .rowlens .now) (S .args .rowlinks .now) (S .args .rowstrides .now)) told
     (c12 .build-rows .ensures _ _ (plan-for (P .ensures .0) told)) (c .before .before .zero .ensures ∙ ap (λ (n : ℕ). replicate n 0) e) in
     (b, build-means b)
 

@@ -16,7 +16,7 @@ refused-requires c κs = search needs
 returns : tie.Need-returns
 returns c =
     let S = c .before .before .before .before .before .before .before .before .before .before in
-    λ kind vs g. crowded-is g (lists (S .args .hops .now) (S .args .lens .now) (S .args .links .now) (S .args .strides .now)) (sym (c .before .before .is-crowded .ensures) ∙ c .before .if1 .taken)
+    λ kind vs g. crowded-is g (lists (S .args .rowhops .now) (S .args .rowlens .now) (S .args .rowlinks .now) (S .args .rowstrides .now)) (sym (c .before .before .is-crowded .ensures) ∙ c .before .if1 .taken)
     (c .refused .ensures .0) (c .refused .ensures .1)
 
 array-share-prefix-plan : tie.Need-array-share-prefix-plan
@@ -58,7 +58,7 @@ returns-2 c =
     let c17 = c .before .before .before .before .before .before .before .before .before .before .before .before .before .before .before .before .before in
     let S = c17 .before .before .before .before .before .before .before .before .before in
     let L = c .before .before .before .before .before .before .before .before .before .before .lay in
-    λ kind vs g. built-is g (lists (S .args .hops .now) (S .args .lens .now) (S .args .links .now) (S .args .strides .now)) _ (sym (c17 .before .is-crowded .ensures) ∙ c17 .if1 .left)
+    λ kind vs g. built-is g (lists (S .args .rowhops .now) (S .args .rowlens .now) (S .args .rowlinks .now) (S .args .rowstrides .now)) _ (sym (c17 .before .is-crowded .ensures) ∙ c17 .if1 .left)
     (L .ensures) (omega (arith, L .kept)) (omega (arith, L .kept)) (omega (arith, L .kept)) (omega (arith, L .kept)) refl refl refl (c .floor-hop .ensures _ _ (g .table)) refl refl
 
 pub build-rows-spec : {M : Type 1} → statement M

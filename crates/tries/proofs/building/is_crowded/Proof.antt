@@ -18,7 +18,7 @@ smaller-requires-3 c κs = search needs
 returns : tie.Need-returns
 returns c =
     let a = c .before .before .before .before .args in
-    crowded (min (a .hops) (min (a .lens) (min (a .links) (a .strides)))) (a .e) ELEMENTS (omega arith)
+    crowded (min (a .rowhops) (min (a .rowlens) (min (a .rowlinks) (a .rowstrides)))) (a .e) ELEMENTS (omega arith)
 
 cast-result : tie.Need-cast-result
 cast-result c = search needs
@@ -26,7 +26,7 @@ cast-result c = search needs
 returns-2 : tie.Need-returns-2
 returns-2 c =
     let a = c .before .before .before .before .args in
-    roomy (min (a .hops) (min (a .lens) (min (a .links) (a .strides)))) (a .e) ELEMENTS (omega arith)
+    roomy (min (a .rowhops) (min (a .rowlens) (min (a .rowlinks) (a .rowstrides)))) (a .e) ELEMENTS (omega arith)
 
 pub is-crowded-spec : {M : Type 1} → statement M
 is-crowded-spec =
