@@ -35,7 +35,7 @@ use Rattle.gateway.specs.Corner.{CornerAnswers}
 corner-is : (a : ℕ) (r : Answer) → Case r → (numberOf r ≡ 0) × LongestEntry 4 cornerValues cornerLengths cornerHops a (hopOf r) (lengthOf r)
     → r ≡ answer (longest 4 (at cornerValues) (at cornerLengths) (at cornerHops) 2 a) (matched 4 (at cornerValues) (at cornerLengths) 2 a) (readsOf r)
 corner-is a r c l =
-    let t = accepted-table 4 cornerValues cornerLengths cornerHops corner-accepted in
+    let t = accepted-table 4 1 cornerValues cornerLengths cornerHops (corner-accepted .0) in
     let one = longest-unique 4 cornerValues cornerLengths cornerHops t a (l .1) (longest-is 4 (at cornerValues) (at cornerLengths) (at cornerHops) 2 a) in
     accepted-is r (l .0) c ∙ ap₂ (λ (h l : ℕ). answer h l (readsOf r)) (one .0) (one .1)
 
@@ -48,11 +48,11 @@ corner-answers Allows f = record {
   outside = λ {r} l. let p = f 0b0111 (omega arith) r l in corner-is 0b0111 r (p .0) (p .1);
 }
 
-pub corner-elements : {kind : Kind} {k : ℕ} {scratch : List ℕ} {rows : Lists} {out : Outcome} {rec : Record} {s : List ℕ} {rows′ : Lists}
-    → Builds kind 4 k cornerValues cornerLengths cornerHops scratch rows out rec s rows′ → out ≡ Accepted → CornerAnswers (λ a r. Looked WIDTH rec rows′ a r)
+pub corner-elements : {kind : Kind} {k links : ℕ} {scratch : List ℕ} {rows : Lists} {out : Outcome} {rec : Record} {s : List ℕ} {rows′ : Lists}
+    → Builds kind 4 k links cornerValues cornerLengths cornerHops scratch rows out rec s rows′ → out ≡ Accepted → CornerAnswers (λ a r. Looked WIDTH rec rows′ a r)
 corner-elements b e = corner-answers _ (λ a h r l. (l .case, build-longest b e a h l))
 
-pub corner-bitmap : {scratch : List ℕ} {rows : RowLists} {hops : List ℕ} {out : Outcome} {rec : Bitmap} {s : List ℕ} {rows′ : RowLists} {hops′ : List ℕ}
-    → BuildsBitmap 4 cornerValues cornerLengths cornerHops scratch rows hops out rec s rows′ hops′ → out ≡ Accepted
+pub corner-bitmap : {links : ℕ} {scratch : List ℕ} {rows : RowLists} {hops : List ℕ} {out : Outcome} {rec : Bitmap} {s : List ℕ} {rows′ : RowLists} {hops′ : List ℕ}
+    → BuildsBitmap 4 links cornerValues cornerLengths cornerHops scratch rows hops out rec s rows′ hops′ → out ≡ Accepted
     → CornerAnswers (λ a r. LookedBitmap WIDTH rec rows′ hops′ a r)
 corner-bitmap b e = corner-answers _ (λ a h r l. (l .case, bitmap-longest b e a h l))

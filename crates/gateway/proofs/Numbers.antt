@@ -46,9 +46,9 @@ use Rattle.walk.specs.declared.numbers.AnswerNumbers.{AnswerNumbers}
 
 -- ---- each call's numbers
 
-pub checked-tells : (W : ℕ) (vs ls hs : List ℕ) {r : Checked} → Told (Gives (tableTests W vs ls hs)) outcomeNumbers r
-    → Tells (tableTests W vs ls hs) (r .number) (r .detail)
-checked-tells W vs ls hs t = rw (t .2) (gives-tells 5 (tableTests W vs ls hs) (numbered-table 5 (omega arith) W vs ls hs) (t .0) (t .1))
+pub checked-tells : (W links : ℕ) (vs ls hs : List ℕ) {r : Checked} → Told (Gives (tableTests W links vs ls hs)) outcomeNumbers r
+    → Tells (tableTests W links vs ls hs) (r .number) (r .detail)
+checked-tells W links vs ls hs t = rw (t .2) (gives-tells 5 (tableTests W links vs ls hs) (numbered-table 5 (omega arith) W links vs ls hs) (t .0) (t .1))
 
 -- a refused shared length has detail 0
 shared-detail : (W a l b m : ℕ) (o : Outcome) → Gives (sharedTests W a l b m) o → outcomeDetail o ≡ 0
@@ -64,24 +64,24 @@ shared-bits-tells W a l b m t =
     let g = t .1 .tested in
     rw (t .2) (subst (Tells (sharedTests W a l b m) (outcomeNumber o)) (shared-detail W a l b m o g) (gives-tells 10 (sharedTests W a l b m) (numbered-shared W a l b m) o g))
 
-pub zone-span-tells : (W : ℕ) (vs ls hs : List ℕ) (p b : ℕ) {r : SpanNumbers} → Told (Spans W vs ls hs p b) spanNumbers r
-    → Tells (zoneTests W vs ls hs p b) (r .number) (r .detail)
-zone-span-tells W vs ls hs p b t =
-    rw (t .2) (gives-tells 10 (zoneTests W vs ls hs p b) (numbered-zone W vs ls hs p b) (spanOutcome (t .0)) (t .1 .tested))
+pub zone-span-tells : (W links : ℕ) (vs ls hs : List ℕ) (p b : ℕ) {r : SpanNumbers} → Told (Spans W links vs ls hs p b) spanNumbers r
+    → Tells (zoneTests W links vs ls hs p b) (r .number) (r .detail)
+zone-span-tells W links vs ls hs p b t =
+    rw (t .2) (gives-tells 10 (zoneTests W links vs ls hs p b) (numbered-zone W links vs ls hs p b) (spanOutcome (t .0)) (t .1 .tested))
 
-module _ (kind : Kind) (W k : ℕ) (vs ls hs scratch : List ℕ) where
-  pub choice-tells : {s : List ℕ} {r : ChosenNumbers} → Told (AllowedChoice kind W k vs ls hs scratch s) choiceNumbers r
-      → Tells (chooseTests W k vs ls hs (length scratch)) (r .number) (r .detail)
+module _ (kind : Kind) (W k links : ℕ) (vs ls hs scratch : List ℕ) where
+  pub choice-tells : {s : List ℕ} {r : ChosenNumbers} → Told (AllowedChoice kind W k links vs ls hs scratch s) choiceNumbers r
+      → Tells (chooseTests W k links vs ls hs (length scratch)) (r .number) (r .detail)
   choice-tells t =
-      rw (t .2) (gives-tells 6 (chooseTests W k vs ls hs (length scratch)) (numbered-choose 6 (omega arith) W k vs ls hs (length scratch)) (t .0 .outcome) (t .1 .tested))
+      rw (t .2) (gives-tells 6 (chooseTests W k links vs ls hs (length scratch)) (numbered-choose 6 (omega arith) W k links vs ls hs (length scratch)) (t .0 .outcome) (t .1 .tested))
 
   -- where the cheapest choice costs `least`
-  pub built-tells : {rows rows′ : Lists} {s : List ℕ} {r : BuiltNumbers} → Told (AllowedBuild kind W k vs ls hs scratch rows s rows′) buildNumbers r
+  pub built-tells : {rows rows′ : Lists} {s : List ℕ} {r : BuiltNumbers} → Told (AllowedBuild kind W k links vs ls hs scratch rows s rows′) buildNumbers r
       → (least : ℕ) → (1 ≤ k → Cheapest kind k (tableTrie W vs ls hs) least)
-      → Tells (buildTests W k vs ls hs (length scratch) (shortest rows) least) (r .number) (r .detail)
+      → Tells (buildTests W k links vs ls hs (length scratch) (shortest rows) least) (r .number) (r .detail)
   built-tells {rows} t least c =
       rw (t .2)
-      (gives-tells 7 (buildTests W k vs ls hs (length scratch) (shortest rows) least) (numbered-build W k vs ls hs (length scratch) (shortest rows) least) (t .0 .outcome) (t .1 .tested least c))
+      (gives-tells 7 (buildTests W k links vs ls hs (length scratch) (shortest rows) least) (numbered-build W k links vs ls hs (length scratch) (shortest rows) least) (t .0 .outcome) (t .1 .tested least c))
 
 -- ---- a lookup's number
 
@@ -92,26 +92,26 @@ lookup-tells rec ls address t = rw (t .2) (t .1 .tested)
 
 -- ---- tree bitmap arrays
 
-pub bitmap-tells : (W : ℕ) (vs ls hs scratch : List ℕ) {rows rows′ : RowLists} {hops s hops′ : List ℕ} {r : BuiltBitmapNumbers}
-    → Told (AllowedBitmap W vs ls hs scratch rows hops s rows′ hops′) bitmapNumbers r
-    → Tells (bitmapTests W vs ls hs (length scratch) (rowRoom rows) (length hops)) (r .number) (r .detail)
-bitmap-tells W vs ls hs scratch {rows} {hops = hops} t =
+pub bitmap-tells : (W links : ℕ) (vs ls hs scratch : List ℕ) {rows rows′ : RowLists} {hops s hops′ : List ℕ} {r : BuiltBitmapNumbers}
+    → Told (AllowedBitmap W links vs ls hs scratch rows hops s rows′ hops′) bitmapNumbers r
+    → Tells (bitmapTests W links vs ls hs (length scratch) (rowRoom rows) (length hops)) (r .number) (r .detail)
+bitmap-tells W links vs ls hs scratch {rows} {hops = hops} t =
     rw (t .2)
-    (gives-tells 7 (bitmapTests W vs ls hs (length scratch) (rowRoom rows) (length hops)) (numbered-bitmap W vs ls hs (length scratch) (rowRoom rows) (length hops)) (t .0 .outcome) (t .1 .tested))
+    (gives-tells 7 (bitmapTests W links vs ls hs (length scratch) (rowRoom rows) (length hops)) (numbered-bitmap W links vs ls hs (length scratch) (rowRoom rows) (length hops)) (t .0 .outcome) (t .1 .tested))
 
 pub lookup-bitmap-tells : (rec : Bitmap) (rows : RowLists) (hops : List ℕ) (address : ℕ) {r : AnswerNumbers}
     → Told (LookedBitmap WIDTH rec rows hops address) answerNumbers r → BitmapTested WIDTH rec rows hops address (r .number)
 lookup-bitmap-tells rec rows hops address t = rw (t .2) (t .1 .tested)
 
-module _ (kind : Kind) (W k : ℕ) (rs : Rules) (scratch : List ℕ) where
+module _ (kind : Kind) (W k links : ℕ) (rs : Rules) (scratch : List ℕ) where
   -- where the rules have m destinations, and the cheapest choice of each trie costs `least`
   pub built-rules-tells : {rows rows′ : Lists} {list s list′ : List ℕ} {r : BuiltRulesNumbers}
-      → Told (AllowedRules kind W k rs scratch rows list s rows′ list′) ruleBuildNumbers r → (m : ℕ) (from least : ℕ → ℕ) → RunsOf rs m from
+      → Told (AllowedRules kind W k links rs scratch rows list s rows′ list′) ruleBuildNumbers r → (m : ℕ) (from least : ℕ → ℕ) → RunsOf rs m from
       → ((g : ℕ) → g ≤ m → 1 ≤ k → Cheapest kind k (ruleTrie W rs m from g) (least g))
-      → Tells (ruleBuildTests W k rs (length scratch) (shortest rows) (length list) m from least) (r .number) (r .detail)
+      → Tells (ruleBuildTests W k links rs (length scratch) (shortest rows) (length list) m from least) (r .number) (r .detail)
   built-rules-tells {rows} {list = list} t m from least runs c =
-      let numbered = numbered-rule-build W k rs (length scratch) m from (shortest rows) (length list) least in
-      rw (t .2) (gives-tells 7 (ruleBuildTests W k rs (length scratch) (shortest rows) (length list) m from least) numbered (t .0 .outcome) (t .1 .tested m from least runs c))
+      let numbered = numbered-rule-build W k links rs (length scratch) m from (shortest rows) (length list) least in
+      rw (t .2) (gives-tells 7 (ruleBuildTests W k links rs (length scratch) (shortest rows) (length list) m from least) numbered (t .0 .outcome) (t .1 .tested m from least runs c))
 
 pub classify-tells : (rec : RuleRecord) (ls : Lists) (list : List ℕ) (dest source : ℕ) {r : VerdictNumbers}
     → Told (Classified rec ls list dest source WIDTH) verdictNumbers r → RuleTested rec ls list dest source WIDTH (r .number)

@@ -41,16 +41,16 @@ use Rattle.gateway.specs.declared.ruling.BuiltRulesNumbers.{BuiltRulesNu
 use Rattle.gateway.specs.declared.ruling.VerdictNumbers.{VerdictNumbers}
 use Rattle.walk.specs.declared.numbers.AnswerNumbers.{AnswerNumbers}
 
-pub checked-unique : (W : ℕ) (vs ls hs : List ℕ) {r r′ : Checked}
-    → Told (Gives (tableTests W vs ls hs)) outcomeNumbers r → Told (Gives (tableTests W vs ls hs)) outcomeNumbers r′ → r ≡ r′
-checked-unique W vs ls hs = told-unique (check-unique W vs ls hs)
+pub checked-unique : (W links : ℕ) (vs ls hs : List ℕ) {r r′ : Checked}
+    → Told (Gives (tableTests W links vs ls hs)) outcomeNumbers r → Told (Gives (tableTests W links vs ls hs)) outcomeNumbers r′ → r ≡ r′
+checked-unique W links vs ls hs = told-unique (check-unique W links vs ls hs)
 
 pub shared-bits-unique : (W a l b m : ℕ) {r r′ : SharedNumbers} → Told (Shares W a l b m) sharedNumbers r → Told (Shares W a l b m) sharedNumbers r′ → r ≡ r′
 shared-bits-unique W a l b m = told-unique (shares-unique W a l b m)
 
-pub zone-span-unique : (W : ℕ) (vs ls hs : List ℕ) (p b : ℕ) {r r′ : SpanNumbers}
-    → Told (Spans W vs ls hs p b) spanNumbers r → Told (Spans W vs ls hs p b) spanNumbers r′ → r ≡ r′
-zone-span-unique W vs ls hs p b = told-unique (spans-unique W vs ls hs p b)
+pub zone-span-unique : (W links : ℕ) (vs ls hs : List ℕ) (p b : ℕ) {r r′ : SpanNumbers}
+    → Told (Spans W links vs ls hs p b) spanNumbers r → Told (Spans W links vs ls hs p b) spanNumbers r′ → r ≡ r′
+zone-span-unique W links vs ls hs p b = told-unique (spans-unique W links vs ls hs p b)
 
 -- ---- with what is left in the lists
 
@@ -60,17 +60,17 @@ choice-same p q r = rw (p, q, r)
 build-same : {b b′ : Built} → b .outcome ≡ b′ .outcome → b .record ≡ b′ .record → buildNumbers b ≡ buildNumbers b′
 build-same p q = rw (p, q)
 
-module _ (kind : Kind) (W k : ℕ) (vs ls hs scratch : List ℕ) where
-  pub choice-unique : {s s′ : List ℕ} {r r′ : ChosenNumbers} → Told (AllowedChoice kind W k vs ls hs scratch s) choiceNumbers r
-      → Told (AllowedChoice kind W k vs ls hs scratch s′) choiceNumbers r′ → (r ≡ r′) × (s ≡ s′)
+module _ (kind : Kind) (W k links : ℕ) (vs ls hs scratch : List ℕ) where
+  pub choice-unique : {s s′ : List ℕ} {r r′ : ChosenNumbers} → Told (AllowedChoice kind W k links vs ls hs scratch s) choiceNumbers r
+      → Told (AllowedChoice kind W k links vs ls hs scratch s′) choiceNumbers r′ → (r ≡ r′) × (s ≡ s′)
   choice-unique t t′ =
-      let u = chooses-unique kind W k vs ls hs scratch (t .1) (t′ .1) in
+      let u = chooses-unique kind W k links vs ls hs scratch (t .1) (t′ .1) in
       (t .2 ∙ choice-same {c = t .0} {c′ = t′ .0} (u .0) (u .1) (u .2) ∙ sym (t′ .2), u .3)
 
-  pub built-unique : {rows rows1 rows2 : Lists} {s s′ : List ℕ} {r r′ : BuiltNumbers} → Told (AllowedBuild kind W k vs ls hs scratch rows s rows1) buildNumbers r
-      → Told (AllowedBuild kind W k vs ls hs scratch rows s′ rows2) buildNumbers r′ → (r ≡ r′) × (s ≡ s′) × (rows1 ≡ rows2)
+  pub built-unique : {rows rows1 rows2 : Lists} {s s′ : List ℕ} {r r′ : BuiltNumbers} → Told (AllowedBuild kind W k links vs ls hs scratch rows s rows1) buildNumbers r
+      → Told (AllowedBuild kind W k links vs ls hs scratch rows s′ rows2) buildNumbers r′ → (r ≡ r′) × (s ≡ s′) × (rows1 ≡ rows2)
   built-unique {rows} t t′ =
-      let u = builds-unique kind W k vs ls hs scratch rows (t .1) (t′ .1) in
+      let u = builds-unique kind W k links vs ls hs scratch rows (t .1) (t′ .1) in
       (t .2 ∙ build-same {b = t .0} {b′ = t′ .0} (u .0) (u .1) ∙ sym (t′ .2), u .2, u .3)
 
 columns-same : {a a′ b b′ c c′ d d′ : List ℕ} → a ≡ a′ → b ≡ b′ → c ≡ c′ → d ≡ d′ → columns a b c d ≡ columns a′ b′ c′ d′
@@ -105,10 +105,10 @@ module _ (rec : Record) (ls : Lists) (xs : List ℕ) (cs : Columns) where
 bitmap-same : {b b′ : BuiltBitmap} → b .outcome ≡ b′ .outcome → b .record ≡ b′ .record → bitmapNumbers b ≡ bitmapNumbers b′
 bitmap-same p q = rw (p, q)
 
-pub built-bitmap-unique : (W : ℕ) (vs ls hs scratch : List ℕ) {rows rows1 rows2 : RowLists} {hops s hops1 s′ hops2 : List ℕ} {r r′ : BuiltBitmapNumbers}
-    → Told (AllowedBitmap W vs ls hs scratch rows hops s rows1 hops1) bitmapNumbers r → Told (AllowedBitmap W vs ls hs scratch rows hops s′ rows2 hops2) bitmapNumbers r′
+pub built-bitmap-unique : (W links : ℕ) (vs ls hs scratch : List ℕ) {rows rows1 rows2 : RowLists} {hops s hops1 s′ hops2 : List ℕ} {r r′ : BuiltBitmapNumbers}
+    → Told (AllowedBitmap W links vs ls hs scratch rows hops s rows1 hops1) bitmapNumbers r → Told (AllowedBitmap W links vs ls hs scratch rows hops s′ rows2 hops2) bitmapNumbers r′
     → (r ≡ r′) × (s ≡ s′) × (rows1 ≡ rows2) × (hops1 ≡ hops2)
-built-bitmap-unique W vs ls hs scratch {rows} {hops = hops} t t′ =
+built-bitmap-unique W links vs ls hs scratch {rows} {hops = hops} t t′ =
     let u = bitmap-unique W vs ls hs scratch rows hops (t .1) (t′ .1) in
     (t .2 ∙ bitmap-same {b = t .0} {b′ = t′ .0} (u .0) (u .1) ∙ sym (t′ .2), u .2, u .3, u .4)
 
@@ -117,11 +117,11 @@ built-bitmap-unique W vs ls hs scratch {rows} {hops = hops} t t′ =
 rule-build-same : {b b′ : BuiltRules} → b .outcome ≡ b′ .outcome → b .record ≡ b′ .record → ruleBuildNumbers b ≡ ruleBuildNumbers b′
 rule-build-same p q = rw (p, q)
 
-pub built-rules-unique : (kind : Kind) (W k : ℕ) (rs : Rules) (scratch : List ℕ) {rows rows1 rows2 : Lists} {list s list1 s′ list2 : List ℕ} {r r′ : BuiltRulesNumbers}
-    → Told (AllowedRules kind W k rs scratch rows list s rows1 list1) ruleBuildNumbers r → Told (AllowedRules kind W k rs scratch rows list s′ rows2 list2) ruleBuildNumbers r′
+pub built-rules-unique : (kind : Kind) (W k links : ℕ) (rs : Rules) (scratch : List ℕ) {rows rows1 rows2 : Lists} {list s list1 s′ list2 : List ℕ} {r r′ : BuiltRulesNumbers}
+    → Told (AllowedRules kind W k links rs scratch rows list s rows1 list1) ruleBuildNumbers r → Told (AllowedRules kind W k links rs scratch rows list s′ rows2 list2) ruleBuildNumbers r′
     → (r ≡ r′) × (s ≡ s′) × (rows1 ≡ rows2) × (list1 ≡ list2)
 built-rules-unique kind W k rs scratch {rows} {list = list} t t′ =
-    let u = rule-builds-unique kind W k rs scratch rows list (t .1) (t′ .1) in
+    let u = rule-builds-unique kind W k links rs scratch rows list (t .1) (t′ .1) in
     (t .2 ∙ rule-build-same {b = t .0} {b′ = t′ .0} (u .0) (u .1) ∙ sym (t′ .2), u .2, u .3, u .4)
 
 pub classify-unique : (rec : RuleRecord) (ls : Lists) (list : List ℕ) (dest source : ℕ) {r r′ : VerdictNumbers}

@@ -39,6 +39,7 @@ fn bitmap_numbers(built: BuiltBitmap) -> BuiltBitmapNumbers
 #[no_mangle]
 pub extern "C" fn hongsamuk_build_bitmap(
     width: u32,
+    links: u16,
     value: &[u32],
     length: &[u8],
     hop: &[u16],
@@ -51,17 +52,18 @@ pub extern "C" fn hongsamuk_build_bitmap(
 ) -> BuiltBitmapNumbers
     ensures exact { λ r. ⌜
         Told
-        (ExactBitmap width (now (value .entry)) (now (length .entry)) (now (hop .entry)) (now (scratch .entry))
+        (ExactBitmap width links (now (value .entry)) (now (length .entry)) (now (hop .entry)) (now (scratch .entry))
         (rowLists (now (internal .entry)) (now (external .entry)) (now (child .entry)) (now (first .entry))) (now (hops .entry)) (now (scratch .exit))
         (rowLists (now (internal .exit)) (now (external .exit)) (now (child .exit)) (now (first .exit))) (now (hops .exit))) bitmapNumbers r ⌝ }
     ensures meaning { λ r. ⌜
         Told
-        (AllowedBitmap width (now (value .entry)) (now (length .entry)) (now (hop .entry)) (now (scratch .entry))
+        (AllowedBitmap width links (now (value .entry)) (now (length .entry)) (now (hop .entry)) (now (scratch .entry))
         (rowLists (now (internal .entry)) (now (external .entry)) (now (child .entry)) (now (first .entry))) (now (hops .entry)) (now (scratch .exit))
         (rowLists (now (internal .exit)) (now (external .exit)) (now (child .exit)) (now (first .exit))) (now (hops .exit))) bitmapNumbers r ⌝ }
 {
     bitmap_numbers(supernodes::build_bitmap(
         width,
+        links,
         value,
         length,
         hop,

@@ -35,6 +35,7 @@ fn choice_numbers(chosen: Chosen) -> ChosenNumbers
 pub extern "C" fn hongsamuk_choose_fixed(
     width: u32,
     levels: u32,
+    links: u16,
     value: &[u32],
     length: &[u8],
     hop: &[u16],
@@ -42,14 +43,14 @@ pub extern "C" fn hongsamuk_choose_fixed(
 ) -> ChosenNumbers
     ensures exact { λ r. ⌜
         Told
-        (ExactChoice fixed width levels (now (value .entry)) (now (length .entry)) (now (hop .entry)) (now (scratch .entry)) (now (scratch .exit)))
+        (ExactChoice fixed width levels links (now (value .entry)) (now (length .entry)) (now (hop .entry)) (now (scratch .entry)) (now (scratch .exit)))
         choiceNumbers r ⌝ }
     ensures meaning { λ r. ⌜
         Told
-        (AllowedChoice fixed width levels (now (value .entry)) (now (length .entry)) (now (hop .entry)) (now (scratch .entry)) (now (scratch .exit)))
+        (AllowedChoice fixed width levels links (now (value .entry)) (now (length .entry)) (now (hop .entry)) (now (scratch .entry)) (now (scratch .exit)))
         choiceNumbers r ⌝ }
 {
-    choice_numbers(tries::choose_fixed(width, levels, value, length, hop, scratch))
+    choice_numbers(tries::choose_fixed(width, levels, links, value, length, hop, scratch))
 }
 
 // The same for one stride a block: only the root's is named.
@@ -57,6 +58,7 @@ pub extern "C" fn hongsamuk_choose_fixed(
 pub extern "C" fn hongsamuk_choose_variable(
     width: u32,
     levels: u32,
+    links: u16,
     value: &[u32],
     length: &[u8],
     hop: &[u16],
@@ -64,12 +66,12 @@ pub extern "C" fn hongsamuk_choose_variable(
 ) -> ChosenNumbers
     ensures exact { λ r. ⌜
         Told
-        (ExactChoice variable width levels (now (value .entry)) (now (length .entry)) (now (hop .entry)) (now (scratch .entry)) (now (scratch .exit)))
+        (ExactChoice variable width levels links (now (value .entry)) (now (length .entry)) (now (hop .entry)) (now (scratch .entry)) (now (scratch .exit)))
         choiceNumbers r ⌝ }
     ensures meaning { λ r. ⌜
         Told
-        (AllowedChoice variable width levels (now (value .entry)) (now (length .entry)) (now (hop .entry)) (now (scratch .entry)) (now (scratch .exit)))
+        (AllowedChoice variable width levels links (now (value .entry)) (now (length .entry)) (now (hop .entry)) (now (scratch .entry)) (now (scratch .exit)))
         choiceNumbers r ⌝ }
 {
-    choice_numbers(tries::choose_variable(width, levels, value, length, hop, scratch))
+    choice_numbers(tries::choose_variable(width, levels, links, value, length, hop, scratch))
 }

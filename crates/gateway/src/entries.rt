@@ -72,11 +72,17 @@ fn span_numbers(span: Span) -> SpanNumbers
 
 // Whether three lists are a table of the width: tests 1, 3, 4, 5. No list changes.
 #[no_mangle]
-pub extern "C" fn hongsamuk_check(width: u32, value: &[u32], length: &[u8], hop: &[u16]) -> Checked
-    ensures exact { λ r. ⌜ r ≡ outcomeNumbers (checkOf width (now (value .entry)) (now (length .entry)) (now (hop .entry))) ⌝ }
-    ensures meaning { λ r. ⌜ Told (Gives (tableTests width (now (value .entry)) (now (length .entry)) (now (hop .entry)))) outcomeNumbers r ⌝ }
+pub extern "C" fn hongsamuk_check(
+    width: u32,
+    links: u16,
+    value: &[u32],
+    length: &[u8],
+    hop: &[u16],
+) -> Checked
+    ensures exact { λ r. ⌜ r ≡ outcomeNumbers (checkOf width links (now (value .entry)) (now (length .entry)) (now (hop .entry))) ⌝ }
+    ensures meaning { λ r. ⌜ Told (Gives (tableTests width links (now (value .entry)) (now (length .entry)) (now (hop .entry)))) outcomeNumbers r ⌝ }
 {
-    outcome_numbers(table::check_table(width, value, length, hop))
+    outcome_numbers(table::check_table(width, links, value, length, hop))
 }
 
 // How many leading bits the prefixes (a, alen) and (b, blen) share: tests 1, then 10.
@@ -99,14 +105,15 @@ pub extern "C" fn hongsamuk_shared_length(
 #[no_mangle]
 pub extern "C" fn hongsamuk_zone_span(
     width: u32,
+    links: u16,
     value: &[u32],
     length: &[u8],
     hop: &[u16],
     prefix: u32,
     bits: u8,
 ) -> SpanNumbers
-    ensures exact { λ r. ⌜ r ≡ spanNumbers (spanOf width (now (value .entry)) (now (length .entry)) (now (hop .entry)) prefix bits) ⌝ }
-    ensures meaning { λ r. ⌜ Told (Spans width (now (value .entry)) (now (length .entry)) (now (hop .entry)) prefix bits) spanNumbers r ⌝ }
+    ensures exact { λ r. ⌜ r ≡ spanNumbers (spanOf width links (now (value .entry)) (now (length .entry)) (now (hop .entry)) prefix bits) ⌝ }
+    ensures meaning { λ r. ⌜ Told (Spans width links (now (value .entry)) (now (length .entry)) (now (hop .entry)) prefix bits) spanNumbers r ⌝ }
 {
-    span_numbers(table::zone_span(width, value, length, hop, prefix, bits))
+    span_numbers(table::zone_span(width, links, value, length, hop, prefix, bits))
 }

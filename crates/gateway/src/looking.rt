@@ -16,18 +16,18 @@ use walk::Record;
 #[no_mangle]
 pub extern "C" fn hongsamuk_lookup(
     rec: Record,
-    hops: &[u16],
-    lens: &[u8],
-    links: &[u32],
-    strides: &[u8],
+    rowhops: &[u16],
+    rowlens: &[u8],
+    rowlinks: &[u32],
+    rowstrides: &[u8],
     address: u32,
 ) -> AnswerNumbers
     ensures exact { λ r. ⌜
-        r ≡ answerNumbers (lookupOf WIDTH rec (lists (now (hops .entry)) (now (lens .entry)) (now (links .entry)) (now (strides .entry))) address) ⌝ }
+        r ≡ answerNumbers (lookupOf WIDTH rec (lists (now (rowhops .entry)) (now (rowlens .entry)) (now (rowlinks .entry)) (now (rowstrides .entry))) address) ⌝ }
     ensures meaning { λ r. ⌜
-        Told (Looked WIDTH rec (lists (now (hops .entry)) (now (lens .entry)) (now (links .entry)) (now (strides .entry))) address) answerNumbers r ⌝ }
+        Told (Looked WIDTH rec (lists (now (rowhops .entry)) (now (rowlens .entry)) (now (rowlinks .entry)) (now (rowstrides .entry))) address) answerNumbers r ⌝ }
 {
-    walk::lookup_numbers(rec, hops, lens, links, strides, address)
+    walk::lookup_numbers(rec, rowhops, rowlens, rowlinks, rowstrides, address)
 }
 
 // Lookups one after the other: as many as the shortest of the address list and the four answer lists has. Number, hop, length and
@@ -35,10 +35,10 @@ pub extern "C" fn hongsamuk_lookup(
 #[no_mangle]
 pub extern "C" fn hongsamuk_lookup_batch(
     rec: Record,
-    hops: &[u16],
-    lens: &[u8],
-    links: &[u32],
-    strides: &[u8],
+    rowhops: &[u16],
+    rowlens: &[u8],
+    rowlinks: &[u32],
+    rowstrides: &[u8],
     address: &[u32],
     number: &mut [u32],
     hop: &mut [u16],
@@ -46,11 +46,11 @@ pub extern "C" fn hongsamuk_lookup_batch(
     reads: &mut [u32],
 ) -> usize
     ensures exact { λ r. ⌜
-        Answered (ExactAnswer rec (lists (now (hops .entry)) (now (lens .entry)) (now (links .entry)) (now (strides .entry)))) (now (address .entry))
+        Answered (ExactAnswer rec (lists (now (rowhops .entry)) (now (rowlens .entry)) (now (rowlinks .entry)) (now (rowstrides .entry)))) (now (address .entry))
         (columns (now (number .entry)) (now (hop .entry)) (now (len .entry)) (now (reads .entry)))
         (columns (now (number .exit)) (now (hop .exit)) (now (len .exit)) (now (reads .exit))) r ⌝ }
     ensures meaning { λ r. ⌜
-        Answered (Looked WIDTH rec (lists (now (hops .entry)) (now (lens .entry)) (now (links .entry)) (now (strides .entry)))) (now (address .entry))
+        Answered (Looked WIDTH rec (lists (now (rowhops .entry)) (now (rowlens .entry)) (now (rowlinks .entry)) (now (rowstrides .entry)))) (now (address .entry))
         (columns (now (number .entry)) (now (hop .entry)) (now (len .entry)) (now (reads .entry)))
         (columns (now (number .exit)) (now (hop .exit)) (now (len .exit)) (now (reads .exit))) r ⌝ }
 {
@@ -63,7 +63,7 @@ pub extern "C" fn hongsamuk_lookup_batch(
     );
     let mut i = 0;
     while i < n {
-        let found = walk::lookup_numbers(rec, hops, lens, links, strides, address[i]);
+        let found = walk::lookup_numbers(rec, rowhops, rowlens, rowlinks, rowstrides, address[i]);
         number[i] = found.number;
         hop[i] = found.hop;
         len[i] = found.length;

@@ -36,38 +36,40 @@ fn build_numbers(built: Built) -> BuiltNumbers
 pub extern "C" fn hongsamuk_build_fixed(
     width: u32,
     levels: u32,
+    links: u16,
     value: &[u32],
     length: &[u8],
     hop: &[u16],
     scratch: &mut [u64],
-    hops: &mut [u16],
-    lens: &mut [u8],
-    links: &mut [u32],
-    strides: &mut [u8],
+    rowhops: &mut [u16],
+    rowlens: &mut [u8],
+    rowlinks: &mut [u32],
+    rowstrides: &mut [u8],
 ) -> BuiltNumbers
     ensures exact { λ r. ⌜
         Told
-        (ExactBuild fixed width levels (now (value .entry)) (now (length .entry)) (now (hop .entry)) (now (scratch .entry))
-        (lists (now (hops .entry)) (now (lens .entry)) (now (links .entry)) (now (strides .entry))) (now (scratch .exit))
-        (lists (now (hops .exit)) (now (lens .exit)) (now (links .exit)) (now (strides .exit)))) buildNumbers r ⌝ }
+        (ExactBuild fixed width levels links (now (value .entry)) (now (length .entry)) (now (hop .entry)) (now (scratch .entry))
+        (lists (now (rowhops .entry)) (now (rowlens .entry)) (now (rowlinks .entry)) (now (rowstrides .entry))) (now (scratch .exit))
+        (lists (now (rowhops .exit)) (now (rowlens .exit)) (now (rowlinks .exit)) (now (rowstrides .exit)))) buildNumbers r ⌝ }
     ensures meaning { λ r. ⌜
         Told
-        (AllowedBuild fixed width levels (now (value .entry)) (now (length .entry)) (now (hop .entry)) (now (scratch .entry))
-        (lists (now (hops .entry)) (now (lens .entry)) (now (links .entry)) (now (strides .entry))) (now (scratch .exit))
-        (lists (now (hops .exit)) (now (lens .exit)) (now (links .exit)) (now (strides .exit)))) buildNumbers r ⌝ }
+        (AllowedBuild fixed width levels links (now (value .entry)) (now (length .entry)) (now (hop .entry)) (now (scratch .entry))
+        (lists (now (rowhops .entry)) (now (rowlens .entry)) (now (rowlinks .entry)) (now (rowstrides .entry))) (now (scratch .exit))
+        (lists (now (rowhops .exit)) (now (rowlens .exit)) (now (rowlinks .exit)) (now (rowstrides .exit)))) buildNumbers r ⌝ }
 {
     build_numbers(tries::build(
         Kind::Fixed,
         width,
         levels,
+        links,
         value,
         length,
         hop,
         scratch,
-        hops,
-        lens,
-        links,
-        strides,
+        rowhops,
+        rowlens,
+        rowlinks,
+        rowstrides,
     ))
 }
 
@@ -76,37 +78,39 @@ pub extern "C" fn hongsamuk_build_fixed(
 pub extern "C" fn hongsamuk_build_variable(
     width: u32,
     levels: u32,
+    links: u16,
     value: &[u32],
     length: &[u8],
     hop: &[u16],
     scratch: &mut [u64],
-    hops: &mut [u16],
-    lens: &mut [u8],
-    links: &mut [u32],
-    strides: &mut [u8],
+    rowhops: &mut [u16],
+    rowlens: &mut [u8],
+    rowlinks: &mut [u32],
+    rowstrides: &mut [u8],
 ) -> BuiltNumbers
     ensures exact { λ r. ⌜
         Told
-        (ExactBuild variable width levels (now (value .entry)) (now (length .entry)) (now (hop .entry)) (now (scratch .entry))
-        (lists (now (hops .entry)) (now (lens .entry)) (now (links .entry)) (now (strides .entry))) (now (scratch .exit))
-        (lists (now (hops .exit)) (now (lens .exit)) (now (links .exit)) (now (strides .exit)))) buildNumbers r ⌝ }
+        (ExactBuild variable width levels links (now (value .entry)) (now (length .entry)) (now (hop .entry)) (now (scratch .entry))
+        (lists (now (rowhops .entry)) (now (rowlens .entry)) (now (rowlinks .entry)) (now (rowstrides .entry))) (now (scratch .exit))
+        (lists (now (rowhops .exit)) (now (rowlens .exit)) (now (rowlinks .exit)) (now (rowstrides .exit)))) buildNumbers r ⌝ }
     ensures meaning { λ r. ⌜
         Told
-        (AllowedBuild variable width levels (now (value .entry)) (now (length .entry)) (now (hop .entry)) (now (scratch .entry))
-        (lists (now (hops .entry)) (now (lens .entry)) (now (links .entry)) (now (strides .entry))) (now (scratch .exit))
-        (lists (now (hops .exit)) (now (lens .exit)) (now (links .exit)) (now (strides .exit)))) buildNumbers r ⌝ }
+        (AllowedBuild variable width levels links (now (value .entry)) (now (length .entry)) (now (hop .entry)) (now (scratch .entry))
+        (lists (now (rowhops .entry)) (now (rowlens .entry)) (now (rowlinks .entry)) (now (rowstrides .entry))) (now (scratch .exit))
+        (lists (now (rowhops .exit)) (now (rowlens .exit)) (now (rowlinks .exit)) (now (rowstrides .exit)))) buildNumbers r ⌝ }
 {
     build_numbers(tries::build(
         Kind::Variable,
         width,
         levels,
+        links,
         value,
         length,
         hop,
         scratch,
-        hops,
-        lens,
-        links,
-        strides,
+        rowhops,
+        rowlens,
+        rowlinks,
+        rowstrides,
     ))
 }

@@ -78,6 +78,7 @@ fn verdict_numbers(verdict: Verdict) -> VerdictNumbers
 pub extern "C" fn hongsamuk_build_rules_fixed(
     width: u32,
     levels: u32,
+    links: u16,
     dvals: &[u32],
     dlens: &[u8],
     svals: &[u32],
@@ -92,13 +93,13 @@ pub extern "C" fn hongsamuk_build_rules_fixed(
 ) -> BuiltRulesNumbers
     ensures exact { λ r. ⌜
         Told
-        (ExactRules fixed width levels
+        (ExactRules fixed width levels links
         (rules (now (dvals .entry)) (now (dlens .entry)) (now (svals .entry)) (now (slens .entry)) (now (actions .entry))) (now (scratch .entry))
         (lists (now (rowhops .entry)) (now (rowlens .entry)) (now (rowlinks .entry)) (now (rowstrides .entry))) (now (list .entry)) (now (scratch .exit))
         (lists (now (rowhops .exit)) (now (rowlens .exit)) (now (rowlinks .exit)) (now (rowstrides .exit))) (now (list .exit))) ruleBuildNumbers r ⌝ }
     ensures meaning { λ r. ⌜
         Told
-        (AllowedRules fixed width levels
+        (AllowedRules fixed width levels links
         (rules (now (dvals .entry)) (now (dlens .entry)) (now (svals .entry)) (now (slens .entry)) (now (actions .entry))) (now (scratch .entry))
         (lists (now (rowhops .entry)) (now (rowlens .entry)) (now (rowlinks .entry)) (now (rowstrides .entry))) (now (list .entry)) (now (scratch .exit))
         (lists (now (rowhops .exit)) (now (rowlens .exit)) (now (rowlinks .exit)) (now (rowstrides .exit))) (now (list .exit))) ruleBuildNumbers r ⌝ }
@@ -107,6 +108,7 @@ pub extern "C" fn hongsamuk_build_rules_fixed(
         Kind::Fixed,
         width,
         levels,
+        links,
         dvals,
         dlens,
         svals,
@@ -126,6 +128,7 @@ pub extern "C" fn hongsamuk_build_rules_fixed(
 pub extern "C" fn hongsamuk_build_rules_variable(
     width: u32,
     levels: u32,
+    links: u16,
     dvals: &[u32],
     dlens: &[u8],
     svals: &[u32],
@@ -140,13 +143,13 @@ pub extern "C" fn hongsamuk_build_rules_variable(
 ) -> BuiltRulesNumbers
     ensures exact { λ r. ⌜
         Told
-        (ExactRules variable width levels
+        (ExactRules variable width levels links
         (rules (now (dvals .entry)) (now (dlens .entry)) (now (svals .entry)) (now (slens .entry)) (now (actions .entry))) (now (scratch .entry))
         (lists (now (rowhops .entry)) (now (rowlens .entry)) (now (rowlinks .entry)) (now (rowstrides .entry))) (now (list .entry)) (now (scratch .exit))
         (lists (now (rowhops .exit)) (now (rowlens .exit)) (now (rowlinks .exit)) (now (rowstrides .exit))) (now (list .exit))) ruleBuildNumbers r ⌝ }
     ensures meaning { λ r. ⌜
         Told
-        (AllowedRules variable width levels
+        (AllowedRules variable width levels links
         (rules (now (dvals .entry)) (now (dlens .entry)) (now (svals .entry)) (now (slens .entry)) (now (actions .entry))) (now (scratch .entry))
         (lists (now (rowhops .entry)) (now (rowlens .entry)) (now (rowlinks .entry)) (now (rowstrides .entry))) (now (list .entry)) (now (scratch .exit))
         (lists (now (rowhops .exit)) (now (rowlens .exit)) (now (rowlinks .exit)) (now (rowstrides .exit))) (now (list .exit))) ruleBuildNumbers r ⌝ }
@@ -155,6 +158,7 @@ pub extern "C" fn hongsamuk_build_rules_variable(
         Kind::Variable,
         width,
         levels,
+        links,
         dvals,
         dlens,
         svals,
@@ -174,21 +178,30 @@ pub extern "C" fn hongsamuk_build_rules_variable(
 #[no_mangle]
 pub extern "C" fn hongsamuk_classify(
     rec: RuleRecord,
-    hops: &[u16],
-    lens: &[u8],
-    links: &[u32],
-    strides: &[u8],
+    rowhops: &[u16],
+    rowlens: &[u8],
+    rowlinks: &[u32],
+    rowstrides: &[u8],
     list: &[u32],
     dest: u32,
     source: u32,
 ) -> VerdictNumbers
     ensures exact { λ r. ⌜
         r ≡ verdictNumbers
-        (classifyOf WIDTH rec (lists (now (hops .entry)) (now (lens .entry)) (now (links .entry)) (now (strides .entry))) (now (list .entry)) dest source) ⌝ }
+        (classifyOf WIDTH rec (lists (now (rowhops .entry)) (now (rowlens .entry)) (now (rowlinks .entry)) (now (rowstrides .entry))) (now (list .entry)) dest source) ⌝ }
     ensures meaning { λ r. ⌜
         Told
-        (Classified rec (lists (now (hops .entry)) (now (lens .entry)) (now (links .entry)) (now (strides .entry))) (now (list .entry)) dest source WIDTH)
+        (Classified rec (lists (now (rowhops .entry)) (now (rowlens .entry)) (now (rowlinks .entry)) (now (rowstrides .entry))) (now (list .entry)) dest source WIDTH)
         verdictNumbers r ⌝ }
 {
-    verdict_numbers(verdicts::classify(rec, hops, lens, links, strides, list, dest, source))
+    verdict_numbers(verdicts::classify(
+        rec,
+        rowhops,
+        rowlens,
+        rowlinks,
+        rowstrides,
+        list,
+        dest,
+        source,
+    ))
 }

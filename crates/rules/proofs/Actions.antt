@@ -1,11 +1,14 @@
--- The action that rules decide is one: none exactly where no rule matches, a discard exactly where the rule that wins discards.
+-- The action that rules decide is one: none exactly where no rule matches, a discard exactly where the rule that wins discards; and the
+-- gateway has it where it has every rule's.
 use mathlib.Core.Path.{_≡_, refl, sym, ap, _∙_}
-use mathlib.Core.Bool.{true≢false}
+use mathlib.Core.Bool.{false, true≢false}
 use mathlib.Core.Logic.{_↔_}
 use Prim.Native.Nat.{ℕ}
 use native.Mathlib.Omega.{arith}
 use Rattle.table.specs.Limits.{discardHop}
-use Rattle.table.specs.Table.{at}
+use Rattle.table.specs.Entry.{unlinked}
+use Rattle.table.specs.Table.{at, Linked}
+use Rattle.table.proofs.Table.{no-hop-linked}
 use Rattle.fields.specs.Rules.{Rules, GoodRules}
 use Rattle.fields.specs.Winning.{NoRuleMatches}
 use Rattle.fields.proofs.Top.{top-unique}
@@ -31,3 +34,7 @@ module _ {W : ℕ} {rs : Rules} (good : GoodRules W rs) {da sa : ℕ} where
       to : {a : ℕ} → ActionIs W rs da sa a → a ≡ discardHop → TopDiscards W rs da sa
       to (no-rule n) z = absurd (omega arith)
       to (top-rule {j} t) z = (j, t, z)
+
+  pub action-linked : (links : ℕ) → Linked links (rs .actions) → {a : ℕ} → ActionIs W rs da sa a → unlinked links a ≡ false
+  action-linked links p (no-rule n) = no-hop-linked links
+  action-linked links p (top-rule {j} t) = p j (omega (arith, t .inside, good .lengths .acts))

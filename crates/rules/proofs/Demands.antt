@@ -1,7 +1,7 @@
 -- The demands over a build of rules and a classification over what it left (02, [6]), sentence by sentence, as theorems over what the two
 -- calls promise: their meaning (`RuleBuilds`, `Classified`), not how it is found.
 use mathlib.Core.Path.{_≡_, refl, sym, ap, subst, _∙_}
-use mathlib.Core.Bool.{true, _||_}
+use mathlib.Core.Bool.{true, false, _||_}
 use mathlib.Core.List.{List, [], _∷_, List·Memᴰ}
 use mathlib.Core.Logic.{_⊎_, inl, inr, _↔_, Iff·trans}
 use Prim.Native.Nat.{ℕ, suc, _*_, _/_, _^_, _≤_, _<_}
@@ -10,7 +10,8 @@ use native.Mathlib.Omega.{arith}
 use lib.Dec.{ltb}
 use lib.ListN.{length, replicate}
 use borrow.Author.Tests.{lt-ltb, le-ltb}
-use Rattle.table.specs.Table.{at}
+use Rattle.table.specs.Entry.{unlinked}
+use Rattle.table.specs.Table.{at, Linked}
 use Rattle.table.specs.Refusals.{Test, outcome, Gives}
 use Rattle.table.specs.declared.entry.Outcome.{Outcome}
 use Rattle.table.specs.declared.entry.Outcome.the-variants.{Accepted, Refused}
@@ -44,52 +45,52 @@ use Rattle.verdicts.proofs.Alone.{verdict-path, verdict-few, verdict-alone}
 use Rattle.rules.specs.Build.{RunsOf, ruleTrie, allNodesTest, trieListTest, ruleScratchTests, ruleBuildTests, NoRuleRecord, RuleBuilds}
 use Rattle.rules.specs.Deciding.{ActionIs, TopDiscards, Calls, rowsOnWay}
 use Rattle.verdicts.proofs.Answers.{none-by-action, discard-by-action}
-use Rattle.rules.proofs.Actions.{action-unique, action-none, action-discards}
-use Rattle.rules.proofs.RuleTests.{scratch-tests-good, scratch-test-left, numbered-rule-scratch, rule-tests-early, rule-tests-late, rule-tests-scratch}
+use Rattle.rules.proofs.Actions.{action-unique, action-none, action-discards, action-linked}
+use Rattle.rules.proofs.RuleTests.{scratch-tests-good, scratch-tests-linked, scratch-test-left, numbered-rule-scratch, rule-tests-early, rule-tests-late, rule-tests-scratch}
 use Rattle.rules.proofs.Deciding.{triesVisited, actionFound, laid-way, verdict-found, laid-decides, tries-called, tries-fall}
 
-module _ {kind : Kind} {W k : ℕ} {rs : Rules} {scratch : List ℕ} {rows : Lists} {list : List ℕ} {out : Outcome} {rec : RuleRecord} {s : List ℕ} {rows′ : Lists}
-    {list′ : List ℕ} (b : RuleBuilds kind W k rs scratch rows list out rec s rows′ list′) where
+module _ {kind : Kind} {W k links : ℕ} {rs : Rules} {scratch : List ℕ} {rows : Lists} {list : List ℕ} {out : Outcome} {rec : RuleRecord} {s : List ℕ} {rows′ : Lists}
+    {list′ : List ℕ} (b : RuleBuilds kind W k links rs scratch rows list out rec s rows′ list′) where
   -- ==== refusals: the first test that fails, "with rules for entries"; "6 and 7 count over all tries"
 
   pub rules-first : (m : ℕ) (from least : ℕ → ℕ) → RunsOf rs m from → ((g : ℕ) → g ≤ m → 1 ≤ k → Cheapest kind k (ruleTrie W rs m from g) (least g))
-      → (o : Outcome) → (out ≡ o) ↔ Gives (ruleBuildTests W k rs (length scratch) (shortest rows) (length list) m from least) o
+      → (o : Outcome) → (out ≡ o) ↔ Gives (ruleBuildTests W k links rs (length scratch) (shortest rows) (length list) m from least) o
   rules-first m from least r c =
-      given-exactly (ruleBuildTests W k rs (length scratch) (shortest rows) (length list) m from least) (b .tested m from least r c)
+      given-exactly (ruleBuildTests W k links rs (length scratch) (shortest rows) (length list) m from least) (b .tested m from least r c)
 
   -- with the least costs that the recurrences find
   tests-out : {m : ℕ} {from : ℕ → ℕ} → RunsOf rs m from
-      → out ≡ outcome (ruleBuildTests W k rs (length scratch) (shortest rows) (length list) m from (λ g. leastBy plain kind k (ruleTrie W rs m from g)))
+      → out ≡ outcome (ruleBuildTests W k links rs (length scratch) (shortest rows) (length list) m from (λ g. leastBy plain kind k (ruleTrie W rs m from g)))
   tests-out {m} {from} r =
       gives-outcome _ out (b .tested m from (λ g. leastBy plain kind k (ruleTrie W rs m from g)) r (λ g h. least-cheapest kind k (ruleTrie W rs m from g)))
 
-  -- for good rules and an allowed level count: 6 where the scratch lent has fewer rows than all tries together have 1-bit nodes, with
+  -- for good rules whose actions the gateway has, and an allowed level count: 6 where the scratch lent has fewer rows than all tries together have 1-bit nodes, with
   -- their number for detail; else the tests up to 6 are passed
-  module _ (good : GoodRules W rs) (allowed : Within k LEVELS) {m : ℕ} {from : ℕ → ℕ} (r : RunsOf rs m from) where
+  module _ (good : GoodRules W rs) (linked : Linked links (rs .actions)) (allowed : Within k LEVELS) {m : ℕ} {from : ℕ → ℕ} (r : RunsOf rs m from) where
     abbrev nodes : ℕ
     nodes = sumFirst (λ g. size (ruleTrie W rs m from g)) (suc m)
 
-    left : outcome (ruleScratchTests W k rs (length scratch) m from) ≡ outcome (allNodesTest (length scratch) nodes ∷ [])
-    left = scratch-test-left W k rs (length scratch) m from good allowed
+    left : outcome (ruleScratchTests W k links rs (length scratch) m from) ≡ outcome (allNodesTest (length scratch) nodes ∷ [])
+    left = scratch-test-left W k links rs (length scratch) m from good linked allowed
 
     pub rules-scratch : length scratch / ROW < nodes → out ≡ Refused 6 nodes
     rules-scratch h =
-        tests-out r ∙ rule-tests-early W k rs (length scratch) m from _ _ _
+        tests-out r ∙ rule-tests-early W k links rs (length scratch) m from _ _ _
         (left ∙ outcome-fails (allNodesTest (length scratch) nodes) [] (lt-ltb (length scratch / ROW) nodes h))
 
-    pub rules-scratch-enough : nodes ≤ length scratch / ROW → Gives (ruleScratchTests W k rs (length scratch) m from) Accepted
+    pub rules-scratch-enough : nodes ≤ length scratch / ROW → Gives (ruleScratchTests W k links rs (length scratch) m from) Accepted
     unfolding outcome
     rules-scratch-enough h =
-        subst (Gives (ruleScratchTests W k rs (length scratch) m from))
+        subst (Gives (ruleScratchTests W k links rs (length scratch) m from))
         (left ∙ outcome-passes (allNodesTest (length scratch) nodes) [] (le-ltb (length scratch / ROW) nodes h))
-        (outcome-gives (ruleScratchTests W k rs (length scratch) m from))
+        (outcome-gives (ruleScratchTests W k links rs (length scratch) m from))
 
   -- refusals 1 to 6 change no list
-  pub rules-early : {m : ℕ} {from : ℕ → ℕ} → RunsOf rs m from → {n d : ℕ} → Gives (ruleScratchTests W k rs (length scratch) m from) (Refused n d)
+  pub rules-early : {m : ℕ} {from : ℕ → ℕ} → RunsOf rs m from → {n d : ℕ} → Gives (ruleScratchTests W k links rs (length scratch) m from) (Refused n d)
       → (out ≡ Refused n d) × NoRuleRecord rec × (s ≡ scratch) × (rows′ ≡ rows) × (list′ ≡ list)
   rules-early {m} {from} r {n} {d} g =
-      let tests = ruleScratchTests W k rs (length scratch) m from in
-      let e : out ≡ Refused n d = tests-out r ∙ rule-tests-early W k rs (length scratch) m from _ _ _ (sym (gives-outcome tests (Refused n d) g)) in
+      let tests = ruleScratchTests W k links rs (length scratch) m from in
+      let e : out ≡ Refused n d = tests-out r ∙ rule-tests-early W k links rs (length scratch) m from _ _ _ (sym (gives-outcome tests (Refused n d) g)) in
       let kept = b .keeps .refused (λ a. refused-not-accepted (sym e ∙ a)) in
       (e, kept .0, b .untouched m from r (λ a. refused-not-accepted (gives-unique tests (Refused n d) Accepted g a)), kept .1, kept .2)
 
@@ -98,13 +99,13 @@ module _ {kind : Kind} {W k : ℕ} {rs : Rules} {scratch : List ℕ} {rows : Lis
   past-scratch {m} {from} r late = b .zeroed m from r (go (outcome tests) refl)
     where
       tests : List Test
-      tests = ruleScratchTests W k rs (length scratch) m from
+      tests = ruleScratchTests W k links rs (length scratch) m from
 
       go : (o : Outcome) → outcome tests ≡ o → Gives tests Accepted
       go Accepted p = subst (Gives tests) p (outcome-gives tests)
       go (Refused n x) p =
           let g = subst (Gives tests) p (outcome-gives tests) in
-          absurd (omega (arith, refused-number 6 tests n x (numbered-rule-scratch W k rs (length scratch) m from 6 (omega arith)) g, late n x (rules-early r g .0)))
+          absurd (omega (arith, refused-number 6 tests n x (numbered-rule-scratch W k links rs (length scratch) m from 6 (omega arith)) g, late n x (rules-early r g .0)))
 
   own-runs : RunsOf rs (runCount (at (rs .dvals)) (at (rs .dlens)) (ruleCount rs)) (runFrom (at (rs .dvals)) (at (rs .dlens)) (ruleCount rs))
   own-runs = runs-exist (at (rs .dvals)) (at (rs .dlens)) (ruleCount rs)
@@ -121,14 +122,14 @@ module _ {kind : Kind} {W k : ℕ} {rs : Rules} {scratch : List ℕ} {rows : Lis
   -- past test 6: 7 where the least costs of all tries together exceed the room lent or the most elements; else 7, "after elements, detail
   -- the rows needed", where the list has fewer rows than there are source tries; else the build is accepted
   module _ (m : ℕ) (from least : ℕ → ℕ) (r : RunsOf rs m from) (c : (g : ℕ) → g ≤ m → 1 ≤ k → Cheapest kind k (ruleTrie W rs m from g) (least g))
-      (p : Gives (ruleScratchTests W k rs (length scratch) m from) Accepted) where
+      (p : Gives (ruleScratchTests W k links rs (length scratch) m from) Accepted) where
     abbrev total : ℕ
     total = sumFirst least (suc m)
 
     past : out ≡ outcome (roomTest total (shortest rows) ∷ trieListTest (length list) m ∷ [])
     past =
         gives-outcome _ out (b .tested m from least r c)
-        ∙ rule-tests-late W k rs (length scratch) m from (shortest rows) (length list) least (sym (gives-outcome _ Accepted p))
+        ∙ rule-tests-late W k links rs (length scratch) m from (shortest rows) (length list) least (sym (gives-outcome _ Accepted p))
 
     pub rules-elements : (shortest rows < total) ⊎ (ELEMENTS < total) → out ≡ Refused 7 total
     rules-elements o = past ∙ outcome-fails (roomTest total (shortest rows)) (trieListTest (length list) m ∷ []) (over o)
@@ -157,9 +158,15 @@ module _ {kind : Kind} {W k : ℕ} {rs : Rules} {scratch : List ℕ} {rows : Lis
         × ((i : ℕ) → b .laid e .m * TRIE-ROW ≤ i → at list′ i ≡ at list i)
     rules-accepted = (past-scratch own-runs (λ n x f. absurd (refused-not-accepted (sym f ∙ e))), b .keeps .later e, b .laid e .rest)
 
+    up-to-scratch : outcome (ruleScratchTests W k links rs (length scratch) (runCount (at (rs .dvals)) (at (rs .dlens)) (ruleCount rs)) (runFrom (at (rs .dvals)) (at (rs .dlens)) (ruleCount rs))) ≡ Accepted
+    up-to-scratch = rule-tests-scratch W k links rs (length scratch) _ _ (shortest rows) (length list) _ (sym (tests-out own-runs) ∙ e)
+
     pub rules-are-good : GoodRules W rs
-    rules-are-good =
-        scratch-tests-good W k rs (length scratch) _ _ (rule-tests-scratch W k rs (length scratch) _ _ (shortest rows) (length list) _ (sym (tests-out own-runs) ∙ e))
+    rules-are-good = scratch-tests-good W k links rs (length scratch) _ _ up-to-scratch
+
+    -- the gateway has the action of every rule that is accepted (02, [7])
+    pub rules-have-links : Linked links (rs .actions)
+    rules-have-links = scratch-tests-linked W k links rs (length scratch) _ _ up-to-scratch
 
     -- ==== "least cost is asked only of each single trie"
 
@@ -195,6 +202,10 @@ module _ {kind : Kind} {W k : ℕ} {rs : Rules} {scratch : List ℕ} {rows : Lis
       -- and a discard exactly where the rule that wins discards ("actions follow the hop rules of [4]")
       pub rules-discard : (v ≡ Discard (verdictReads v)) ↔ TopDiscards W rs da sa
       rules-discard = Iff·trans (discard-by-action v (c .case)) (action-discards rules-are-good (rules-decide .1))
+
+      -- and an action that is answered is a link that the gateway has, or a discard's, or none (02, [7])
+      pub rules-link : unlinked links (actionOf v) ≡ false
+      rules-link = action-linked rules-are-good links rules-have-links (rules-decide .1)
 
       -- ==== the tries visited, and demand 3's last sentence over the paths in all of them
 
@@ -234,10 +245,10 @@ module _ {kind : Kind} {W k : ℕ} {rs : Rules} {scratch : List ℕ} {rows : Lis
       pub rules-few : verdictReads v ≤ 34 * k
       rules-few = rw (← b .laid e .tries .dest .levels) (verdict-few c)
 
--- one list of rules decides one action, however it is built: any kinds, any k, any room
-pub one-rules : {kind kind′ : Kind} {W k k′ : ℕ} {rs : Rules} {scratch scratch′ : List ℕ} {rows rows′ : Lists} {list list′ : List ℕ} {out out′ : Outcome} {rec rec′ : RuleRecord}
-    {s s′ : List ℕ} {rows1 rows2 : Lists} {list1 list2 : List ℕ} → RuleBuilds kind W k rs scratch rows list out rec s rows1 list1
-    → RuleBuilds kind′ W k′ rs scratch′ rows′ list′ out′ rec′ s′ rows2 list2 → out ≡ Accepted → out′ ≡ Accepted → (da sa : ℕ) → da < 2 ^ W → sa < 2 ^ W
+-- one list of rules decides one action, however it is built: any kinds, any k, any numbers of links, any room
+pub one-rules : {kind kind′ : Kind} {W k k′ links links′ : ℕ} {rs : Rules} {scratch scratch′ : List ℕ} {rows rows′ : Lists} {list list′ : List ℕ} {out out′ : Outcome} {rec rec′ : RuleRecord}
+    {s s′ : List ℕ} {rows1 rows2 : Lists} {list1 list2 : List ℕ} → RuleBuilds kind W k links rs scratch rows list out rec s rows1 list1
+    → RuleBuilds kind′ W k′ links′ rs scratch′ rows′ list′ out′ rec′ s′ rows2 list2 → out ≡ Accepted → out′ ≡ Accepted → (da sa : ℕ) → da < 2 ^ W → sa < 2 ^ W
     → {v v′ : Verdict} → Classified rec rows1 list1 da sa WIDTH v → Classified rec′ rows2 list2 da sa WIDTH v′ → actionOf v ≡ actionOf v′
 one-rules b b′ e e′ da sa hd hs c c′ =
     action-unique (rules-are-good b e) (rules-decide b e da sa hd hs c .1) (rules-decide b′ e′ da sa hd hs c′ .1)

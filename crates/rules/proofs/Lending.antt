@@ -6,6 +6,7 @@ use native.Mathlib.Omega.{arith}
 use native.Mathlib.Nat.{le-trans}
 use lib.ListN.{length, take, drop, getD, length-append, length-take, length-drop, take-append-drop, drop-of-length-le, List·getD-append}
 use borrow.Author.Tests.{le-ltb}
+use Rattle.table.specs.Limits.{linkLimit}
 use Rattle.table.specs.Refusals.{outcome}
 use Rattle.table.specs.declared.entry.Outcome.{Outcome}
 use Rattle.table.specs.declared.entry.Outcome.the-variants.{Accepted}
@@ -111,7 +112,7 @@ module _ (p : ℕ) (ls ys : Lists) (h : p ≤ shortest ls) where
 
 module _ {kind : Kind} {W k : ℕ} {vs ls hs : List ℕ} {scratch : List ℕ} {place : ℕ} {rows ys : Lists} {out : Outcome} {rec : Record} {s′ : List ℕ} {words : ℕ}
     (can : CanLayAt kind W k vs ls hs words place rows) (enough : size (tableTrie W vs ls hs) * ROW ≤ length scratch)
-    (b : BuildIs kind W k vs ls hs scratch (lentFrom place rows) out rec s′ ys) where
+    (b : BuildIs kind W k linkLimit vs ls hs scratch (lentFrom place rows) out rec s′ ys) where
   abbrev least : ℕ
   least = leastBy plain kind k (tableTrie W vs ls hs)
 
@@ -122,7 +123,7 @@ module _ {kind : Kind} {W k : ℕ} {vs ls hs : List ℕ} {scratch : List ℕ} {p
   accepted-at : out ≡ Accepted
   unfolding outcome
   accepted-at =
-      b .tests ∙ late W k vs ls hs (length scratch) (shortest (lentFrom place rows)) least (plan-passes (can .plan) (length scratch) enough)
+      b .tests ∙ late W k linkLimit vs ls hs (length scratch) (shortest (lentFrom place rows)) least (plan-passes (can .plan) (length scratch) enough)
       ∙ outcome-passes (roomTest least (shortest (lentFrom place rows))) [] (rw (le-ltb _ least fits-part, le-ltb ELEMENTS least (can .few)) refl)
 
   count-at : rec .elements ≡ least

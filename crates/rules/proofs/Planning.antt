@@ -8,13 +8,13 @@ use native.Mathlib.Nat.{le-refl, le-trans, sub-le, suc-mul, mul-le-mul}
 use native.Mathlib.Omega.{arith}
 use lib.ListN.{length}
 use lib.Pow.{pow-mono}
-use Rattle.table.specs.Limits.{outside, entryLimit, widthLimit}
+use Rattle.table.specs.Limits.{outside, entryLimit, widthLimit, linkLimit}
 use Rattle.table.specs.Refusals.{outcome}
 use Rattle.table.specs.Table.{at, checkOf}
 use Rattle.table.specs.declared.entry.Outcome.{Outcome}
 use Rattle.table.specs.declared.entry.Outcome.the-variants.{Accepted, Refused}
 use Rattle.table.proofs.Refusals.{refused-not-accepted}
-use Rattle.table.proofs.Table.{table-accepted}
+use Rattle.table.proofs.Table.{table-accepted, all-linked}
 use Rattle.strides.specs.Trie.{size, depth}
 use Rattle.strides.specs.Insertion.{newAfter, newNodes, nodeCount}
 use Rattle.strides.specs.Cheapest.{Kind}
@@ -44,28 +44,28 @@ module _ {W k : ℕ} {vs ls hs : List ℕ} (can : CanPlan W k vs ls hs) where
   width-inside : outside W WIDTH ≡ false
   width-inside = within-inside (can .table .some-width, can .table .width)
 
-  accepted-table-is : checkOf W vs ls hs ≡ Accepted
-  accepted-table-is = table-accepted W vs ls hs (can .table)
+  accepted-table-is : checkOf W linkLimit vs ls hs ≡ Accepted
+  accepted-table-is = table-accepted W linkLimit vs ls hs (can .table) (λ i h. all-linked (at hs i))
 
   -- with a row for each node the tests 1 to 6 pass
-  pub plan-passes : (words : ℕ) → size (tableTrie W vs ls hs) * ROW ≤ words → outcome (chooseTests W k vs ls hs words) ≡ Accepted
+  pub plan-passes : (words : ℕ) → size (tableTrie W vs ls hs) * ROW ≤ words → outcome (chooseTests W k linkLimit vs ls hs words) ≡ Accepted
   plan-passes words h =
-      tests-pass W k vs ls hs words width-inside (within-inside (can .levels)) accepted-table-is _ refl (omega (arith, count-is))
+      tests-pass W k linkLimit vs ls hs words width-inside (within-inside (can .levels)) accepted-table-is _ refl (omega (arith, count-is))
 
   -- with fewer, 6 says how many nodes there are
-  pub plan-lacks-rows : (words : ℕ) → words / ROW < size (tableTrie W vs ls hs) → outcome (chooseTests W k vs ls hs words) ≡ Refused 6 (size (tableTrie W vs ls hs))
+  pub plan-lacks-rows : (words : ℕ) → words / ROW < size (tableTrie W vs ls hs) → outcome (chooseTests W k linkLimit vs ls hs words) ≡ Refused 6 (size (tableTrie W vs ls hs))
   plan-lacks-rows words h =
-      tests-scratch W k vs ls hs words width-inside (within-inside (can .levels)) accepted-table-is _ refl (omega (arith, count-is)) ∙ ap (Refused 6) count-is
+      tests-scratch W k linkLimit vs ls hs words width-inside (within-inside (can .levels)) accepted-table-is _ refl (omega (arith, count-is)) ∙ ap (Refused 6) count-is
 
   -- ---- so a chooser that is lent less than a row says the number of nodes
-  pub no-nodes : {o : Outcome} → o ≡ outcome (chooseTests W k vs ls hs 1) → o ≡ Accepted → 0 ≡ size (tableTrie W vs ls hs)
+  pub no-nodes : {o : Outcome} → o ≡ outcome (chooseTests W k linkLimit vs ls hs 1) → o ≡ Accepted → 0 ≡ size (tableTrie W vs ls hs)
   no-nodes e a = go (size (tableTrie W vs ls hs)) refl
     where
       go : (n : ℕ) → size (tableTrie W vs ls hs) ≡ n → 0 ≡ n
       go zero q = refl
       go (suc n) q = absurd (refused-not-accepted (sym (plan-lacks-rows 1 (omega arith)) ∙ sym e ∙ a))
 
-  pub some-nodes : {o : Outcome} {n d : ℕ} → o ≡ outcome (chooseTests W k vs ls hs 1) → o ≡ Refused n d → d ≡ size (tableTrie W vs ls hs)
+  pub some-nodes : {o : Outcome} {n d : ℕ} → o ≡ outcome (chooseTests W k linkLimit vs ls hs 1) → o ≡ Refused n d → d ≡ size (tableTrie W vs ls hs)
   some-nodes {o} {n} {d} e r = go (size (tableTrie W vs ls hs)) refl
     where
       detail : (x : ℕ) → Refused n d ≡ Refused 6 x → d ≡ x

@@ -205,7 +205,7 @@ laid-at {kind} {W} {k} {rs} {list} {m} {from} {rec} {rows′} {list′} l r =
 rule-records-same : {d d′ : Record} {e e′ : ℕ} → d ≡ d′ → e ≡ e′ → _≡_ {A = RuleRecord} (record { dest = d; elements = e }) (record { dest = d′; elements = e′ })
 rule-records-same p q = rw (p, q)
 
-module _ (kind : Kind) (W k : ℕ) (rs : Rules) (scratch : List ℕ) (rows : Lists) (list : List ℕ) where
+module _ (kind : Kind) (W k links : ℕ) (rs : Rules) (scratch : List ℕ) (rows : Lists) (list : List ℕ) where
   abbrev m : ℕ
   m = runCount (at (rs .dvals)) (at (rs .dlens)) (ruleCount rs)
 
@@ -219,14 +219,14 @@ module _ (kind : Kind) (W k : ℕ) (rs : Rules) (scratch : List ℕ) (rows : Lis
   trie = ruleTrie W rs m from
 
   abbrev tests : List Test
-  tests = ruleScratchTests W k rs (length scratch) m from
+  tests = ruleScratchTests W k links rs (length scratch) m from
 
   module _ {out out′ : Outcome} {rec rec′ : RuleRecord} {s s′ : List ℕ} {rows1 rows2 : Lists} {list1 list2 : List ℕ}
-      (c : RuleBuilds kind W k rs scratch rows list out rec s rows1 list1) (d : RuleBuilds kind W k rs scratch rows list out′ rec′ s′ rows2 list2) where
+      (c : RuleBuilds kind W k links rs scratch rows list out rec s rows1 list1) (d : RuleBuilds kind W k links rs scratch rows list out′ rec′ s′ rows2 list2) where
     rule-outcome-one : out ≡ out′
     rule-outcome-one =
         let least : ℕ → ℕ = λ g. leastBy plain kind k (trie g) in
-        gives-unique (ruleBuildTests W k rs (length scratch) (shortest rows) (length list) m from least) out out′
+        gives-unique (ruleBuildTests W k links rs (length scratch) (shortest rows) (length list) m from least) out out′
         (c .tested m from least runs (λ g h. least-cheapest kind k (trie g))) (d .tested m from least runs (λ g h. least-cheapest kind k (trie g)))
 
     rule-scratch-one : s ≡ s′

@@ -8,7 +8,7 @@ use native.Mathlib.Omega.{arith}
 use lib.ListN.{length, replicate, take}
 use Rattle.table.specs.Limits.{outside}
 use Rattle.table.specs.Refusals.{Test, outcome, andThen}
-use Rattle.table.specs.Table.{at, widthTest}
+use Rattle.table.specs.Table.{at, widthTest, Linked}
 use Rattle.table.specs.Longest.{Wins}
 use Rattle.table.specs.declared.entry.Outcome.{Outcome}
 use Rattle.table.specs.declared.entry.Outcome.the-variants.{Refused}
@@ -41,21 +41,21 @@ use Rattle.rules.proofs.RuleTests.{rule-tests-early}
 use Rattle.rules.proofs.Sums.{sum-same}
 
 -- past tests 1 and 2 those of the rules decide, and then test 6
-module _ (W k : ℕ) (rs : Rules) (words m : ℕ) (from : ℕ → ℕ) (w : outside W WIDTH ≡ false) (l : outside k LEVELS ≡ false) where
+module _ (W k links : ℕ) (rs : Rules) (words m : ℕ) (from : ℕ → ℕ) (w : outside W WIDTH ≡ false) (l : outside k LEVELS ≡ false) where
   abbrev lastTest : List Test
   lastTest = allNodesTest words (sumFirst (λ g. size (ruleTrie W rs m from g)) (suc m)) ∷ []
 
-  past-levels : outcome (ruleScratchTests W k rs words m from) ≡ andThen (outcome (ruleTests W rs)) (outcome lastTest)
+  past-levels : outcome (ruleScratchTests W k links rs words m from) ≡ andThen (outcome (ruleTests W links rs)) (outcome lastTest)
   unfolding ruleScratchTests ruleTests
   past-levels =
-      outcome-passes (widthTest W) (levelsTest k ∷ (ruleListTests W rs ++ lastTest)) w ∙ outcome-passes (levelsTest k) (ruleListTests W rs ++ lastTest) l
-      ∙ outcome-append (ruleListTests W rs) lastTest ∙ ap (λ (o : Outcome). andThen o (outcome lastTest)) (sym (outcome-passes (widthTest W) (ruleListTests W rs) w))
+      outcome-passes (widthTest W) (levelsTest k ∷ (ruleListTests W links rs ++ lastTest)) w ∙ outcome-passes (levelsTest k) (ruleListTests W links rs ++ lastTest) l
+      ∙ outcome-append (ruleListTests W links rs) lastTest ∙ ap (λ (o : Outcome). andThen o (outcome lastTest)) (sym (outcome-passes (widthTest W) (ruleListTests W links rs) w))
 
 -- ---- refused before the destinations are gathered
 
-module _ (kind : Kind) (W k : ℕ) (rs : Rules) (scratch : List ℕ) (rows : Lists) (list : List ℕ) {out : Outcome} {rec : RuleRecord} where
-  gathered-none : {n d : ℕ} → ((m : ℕ) (from : ℕ → ℕ) → outcome (ruleScratchTests W k rs (length scratch) m from) ≡ Refused n d) → out ≡ Refused n d
-      → NoRuleRecord rec → RulesAre kind W k rs scratch rows list out rec scratch rows list
+module _ (kind : Kind) (W k links : ℕ) (rs : Rules) (scratch : List ℕ) (rows : Lists) (list : List ℕ) {out : Outcome} {rec : RuleRecord} where
+  gathered-none : {n d : ℕ} → ((m : ℕ) (from : ℕ → ℕ) → outcome (ruleScratchTests W k links rs (length scratch) m from) ≡ Refused n d) → out ≡ Refused n d
+      → NoRuleRecord rec → RulesAre kind W k links rs scratch rows list out rec scratch rows list
   unfolding ifAccepted
   gathered-none f e z =
       let M = runCount (at (rs .dvals)) (at (rs .dlens)) (ruleCount rs) in
@@ -64,7 +64,7 @@ module _ (kind : Kind) (W k : ℕ) (rs : Rules) (scratch : List ℕ) (rows : Lis
         m = M;
         from = F;
         runs = runs-exist (at (rs .dvals)) (at (rs .dlens)) (ruleCount rs);
-        tests = e ∙ sym (rule-tests-early W k rs (length scratch) M F (shortest rows) (length list) (λ g. leastBy plain kind k (ruleTrie W rs M F g)) (f M F));
+        tests = e ∙ sym (rule-tests-early W k links rs (length scratch) M F (shortest rows) (length list) (λ g. leastBy plain kind k (ruleTrie W rs M F g)) (f M F));
         after = rw (f M F) refl;
         laid = λ a. absurd (refused-not-accepted (sym e ∙ a));
         named = λ a. absurd (refused-not-accepted (sym e ∙ a));
@@ -77,20 +77,20 @@ module _ (kind : Kind) (W k : ℕ) (rs : Rules) (scratch : List ℕ) (rows : Lis
         };
       }
 
-  pub width-refused : outside W WIDTH ≡ true → out ≡ Refused 1 0 → NoRuleRecord rec → RulesAre kind W k rs scratch rows list out rec scratch rows list
+  pub width-refused : outside W WIDTH ≡ true → out ≡ Refused 1 0 → NoRuleRecord rec → RulesAre kind W k links rs scratch rows list out rec scratch rows list
   unfolding ruleScratchTests
   width-refused f = gathered-none (λ m from. outcome-fails (widthTest W) _ f)
 
   pub levels-refused : outside W WIDTH ≡ false → outside k LEVELS ≡ true → out ≡ Refused 2 0 → NoRuleRecord rec
-      → RulesAre kind W k rs scratch rows list out rec scratch rows list
+      → RulesAre kind W k links rs scratch rows list out rec scratch rows list
   unfolding ruleScratchTests
   levels-refused w f = gathered-none (λ m from. outcome-passes (widthTest W) _ w ∙ outcome-fails (levelsTest k) _ f)
 
-  pub rules-refused : outside W WIDTH ≡ false → outside k LEVELS ≡ false → {n d : ℕ} → checkRulesOf W rs ≡ Refused n d → out ≡ Refused n d → NoRuleRecord rec
-      → RulesAre kind W k rs scratch rows list out rec scratch rows list
+  pub rules-refused : outside W WIDTH ≡ false → outside k LEVELS ≡ false → {n d : ℕ} → checkRulesOf W links rs ≡ Refused n d → out ≡ Refused n d → NoRuleRecord rec
+      → RulesAre kind W k links rs scratch rows list out rec scratch rows list
   unfolding checkRulesOf andThen
   rules-refused w l {n} {d} f =
-      gathered-none (λ m from. past-levels W k rs (length scratch) m from w l ∙ ap (λ (o : Outcome). andThen o (outcome (lastTest W k rs (length scratch) m from w l))) f)
+      gathered-none (λ m from. past-levels W k links rs (length scratch) m from w l ∙ ap (λ (o : Outcome). andThen o (outcome (lastTest W k links rs (length scratch) m from w l))) f)
 
 -- ---- the tables that were gathered
 
@@ -165,8 +165,8 @@ module _ (W k : ℕ) (rs : Rules) (good : GoodRules W rs) (levels : Within k LEV
       listed = omega (arith, l .long, many);
     }
 
-  module _ {kind : Kind} {scratch : List ℕ} {rows : Lists} {list : List ℕ} {out : Outcome} {rec : RuleRecord} {scratch′ : List ℕ} {rows′ : Lists} {list′ : List ℕ}
-      (b : SplitBuilt kind W k heldRules scratch rows list out rec scratch′ rows′ list′) where
+  module _ (links : ℕ) (linked : Linked links (rs .actions)) {kind : Kind} {scratch : List ℕ} {rows : Lists} {list : List ℕ} {out : Outcome} {rec : RuleRecord}
+      {scratch′ : List ℕ} {rows′ : Lists} {list′ : List ℕ} (b : SplitBuilt kind W k heldRules scratch rows list out rec scratch′ rows′ list′) where
     abbrev cost : ℕ → ℕ
     cost g = leastBy plain kind k (ruleTrie W rs m (at first) g)
 
@@ -177,19 +177,19 @@ module _ (W k : ℕ) (rs : Rules) (good : GoodRules W rs) (levels : Within k LEV
     width-in = within-inside (good .some-width, good .width)
 
     -- tests 1 to 5 pass
-    last-left : outcome (ruleScratchTests W k rs (length scratch) m (at first)) ≡ outcome (allNodesTest (length scratch) nodes ∷ [])
+    last-left : outcome (ruleScratchTests W k links rs (length scratch) m (at first)) ≡ outcome (allNodesTest (length scratch) nodes ∷ [])
     unfolding andThen
     last-left =
-        past-levels W k rs (length scratch) m (at first) width-in (within-inside levels)
-        ∙ ap (λ (o : Outcome). andThen o (outcome (allNodesTest (length scratch) nodes ∷ []))) (good-rules W rs good)
+        past-levels W k links rs (length scratch) m (at first) width-in (within-inside levels)
+        ∙ ap (λ (o : Outcome). andThen o (outcome (allNodesTest (length scratch) nodes ∷ []))) (good-rules W links rs good linked)
 
     sevens : List Test
     sevens = roomTest (sumFirst cost (suc m)) (shortest rows) ∷ trieListTest (length list) m ∷ []
 
-    all-left : outcome (ruleBuildTests W k rs (length scratch) (shortest rows) (length list) m (at first) cost) ≡ outcome (allNodesTest (length scratch) nodes ∷ sevens)
+    all-left : outcome (ruleBuildTests W k links rs (length scratch) (shortest rows) (length list) m (at first) cost) ≡ outcome (allNodesTest (length scratch) nodes ∷ sevens)
     unfolding ruleBuildTests sevens
     all-left =
-        outcome-append (ruleScratchTests W k rs (length scratch) m (at first)) sevens ∙ ap (λ (o : Outcome). andThen o (outcome sevens)) last-left
+        outcome-append (ruleScratchTests W k links rs (length scratch) m (at first)) sevens ∙ ap (λ (o : Outcome). andThen o (outcome sevens)) last-left
         ∙ sym (outcome-append (allNodesTest (length scratch) nodes ∷ []) sevens)
 
     same-tests : outcome (allNodesTest (length scratch) (splitNodes W heldRules) ∷ roomTest (splitCosts kind W k heldRules) (shortest rows) ∷ trieListTest (length list) (length (tab 0 .vals)) ∷ [])
@@ -200,7 +200,7 @@ module _ (W k : ℕ) (rs : Rules) (good : GoodRules W rs) (levels : Within k LEV
         ∙ ap (λ (n : ℕ). outcome (allNodesTest (length scratch) nodes ∷ roomTest n (shortest rows) ∷ trieListTest (length list) (length (tab 0 .vals)) ∷ [])) (held-sum (leastBy plain kind k))
         ∙ ap (λ (n : ℕ). outcome (allNodesTest (length scratch) nodes ∷ roomTest (sumFirst cost (suc m)) (shortest rows) ∷ trieListTest (length list) n ∷ [])) many
 
-    pub whole-built : RulesAre kind W k rs scratch rows list out rec scratch′ rows′ list′
+    pub whole-built : RulesAre kind W k links rs scratch rows list out rec scratch′ rows′ list′
     whole-built = record {
       m = m;
       from = at first;

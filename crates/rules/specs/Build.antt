@@ -46,15 +46,15 @@ allNodesTest words nodes = test 6 nodes (ltb (words / ROW) nodes)
 abbrev pub trieListTest : (numbers m : ℕ) → Test
 trieListTest numbers m = test 7 m (ltb (numbers / TRIE-ROW) m)
 
--- 1, 2, 3, then 4 and 5 rule by rule, 6
-unfoldable pub ruleScratchTests : (W k : ℕ) (rs : Rules) (words m : ℕ) (from : ℕ → ℕ) → List Test
-ruleScratchTests W k rs words m from =
-    widthTest W ∷ levelsTest k ∷ (ruleListTests W rs ++ (allNodesTest words (sumFirst (λ g. size (ruleTrie W rs m from g)) (suc m)) ∷ []))
+-- 1, 2, 3, then 4 and 5 rule by rule, 6; 4 by the number of links that the caller states (02, [7])
+unfoldable pub ruleScratchTests : (W k links : ℕ) (rs : Rules) (words m : ℕ) (from : ℕ → ℕ) → List Test
+ruleScratchTests W k links rs words m from =
+    widthTest W ∷ levelsTest k ∷ (ruleListTests W links rs ++ (allNodesTest words (sumFirst (λ g. size (ruleTrie W rs m from g)) (suc m)) ∷ []))
 
 -- and 7 for elements, then for the list; `least` is the least cost of each trie
-unfoldable pub ruleBuildTests : (W k : ℕ) (rs : Rules) (words room numbers m : ℕ) (from least : ℕ → ℕ) → List Test
-ruleBuildTests W k rs words room numbers m from least =
-    ruleScratchTests W k rs words m from ++ (roomTest (sumFirst least (suc m)) room ∷ trieListTest numbers m ∷ [])
+unfoldable pub ruleBuildTests : (W k links : ℕ) (rs : Rules) (words room numbers m : ℕ) (from least : ℕ → ℕ) → List Test
+ruleBuildTests W k links rs words room numbers m from least =
+    ruleScratchTests W k links rs words m from ++ (roomTest (sumFirst least (suc m)) room ∷ trieListTest numbers m ∷ [])
 
 -- ---- the answer
 
@@ -91,13 +91,13 @@ pub record RulesKept (rows : Lists) (list : List ℕ) (out : Outcome) (rec : Rul
   pub refused : (out ≡ Accepted → ⊥) → NoRuleRecord rec × (rows′ ≡ rows) × (list′ ≡ list)
 
 -- the exact answer: all tests, then the tries of the strides that the recurrences find; scratch is zeroed past test 6
-pub record RulesAre (kind : Kind) (W k : ℕ) (rs : Rules) (scratch : List ℕ) (rows : Lists) (list : List ℕ) (out : Outcome) (rec : RuleRecord)
+pub record RulesAre (kind : Kind) (W k links : ℕ) (rs : Rules) (scratch : List ℕ) (rows : Lists) (list : List ℕ) (out : Outcome) (rec : RuleRecord)
     (scratch′ : List ℕ) (rows′ : Lists) (list′ : List ℕ) : Type 0 where
   pub m : ℕ
   pub from : ℕ → ℕ
   pub runs : RunsOf rs m from
-  pub tests : out ≡ outcome (ruleBuildTests W k rs (length scratch) (shortest rows) (length list) m from (λ g. leastBy plain kind k (ruleTrie W rs m from g)))
-  pub after : scratch′ ≡ ifAccepted (outcome (ruleScratchTests W k rs (length scratch) m from)) (replicate (length scratch) 0) scratch
+  pub tests : out ≡ outcome (ruleBuildTests W k links rs (length scratch) (shortest rows) (length list) m from (λ g. leastBy plain kind k (ruleTrie W rs m from g)))
+  pub after : scratch′ ≡ ifAccepted (outcome (ruleScratchTests W k links rs (length scratch) m from)) (replicate (length scratch) 0) scratch
   pub laid : out ≡ Accepted → TriesLaid W k rs m from (λ g. chosenBy plain kind k (ruleTrie W rs m from g)) rec rows′ list′
   pub named : out ≡ Accepted → rec .dest .strides ≡ padded LEVELS (stridesBy plain kind k (ruleTrie W rs m from 0))
   pub rest : out ≡ Accepted → (i : ℕ) → m * TRIE-ROW ≤ i → at list′ i ≡ at list i
@@ -116,12 +116,12 @@ pub record RulesLaid (kind : Kind) (W k : ℕ) (rs : Rules) (list : List ℕ) (r
 
 -- what it means: the first test that fails, where 7 tests the sum of the least costs of all choices of the kind with at most k levels, a
 -- trie each; accepted, the tries; scratch unchanged by 1 to 6, else all zero
-pub record RuleBuilds (kind : Kind) (W k : ℕ) (rs : Rules) (scratch : List ℕ) (rows : Lists) (list : List ℕ) (out : Outcome) (rec : RuleRecord)
+pub record RuleBuilds (kind : Kind) (W k links : ℕ) (rs : Rules) (scratch : List ℕ) (rows : Lists) (list : List ℕ) (out : Outcome) (rec : RuleRecord)
     (scratch′ : List ℕ) (rows′ : Lists) (list′ : List ℕ) : Type 0 where
   pub tested : (m : ℕ) (from least : ℕ → ℕ) → RunsOf rs m from → ((g : ℕ) → g ≤ m → 1 ≤ k → Cheapest kind k (ruleTrie W rs m from g) (least g))
-      → Gives (ruleBuildTests W k rs (length scratch) (shortest rows) (length list) m from least) out
+      → Gives (ruleBuildTests W k links rs (length scratch) (shortest rows) (length list) m from least) out
   pub laid : out ≡ Accepted → RulesLaid kind W k rs list rec rows′ list′
-  pub zeroed : (m : ℕ) (from : ℕ → ℕ) → RunsOf rs m from → Gives (ruleScratchTests W k rs (length scratch) m from) Accepted
+  pub zeroed : (m : ℕ) (from : ℕ → ℕ) → RunsOf rs m from → Gives (ruleScratchTests W k links rs (length scratch) m from) Accepted
       → scratch′ ≡ replicate (length scratch) 0
-  pub untouched : (m : ℕ) (from : ℕ → ℕ) → RunsOf rs m from → (Gives (ruleScratchTests W k rs (length scratch) m from) Accepted → ⊥) → scratch′ ≡ scratch
+  pub untouched : (m : ℕ) (from : ℕ → ℕ) → RunsOf rs m from → (Gives (ruleScratchTests W k links rs (length scratch) m from) Accepted → ⊥) → scratch′ ≡ scratch
   pub keeps : RulesKept rows list out rec rows′ list′

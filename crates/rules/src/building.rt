@@ -300,6 +300,7 @@ pub fn build_rules(
     kind: Kind,
     width: u32,
     levels: u32,
+    links: u16,
     dvals: &[u32],
     dlens: &[u8],
     svals: &[u32],
@@ -313,12 +314,12 @@ pub fn build_rules(
     list: &mut [u32],
 ) -> BuiltRules
     ensures exact { λ r. ⌜
-        RulesAre (kindOf kind) width levels
+        RulesAre (kindOf kind) width levels links
         (rules (now (dvals .entry)) (now (dlens .entry)) (now (svals .entry)) (now (slens .entry)) (now (actions .entry))) (now (scratch .entry))
         (lists (now (rowhops .entry)) (now (rowlens .entry)) (now (rowlinks .entry)) (now (rowstrides .entry))) (now (list .entry)) (r .outcome) (r .record)
         (now (scratch .exit)) (lists (now (rowhops .exit)) (now (rowlens .exit)) (now (rowlinks .exit)) (now (rowstrides .exit))) (now (list .exit)) ⌝ }
     ensures meaning { λ r. ⌜
-        RuleBuilds (kindOf kind) width levels
+        RuleBuilds (kindOf kind) width levels links
         (rules (now (dvals .entry)) (now (dlens .entry)) (now (svals .entry)) (now (slens .entry)) (now (actions .entry))) (now (scratch .entry))
         (lists (now (rowhops .entry)) (now (rowlens .entry)) (now (rowlinks .entry)) (now (rowstrides .entry))) (now (list .entry)) (r .outcome) (r .record)
         (now (scratch .exit)) (lists (now (rowhops .exit)) (now (rowlens .exit)) (now (rowlinks .exit)) (now (rowstrides .exit))) (now (list .exit)) ⌝ }
@@ -329,7 +330,7 @@ pub fn build_rules(
     if is_outside(levels, LEVELS) {
         return refused(2, 0);
     }
-    let checked = check_rules(width, dvals, dlens, svals, slens, actions);
+    let checked = check_rules(width, links, dvals, dlens, svals, slens, actions);
     if let Outcome::Refused { number, detail } = checked {
         return refused(number, detail);
     }

@@ -1,4 +1,5 @@
-// What tests 6 and 7 count over all tries (02, [6]): 1-bit nodes and least costs. A trie's table is lent to the choosers as it is.
+// What tests 6 and 7 count over all tries (02, [6]): 1-bit nodes and least costs. A trie's table is lent to the choosers as it is, with
+// the most links: its actions have passed test 4, and the hops of the destinations' are numbers of tries, which no link answers to.
 ghost use mathlib.Core.Path.{_≡_};
 ghost use Prim.Native.Nat.{_*_, _≤_};
 ghost use lib.ListN.{length};
@@ -12,6 +13,7 @@ use choosers::Kind;
 use choosers::ROW;
 use choosers::choose_fixed;
 use choosers::plan_choice;
+use table::LINKS;
 use table::Outcome;
 
 // The 1-bit nodes of a table: a chooser that is lent no row of scratch is refused by 6 and says how many it needs, or needs none.
@@ -20,7 +22,7 @@ pub(crate) fn nodes_of(width: u32, levels: u32, value: &[u32], lens: &[u8], hop:
     ensures { λ r. ⌜ r ≡ size (tableTrie width (now (value .entry)) (now (lens .entry)) (now (hop .entry))) ⌝ }
 {
     let mut word = [0u64; 1];
-    let chosen = choose_fixed(width, levels, value, lens, hop, &mut word);
+    let chosen = choose_fixed(width, levels, LINKS, value, lens, hop, &mut word);
     let outcome = chosen.outcome;
     match outcome {
         Outcome::Accepted => 0,
@@ -47,6 +49,7 @@ fn cost_of(
         kind,
         width,
         levels,
+        LINKS,
         value,
         lens,
         hop,

@@ -16,6 +16,7 @@ use crate::counting::nodes_of;
 use crate::linking::nearest;
 use choosers::Kind;
 use choosers::ROW;
+use table::LINKS;
 use verdicts::NEXT;
 use verdicts::OWN_ELEMENTS;
 use verdicts::PLACE;
@@ -51,6 +52,7 @@ pub(crate) fn lay_at(
         kind,
         width,
         levels,
+        LINKS,
         value,
         lens,
         hop,

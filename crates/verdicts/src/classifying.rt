@@ -80,31 +80,31 @@ fn reads_of(found: Answer) -> u32
 // blocks read in all tries; or a refusal by number, 1 (width), 2 (levels), 8 (either address) or 9 (damage). No list changes.
 pub fn classify(
     rec: RuleRecord,
-    hops: &[u16],
-    lens: &[u8],
-    links: &[u32],
-    strides: &[u8],
+    rowhops: &[u16],
+    rowlens: &[u8],
+    rowlinks: &[u32],
+    rowstrides: &[u8],
     list: &[u32],
     dest: u32,
     source: u32,
 ) -> Verdict
     ensures exact { λ r. ⌜
-        r ≡ classifyOf WIDTH rec (lists (now (hops .entry)) (now (lens .entry)) (now (links .entry)) (now (strides .entry))) (now (list .entry))
+        r ≡ classifyOf WIDTH rec (lists (now (rowhops .entry)) (now (rowlens .entry)) (now (rowlinks .entry)) (now (rowstrides .entry))) (now (list .entry))
         dest source ⌝ }
     ensures meaning { λ r. ⌜
-        Classified rec (lists (now (hops .entry)) (now (lens .entry)) (now (links .entry)) (now (strides .entry))) (now (list .entry)) dest source
+        Classified rec (lists (now (rowhops .entry)) (now (rowlens .entry)) (now (rowlinks .entry)) (now (rowstrides .entry))) (now (list .entry)) dest source
         WIDTH r ⌝ }
 {
     let rows = smaller(
-        hops.len(),
-        smaller(lens.len(), smaller(links.len(), strides.len())),
+        rowhops.len(),
+        smaller(rowlens.len(), smaller(rowlinks.len(), rowstrides.len())),
     );
     let refusal = early_refusal(rec, rows, dest, source);
     if refusal != 0 {
         return Verdict::Refused { number: refusal };
     }
     let own = rec.dest;
-    let found = walk::lookup(own, hops, lens, links, strides, dest);
+    let found = walk::lookup(own, rowhops, rowlens, rowlinks, rowstrides, dest);
     if let Answer::Refused { number: _ } = found {
         return Verdict::Refused { number: 9 };
     }
@@ -112,10 +112,10 @@ pub fn classify(
         own.width,
         own.levels,
         rec.elements,
-        hops,
-        lens,
-        links,
-        strides,
+        rowhops,
+        rowlens,
+        rowlinks,
+        rowstrides,
         list,
         source,
         called(found) as usize,

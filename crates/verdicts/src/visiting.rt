@@ -43,18 +43,18 @@ fn look_up(
     width: u32,
     levels: u32,
     elements: u32,
-    hops: &[u16],
-    lens: &[u8],
-    links: &[u32],
-    strides: &[u8],
+    rowhops: &[u16],
+    rowlens: &[u8],
+    rowlinks: &[u32],
+    rowstrides: &[u8],
     list: &[u32],
     g: usize,
     source: u32,
 ) -> Answer
-    requires { ⌜ CanVisit width levels elements (lists (now hops) (now lens) (now links) (now strides)) source ⌝ }
+    requires { ⌜ CanVisit width levels elements (lists (now rowhops) (now rowlens) (now rowlinks) (now rowstrides)) source ⌝ }
     requires { ⌜ Visitable elements (now list) g ⌝ }
     ensures { λ r. ⌜
-        r ≡ sourceLookup WIDTH width levels (lists (now (hops .entry)) (now (lens .entry)) (now (links .entry)) (now (strides .entry)))
+        r ≡ sourceLookup WIDTH width levels (lists (now (rowhops .entry)) (now (rowlens .entry)) (now (rowlinks .entry)) (now (rowstrides .entry)))
         (now (list .entry)) source g ⌝ }
 {
     let row = g * TRIE_ROW;
@@ -74,10 +74,10 @@ fn look_up(
     let place = list[row + PLACE] as usize;
     walk::lookup(
         rec,
-        &hops[place..],
-        &lens[place..],
-        &links[place..],
-        &strides[place..],
+        &rowhops[place..],
+        &rowlens[place..],
+        &rowlinks[place..],
+        &rowstrides[place..],
         source,
     )
 }
@@ -87,17 +87,17 @@ fn source_answer(
     width: u32,
     levels: u32,
     elements: u32,
-    hops: &[u16],
-    lens: &[u8],
-    links: &[u32],
-    strides: &[u8],
+    rowhops: &[u16],
+    rowlens: &[u8],
+    rowlinks: &[u32],
+    rowstrides: &[u8],
     list: &[u32],
     g: usize,
     source: u32,
 ) -> Answer
-    requires { ⌜ CanVisit width levels elements (lists (now hops) (now lens) (now links) (now strides)) source ⌝ }
+    requires { ⌜ CanVisit width levels elements (lists (now rowhops) (now rowlens) (now rowlinks) (now rowstrides)) source ⌝ }
     ensures { λ r. ⌜
-        r ≡ sourceOf WIDTH elements width levels (lists (now (hops .entry)) (now (lens .entry)) (now (links .entry)) (now (strides .entry)))
+        r ≡ sourceOf WIDTH elements width levels (lists (now (rowhops .entry)) (now (rowlens .entry)) (now (rowlinks .entry)) (now (rowstrides .entry)))
         (now (list .entry)) source g ⌝ }
 {
     if !is_visitable(elements, list, g) {
@@ -107,10 +107,10 @@ fn source_answer(
         width,
         levels,
         elements,
-        hops,
-        lens,
-        links,
-        strides,
+        rowhops,
+        rowlens,
+        rowlinks,
+        rowstrides,
         list,
         g,
         source,
@@ -145,19 +145,19 @@ pub(crate) fn visit_tries(
     width: u32,
     levels: u32,
     elements: u32,
-    hops: &[u16],
-    lens: &[u8],
-    links: &[u32],
-    strides: &[u8],
+    rowhops: &[u16],
+    rowlens: &[u8],
+    rowlinks: &[u32],
+    rowstrides: &[u8],
     list: &[u32],
     source: u32,
     first: usize,
     before: u32,
 ) -> Verdict
-    requires { ⌜ CanVisit width levels elements (lists (now hops) (now lens) (now links) (now strides)) source ⌝ }
+    requires { ⌜ CanVisit width levels elements (lists (now rowhops) (now rowlens) (now rowlinks) (now rowstrides)) source ⌝ }
     requires { ⌜ before ≤ LEVELS ⌝ }
     ensures { λ r. ⌜
-        r ≡ throughTries WIDTH elements width levels (lists (now (hops .entry)) (now (lens .entry)) (now (links .entry)) (now (strides .entry)))
+        r ≡ throughTries WIDTH elements width levels (lists (now (rowhops .entry)) (now (rowlens .entry)) (now (rowlinks .entry)) (now (rowstrides .entry)))
         (now (list .entry)) source VISITS first before ⌝ }
 {
     let mut n = first;
@@ -172,10 +172,10 @@ pub(crate) fn visit_tries(
             width,
             levels,
             elements,
-            hops,
-            lens,
-            links,
-            strides,
+            rowhops,
+            rowlens,
+            rowlinks,
+            rowstrides,
             list,
             g,
             source,

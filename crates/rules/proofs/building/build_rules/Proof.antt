@@ -6,12 +6,13 @@ use mathlib.Core.Bool.{false}
 use native.Mathlib.Omega.{arith}
 use lib.ListN.{length}
 use Rattle.table.specs.Limits.{outside}
+use Rattle.table.specs.Table.{Linked}
 use Rattle.walk.specs.Limits.{WIDTH, LEVELS, Within}
 use Rattle.walk.specs.Rows.{Lists, lists}
 use Rattle.choosers.specs.Kinds.{kindOf}
 use Rattle.choosers.proofs.ChooseTests.{within-levels}
 use Rattle.fields.specs.Rules.{Rules, rules, checkRulesOf, GoodRules}
-use Rattle.fields.proofs.Rules.{rules-good}
+use Rattle.fields.proofs.Rules.{rules-good, rules-linked}
 use Rattle.rules.proofs.Meaning.{rules-mean}
 use Rattle.rules.proofs.Whole.{width-refused, levels-refused, rules-refused, held-can, held-lists, whole-built}
 use borrow.Author.Needs.{needs}
@@ -50,7 +51,16 @@ unfolding checkRulesOf
 good c =
     let c16 = c .before .before .before .before .before .before .before .before .before .before .before .before .before .before .before .before in
     let c18 = c16 .before .before in
-    rules-good (c18 .args .width) (given (c18)) (sym (c .before .before .check-rules .ensures .0) ∙ c .enum-told .given .1)
+    rules-good (c18 .args .width) (c18 .args .links) (given (c18)) (sym (c .before .before .check-rules .ensures .0) ∙ c .enum-told .given .1)
+
+linked : (c : tie.After-enum-told) → Linked
+    (c .before .before .before .before .before .before .before .before .before .before .before .before .before .before .before .before .before .before .args .links)
+    (c .before .before .before .before .before .before .before .before .before .before .before .before .before .before .before .before .before .before .args .actions .now)
+unfolding checkRulesOf
+linked c =
+    let c16 = c .before .before .before .before .before .before .before .before .before .before .before .before .before .before .before .before in
+    let c18 = c16 .before .before in
+    rules-linked (c18 .args .width) (c18 .args .links) (given (c18)) (sym (c .before .before .check-rules .ensures .0) ∙ c .enum-told .given .1)
 
 -- src/building.rt:246:8
 is-outside-requires : tie.Need-is-outside-requires
@@ -64,7 +74,7 @@ refused-requires c κs = search needs
 returns : tie.Need-returns
 returns c =
     let S = c .before .before .before .before .before .before .before .before .before .before .before .before .before .before in
-    let b = width-refused (kindOf (S .args .kind)) (S .args .width) (S .args .levels) (given S) (S .args .scratch .now) (rowsLent S) (S .args .list .now)
+    let b = width-refused (kindOf (S .args .kind)) (S .args .width) (S .args .levels) (S .args .links) (given S) (S .args .scratch .now) (rowsLent S) (S .args .list .now)
     (sym (c .before .before .is-outside .ensures) ∙ c .before .if1 .taken) (c .refused .ensures .0) (c .refused .ensures .1) in
     (b, rules-mean b)
 
@@ -80,7 +90,7 @@ refused-requires-2 c κs = search needs
 returns-2 : tie.Need-returns-2
 returns-2 c =
     let S = c .before .before .before .before .before .before .before .before .before .before .before .before .before .before .before .before in
-    let b = levels-refused (kindOf (S .args .kind)) (S .args .width) (S .args .levels) (given S) (S .args .scratch .now) (rowsLent S) (S .args .list .now)
+    let b = levels-refused (kindOf (S .args .kind)) (S .args .width) (S .args .levels) (S .args .links) (given S) (S .args .scratch .now) (rowsLent S) (S .args .list .now)
     (width-in (c .before .before .before)) (sym (c .before .before .is-outside2 .ensures) ∙ c .before .if2 .taken) (c .refused2 .ensures .0) (c .refused2 .ensures .1) in
     (b, rules-mean b)
 
@@ -102,7 +112,7 @@ returns-3 c =
     let c16 = c .before .before .before .before .before .before .before .before .before .before .before .before .before .before .before .before in
     let c20 = c16 .before .before .before .before in
     let S = c20 in
-    let b = rules-refused (kindOf (S .args .kind)) (S .args .width) (S .args .levels) (given S) (S .args .scratch .now) (rowsLent S) (S .args .list .now)
+    let b = rules-refused (kindOf (S .args .kind)) (S .args .width) (S .args .levels) (S .args .links) (given S) (S .args .scratch .now) (rowsLent S) (S .args .list .now)
     (width-in (c .before .before .before .before .before .before .before)) (levels-in (c .before .before .before .before .before)) (sym (c .before .before .before .before .check-rules .ensures .0)
     ∙ c .before .before .checked .given .1) (c .refused3 .ensures .0) (c .refused3 .ensures .1) in
     (b, rules-mean b)
@@ -274,7 +284,7 @@ returns-4 c =
     let S = c57 in
     let G = c30 .gather in
     let B = c12 .build-split in
-    let b = whole-built (S .args .width) (S .args .levels) (given S) (good (c39)) (levels-good (c39)) (G .result) (G .last .1 .1 .0) (G .ensures .runs) (enough (c30))
+    let b = whole-built (S .args .width) (S .args .levels) (given S) (good (c39)) (levels-good (c39)) (G .result) (G .last .1 .1 .0) (G .ensures .runs) (enough (c30)) (S .args .links) (linked (c39))
     (subst (λ (s : SplitRules). SplitBuilt (kindOf (S .args .kind)) (S .args .width) (S .args .levels) s (S .args .scratch .now) (rowsLent S) (S .args .list .now)
     (B .result .outcome) (B .result .«record») (B .last .1 .1 .1 .1 .1 .1 .1 .1 .1 .1 .0)
     (lists (B .last .1 .1 .1 .1 .1 .1 .1 .1 .1 .1 .1 .0) (B .last .1 .1 .1 .1 .1 .1 .1 .1 .1 .1 .1 .1 .0) (B .last .1 .1 .1 .1 .1 .1 .1 .1 .1 .1 .1 .1 .1 .0)

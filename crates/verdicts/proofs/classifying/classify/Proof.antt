@@ -38,12 +38,12 @@ not-refused (Refused n) k =
 -- the number that the tests gave is that of the shortest list
 number : (c : tie.After-early-refusal) → let a = c .before .before .before .before .before .before .before .before .before .args in
     c .early-refusal .result
-    ≡ earlyRefusal WIDTH (a .rec) (shortest (lists (a .hops .now) (a .lens .now) (a .links .now) (a .strides .now))) (a .dest) (a .source)
+    ≡ earlyRefusal WIDTH (a .rec) (shortest (lists (a .rowhops .now) (a .rowlens .now) (a .rowlinks .now) (a .rowstrides .now))) (a .dest) (a .source)
 number c = rw (c .before .smaller3 .ensures, c .before .before .smaller2 .ensures, c .before .before .before .smaller .ensures) at (c .early-refusal .ensures)
 
 -- no test failed
 zero-number : (c : tie.Else1) → let a = c .before .before .before .before .before .before .before .before .before .before .args in
-    earlyRefusal WIDTH (a .rec) (shortest (lists (a .hops .now) (a .lens .now) (a .links .now) (a .strides .now))) (a .dest) (a .source) ≡ 0
+    earlyRefusal WIDTH (a .rec) (shortest (lists (a .rowhops .now) (a .rowlens .now) (a .rowlinks .now) (a .rowstrides .now))) (a .dest) (a .source) ≡ 0
 zero-number c = sym (number (c .before)) ∙ c .if1 .left
 
 -- src/classifying.rt:100:29
@@ -95,7 +95,7 @@ reads-of-requires c κs = search needs
 visit-tries-requires : tie.Need-visit-tries-requires
 visit-tries-requires c κs =
     let a = c .before .before .before .before .before .before .before .before .before .before .before .before .before .before .before .args in
-    let ls = lists (a .hops .now) (a .lens .now) (a .links .now) (a .strides .now) in
+    let ls = lists (a .rowhops .now) (a .rowlens .now) (a .rowlinks .now) (a .rowstrides .now) in
     let p = early-passed WIDTH (a .rec) (shortest ls) (a .dest) (a .source) (zero-number (c .before .before .before .before .before)) in
     let few = reads-most WIDTH (a .rec .dest) ls (a .dest) in
     (can-visit (a .rec) ls (a .list .now) (a .dest) (a .source) p, omega (arith, few, p .levels .1, c .reads-of .ensures, ap readsOf (c .before .before .before .lookup .ensures .0)))
@@ -105,7 +105,7 @@ returns-3 : tie.Need-returns-3
 returns-3 c =
     let c16 = c .before .before .before .before .before .before .before .before .before .before .before .before .before .before .before .before in
     let a = c16 .args in
-    let ls = lists (a .hops .now) (a .lens .now) (a .links .now) (a .strides .now) in
+    let ls = lists (a .rowhops .now) (a .rowlens .now) (a .rowlinks .now) (a .rowstrides .now) in
     let found = c .before .before .before .before .lookup .ensures .0 in
     verdict-promised (a .rec) ls (a .list .now) (a .dest) (a .source)
     (c .visit-tries .ensures

@@ -144,7 +144,7 @@ unfolding padded
 returns-2 c =
     let a = c .before .before .before .before .before .before .before .before .before .before .before .before .before .before .before .args in
     c .lookup .ensures .0
-    ∙ looked-up (a .width) (a .levels) (a .hops .now) (a .lens .now) (a .links .now) (a .strides .now) (a .list .now) (a .source) (a .g)
+    ∙ looked-up (a .width) (a .levels) (a .rowhops .now) (a .rowlens .now) (a .rowlinks .now) (a .rowstrides .now) (a .list .now) (a .source) (a .g)
 
 pub look-up-spec : {M : Type 1} → statement M
 look-up-spec =

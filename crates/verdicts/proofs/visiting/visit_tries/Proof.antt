@@ -35,13 +35,13 @@ not-no-rule k s z =
     ⊎-elim (λ (p : 2 ≡ 0). omega arith) (λ (q : (2 ≡ 1) ⊎ (2 ≡ 3)). ⊎-elim (λ (p : 2 ≡ 1). omega arith) (λ (p : 2 ≡ 3). omega arith) q) (rw z at k)
 
 abbrev Inv-loop : tie.InvT-loop
-Inv-loop width levels elements hops lens links strides list source first before n₀ reads₀ left₀ n reads left =
-    (throughTries WIDTH elements width levels (lists hops lens links strides) list source left n reads
-    ≡ throughTries WIDTH elements width levels (lists hops lens links strides) list source VISITS first before)
+Inv-loop width levels elements rowhops rowlens rowlinks rowstrides list source first before n₀ reads₀ left₀ n reads left =
+    (throughTries WIDTH elements width levels (lists rowhops rowlens rowlinks rowstrides) list source left n reads
+    ≡ throughTries WIDTH elements width levels (lists rowhops rowlens rowlinks rowstrides) list source VISITS first before)
     × (reads + left * LEVELS ≤ LEVELS + VISITS * LEVELS)
 
 abbrev μ-loop : tie.MeasureT-loop
-μ-loop width levels elements hops lens links strides list source first before n₀ reads₀ left₀ n reads left = left
+μ-loop width levels elements rowhops rowlens rowlinks rowstrides list source first before n₀ reads₀ left₀ n reads left = left
 
 -- src/visiting.rt:167:5
 loop-holds : tie.Need-loop-holds Inv-loop μ-loop
@@ -53,7 +53,7 @@ returns c =
     let c8 = c .before .before .before .before .before .before .before .before in
     let l = c .before .before .loop in
     let a = c8 .args in
-    sym (through-spent (a .elements) (a .width) (a .levels) (lists (a .hops .now) (a .lens .now) (a .links .now) (a .strides .now)) (a .list .now) (a .source) (l .left) (l .n) (l .reads)
+    sym (through-spent (a .elements) (a .width) (a .levels) (lists (a .rowhops .now) (a .rowlens .now) (a .rowlinks .now) (a .rowstrides .now)) (a .list .now) (a .source) (l .left) (l .n) (l .reads)
     (c .before .loop-test .taken) (c .if1 .taken)) ∙ l .inv .0
 
 -- src/visiting.rt:171:17
@@ -69,7 +69,7 @@ judged-requires : tie.Need-judged-requires Inv-loop μ-loop
 judged-requires c κs =
     let l = c .before .before .before .loop in
     let a = c .before .before .before .before .before .before .before .before .before .args in
-    let r = source-reads (a .elements) (a .width) (a .levels) (lists (a .hops .now) (a .lens .now) (a .links .now) (a .strides .now)) (a .list .now) (a .source) (l .n - 1) in
+    let r = source-reads (a .elements) (a .width) (a .levels) (lists (a .rowhops .now) (a .rowlens .now) (a .rowlinks .now) (a .rowstrides .now)) (a .list .now) (a .source) (l .n - 1) in
     omega (arith, rw (sym (c .source-answer .ensures)) at r, l .inv .1, c .before .before .before .before .before .before .before .before .before .pre .0 .levels .1, c .before .if1 .left)
 
 -- src/visiting.rt:185:41
@@ -81,7 +81,7 @@ returns-2 : tie.Need-returns-2 Inv-loop μ-loop
 returns-2 c =
     let l = c .before .before .before .before .before .loop in
     let a = c .before .before .before .before .before .before .before .before .before .before .before .args in
-    through-ends (a .elements) (a .width) (a .levels) (lists (a .hops .now) (a .lens .now) (a .links .now) (a .strides .now)) (a .list .now) (a .source)
+    through-ends (a .elements) (a .width) (a .levels) (lists (a .rowhops .now) (a .rowlens .now) (a .rowlinks .now) (a .rowstrides .now)) (a .list .now) (a .source)
     (l .left) (l .n) (l .reads) (c .before .before .before .before .loop-test .taken) (c .before .before .before .if1 .left)
     (c .before .judged .ensures ∙ ap (λ (f : Answer). onward f (l .reads) NoRule) (c .before .before .source-answer .ensures)) (not-no-rule (c .match .keys2)) ∙ l .inv .0
 
@@ -93,7 +93,7 @@ sub-left c = search needs
 told : (c : tie.After-known-told Inv-loop μ-loop)
     → let a = c .before .before .before .before .before .before .before .before .before .before .before .before .before .args in
     c .before .before .before .judged .result
-    ≡ onward (sourceOf WIDTH (a .elements) (a .width) (a .levels) (lists (a .hops .now) (a .lens .now) (a .links .now) (a .strides .now)) (a .list .now) (a .source)
+    ≡ onward (sourceOf WIDTH (a .elements) (a .width) (a .levels) (lists (a .rowhops .now) (a .rowlens .now) (a .rowlinks .now) (a .rowstrides .now)) (a .list .now) (a .source)
     (c .before .before .before .before .before .before .before .loop .n - 1)) (c .before .before .before .before .before .before .before .loop .reads) NoRule
 told c = c .before .before .before .judged .ensures ∙ ap (λ (f : Answer). onward f (c .before .before .before .before .before .before .before .loop .reads) NoRule)
     (c .before .before .before .before .source-answer .ensures)
@@ -104,7 +104,7 @@ next-inside : (c : tie.After-known-told Inv-loop μ-loop) → (c .before .before
 next-inside c =
     let c13 = c .before .before .before .before .before .before .before .before .before .before .before .before .before in
     let a = c13 .args in
-    on-visitable (a .elements) (a .width) (a .levels) (lists (a .hops .now) (a .lens .now) (a .links .now) (a .strides .now)) (a .list .now) (a .source)
+    on-visitable (a .elements) (a .width) (a .levels) (lists (a .rowhops .now) (a .rowlens .now) (a .rowlinks .now) (a .rowstrides .now)) (a .list .now) (a .source)
     (c .before .before .before .before .before .before .before .loop .n - 1) (c .before .before .before .before .before .before .before .loop .reads) _ (told c) (c .before .verdict .given .1) .listed
 
 -- src/visiting.rt:191:18
@@ -143,7 +143,7 @@ loop-again c =
     let c14 = c8 .before .before .before .before .before .before in
     let l = c8 .loop in
     let a = c14 .args in
-    let ls = lists (a .hops .now) (a .lens .now) (a .links .now) (a .strides .now) in (
+    let ls = lists (a .rowhops .now) (a .rowlens .now) (a .rowlinks .now) (a .rowstrides .now) in (
       through-on (a .elements) (a .width) (a .levels) ls (a .list .now) (a .source) (l .left) (l .n) (l .reads) _ (c .before .before .before .before .before .before .before .loop-test .taken)
           (c .before .before .before .before .before .before .if1 .left)
           (told (c .before)) (c .before .before .verdict .given .1) ∙ l .inv .0,
@@ -161,7 +161,7 @@ returns-3 : tie.Need-returns-3 Inv-loop μ-loop
 returns-3 c =
     let l = c .before .loop in
     let a = c .before .before .before .before .before .before .before .args in
-    sym (through-none (a .elements) (a .width) (a .levels) (lists (a .hops .now) (a .lens .now) (a .links .now) (a .strides .now)) (a .list .now) (a .source)
+    sym (through-none (a .elements) (a .width) (a .levels) (lists (a .rowhops .now) (a .rowlens .now) (a .rowlinks .now) (a .rowstrides .now)) (a .list .now) (a .source)
     (l .left) (l .n) (l .reads) (c .loop-test .left)) ∙ l .inv .0
 
 pub visit-tries-spec : {M : Type 1} → statement M
