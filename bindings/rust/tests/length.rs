@@ -10,7 +10,7 @@ use hongsamuk::*;
 const WINNERS: [(u32, u16, u8); 6] =
     [(0b1100001, 7, 6), (0b1100000, 8, 7), (0b1100111, 6, 4), (0b1101000, 3, 2), (0b1000111, 5, 5), (0b1001111, 2, 1)];
 /// The entry of length 0 to hop 9, 1 discarded, and 101 to hop 2.
-const FLOOR: Table = Table { width: 3, value: &[0, 4, 5], length: &[0, 1, 3], hop: &[9, DISCARD, 2] };
+const FLOOR: Table = Table { width: 3, links: LINKS, value: &[0, 4, 5], length: &[0, 1, 3], hop: &[9, DISCARD, 2] };
 
 /// A build with so many lengths, and so much room in the other three lists.
 fn make(kind: Kind, levels: u32, table: Table, lengths: usize, room: usize) -> Made {
@@ -54,10 +54,10 @@ fn the_floor() {
         assert!(matches!(made.lookup(0b011), Answer::Match { hop: 9, length: 0, .. }));
         assert!(matches!(made.lookup(0b111), Answer::Discard { length: 1, .. }));
         assert!(matches!(made.lookup(0b101), Answer::Match { hop: 2, length: 3, .. }));
-        let alone = Table { width: 3, value: &[0], length: &[0], hop: &[DISCARD] };
+        let alone = Table { width: 3, links: LINKS, value: &[0], length: &[0], hop: &[DISCARD] };
         assert_eq!(make(kind, 2, alone, 0, 0).lookup(5), Answer::Discard { length: 0, reads: 0 });
     }
-    let every = Table { width: 3, value: &[0], length: &[0], hop: &[9] };
+    let every = Table { width: 3, links: LINKS, value: &[0], length: &[0], hop: &[9] };
     assert_eq!(MadeBitmap::of(every, NODE_ROW, 1, 1).lookup(5), Answer::Match { hop: 9, length: 0, reads: 1 });
 }
 

@@ -6,6 +6,7 @@ use hongsamuk::*;
 
 pub const EIGHT: Table = Table {
     width: 7,
+    links: LINKS,
     value: &[0, 64, 68, 80, 96, 96, 96, 96],
     length: &[1, 1, 5, 3, 2, 4, 6, 7],
     hop: &[1, 2, 5, 4, 3, 6, 7, 8],
