@@ -3,7 +3,7 @@
 
 mod common;
 
-use common::{Made, MadeBitmap};
+use common::{Made, MadeBitmap, KINDS};
 use hongsamuk::*;
 
 /// 10 to hop 1, and 1010 discarded.
@@ -18,7 +18,7 @@ fn made(kind: Kind, levels: u32, table: Table) -> Made {
 
 #[test]
 fn a_discarded_corner_in_elements() {
-    for kind in [Kind::Fixed, Kind::Variable] {
+    for kind in KINDS {
         for levels in 1..=LEVELS as u32 {
             let made = made(kind, levels, CORNER);
             assert!(

@@ -2,7 +2,7 @@
 
 mod common;
 
-use common::{Made, EIGHT, WORDS};
+use common::{Made, EIGHT, KINDS, WORDS};
 use hongsamuk::*;
 
 fn refused(number: u32, detail: u64) -> Outcome {
@@ -33,7 +33,7 @@ fn costs_and_strides() {
 #[test]
 fn longest_match_with_every_limit() {
     let answers = [(97, 7), (96, 8), (103, 6), (104, 3), (71, 5), (79, 2), (127, 3), (0, 1)];
-    for kind in [Kind::Fixed, Kind::Variable] {
+    for kind in KINDS {
         for levels in 1..=LEVELS as u32 {
             let made = Made::of(kind, levels, EIGHT, WORDS, 128);
             assert_eq!(made.built.outcome, Outcome::Accepted);

@@ -3,7 +3,7 @@
 
 mod common;
 
-use common::{Made, MadeBitmap, EIGHT, WORDS};
+use common::{Made, MadeBitmap, EIGHT, KINDS, WORDS};
 use hongsamuk::*;
 
 /// 01's six addresses with the hop and the length of the entry that wins.
@@ -19,7 +19,7 @@ fn make(kind: Kind, levels: u32, table: Table, lengths: usize, room: usize) -> M
 
 #[test]
 fn winners_in_elements() {
-    for kind in [Kind::Fixed, Kind::Variable] {
+    for kind in KINDS {
         for levels in (1..=9).chain([31, 32]) {
             let made = make(kind, levels, EIGHT, 128, 128);
             assert_eq!(made.built.outcome, Outcome::Accepted);
@@ -49,7 +49,7 @@ fn winners_in_a_bitmap() {
 /// The entry of length 0 wins with length 0, in a bitmap as in elements; so does it where it discards.
 #[test]
 fn the_floor() {
-    for kind in [Kind::Fixed, Kind::Variable] {
+    for kind in KINDS {
         let made = make(kind, 2, FLOOR, 8, 8);
         assert!(matches!(made.lookup(0b011), Answer::Match { hop: 9, length: 0, .. }));
         assert!(matches!(made.lookup(0b111), Answer::Discard { length: 1, .. }));

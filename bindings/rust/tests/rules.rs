@@ -3,7 +3,7 @@
 
 mod common;
 
-use common::MadeRules;
+use common::{MadeRules, KINDS};
 use hongsamuk::*;
 
 /// Figure 3 of source document 004, in the order that 02 asks for; an action is the number of its filter.
@@ -20,8 +20,6 @@ const SEVEN: Rules = Rules {
 const WORDS: usize = 14 * SCRATCH_ROW;
 const ROWS: usize = 44;
 const NUMBERS: usize = 3 * TRIE_ROW;
-
-const KINDS: [Kind; 2] = [Kind::Fixed, Kind::Variable];
 
 /// With one level, in just enough room: each trie is one block.
 fn seven() -> MadeRules {
