@@ -103,6 +103,8 @@ static void take_a_link_away(void)
     hongsamuk_checked checked = hongsamuk_check(WIDTH, LINKS - 1, TABLE);
     expect(checked.number == built.number && checked.detail == built.detail, "the check with one link too few");
     expect(hongsamuk_check(WIDTH, HONGSAMUK_LINKS, TABLE).number == 0, "links that are not tested");
+    static volatile uint32_t many = 65536 + LINKS - 1;
+    expect(hongsamuk_check(WIDTH, many, TABLE).number == 4, "65,543 is cut to 7 at the call");
 }
 
 static void discard_a_corner(void)
