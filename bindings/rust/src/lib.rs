@@ -137,7 +137,7 @@ pub struct Bitmap {
 #[derive(Clone, Copy, PartialEq, Eq, Debug)]
 pub struct Table<'a> {
     pub width: u32,
-    /// The number of links of the gateway: an entry's hop is at most that, or [`DISCARD`]. [`LINKS`] where it is not to be tested.
+    /// The number of links of the gateway: an entry's hop is at most that, or [`DISCARD`]. With [`LINKS`] no hop is refused but 0.
     pub links: u16,
     pub value: &'a [u32],
     pub length: &'a [u8],

@@ -61,8 +61,8 @@ pub struct RuleRecord {
 #[derive(Clone, Copy, PartialEq, Eq, Debug)]
 pub struct Rules<'a> {
     pub width: u32,
-    /// The number of links of the gateway: a rule's action is at most that, or [`DISCARD`]. [`LINKS`](crate::LINKS) where it is not to
-    /// be tested.
+    /// The number of links of the gateway: a rule's action is at most that, or [`DISCARD`]. With [`LINKS`](crate::LINKS) no action is
+    /// refused but 0.
     pub links: u16,
     pub dest_value: &'a [u32],
     pub dest_length: &'a [u8],
