@@ -7,8 +7,9 @@
  *    2  the level limit is 0 or above 32                          detail 0
  *    3  lists of unequal length, more than 65,536 entries or      detail 0
  *       more than 1,024 rules
- *    4  an entry is no prefix of that width, or has hop 0;        detail: its index
- *       a rule has such a destination or source, or action 0
+ *    4  an entry is no prefix of that width, or has hop 0 or a    detail: its index
+ *       hop above `links` that is not 65,535; a rule has such
+ *       a destination or source, or such an action
  *    5  an entry or rule does not stand above the one before      detail: its index
  *    6  scratch has too few whole rows for the table's trie,      detail: the rows needed
  *       or for all tries of the rules
@@ -24,17 +25,24 @@
  * All lists belong to the caller before, during and after a call; no call keeps a pointer, allocates, or has a state of its
  * own, so calls on different lists may run at the same time. A list that a call writes must not overlap another list of that call.
  *
- * An entry's hop is 1 to 65,535. HONGSAMUK_DISCARD is the hop of a route that discards packets: an entry like any other, and where
- * it is the longest that begins an address, the answer, with number 0. Test for it before sending: it is no link. Nor is it hop 0, which
- * says that no entry begins the address.
+ * An entry's hop is a link of the gateway, 1 to `links`, or HONGSAMUK_DISCARD. `links` is how many links the gateway has, 0 to
+ * 65,535; a larger number would be cut to its last 16 bits at the call. With 0 links only discards are accepted. Where the links
+ * are not to be tested, give HONGSAMUK_LINKS: no hop is above it. No record keeps the number, and no lookup or classification
+ * tests a hop. (An element's row_link is no link of the gateway: it is the first row of a block.)
+ *
+ * HONGSAMUK_DISCARD is the hop of a route that discards packets. It is accepted whatever `links` is: an entry like any other, and
+ * where it is the longest that begins an address, the answer, with number 0. Test for it before sending: it is no link. Nor is it
+ * hop 0, which says that no entry begins the address.
  *
  * With the hop a lookup answers the length of the entry that won: how many bits it has. Over what one accepted build left, length 0
- * beside a hop that is not 0 is that of the entry of length 0; beside hop 0 the length is always 0. Programs that were compiled with a
- * header without row_length must be compiled again: the calls have kept their names.
+ * beside a hop that is not 0 is that of the entry of length 0; beside hop 0 the length is always 0.
  *
- * A rule is a destination prefix, a source prefix and an action, which is 1 to 65,535, HONGSAMUK_DISCARD being a discard here too. Rules
- * rise by destination value, then destination length, source value and source length. Among the rules that match both addresses the
- * longest destination wins, then the longest source.
+ * Programs that were compiled with a header without row_length or without `links` must be compiled again: the calls have kept
+ * their names.
+ *
+ * A rule is a destination prefix, a source prefix and an action, which is 1 to `links`, or HONGSAMUK_DISCARD, a discard here too.
+ * Rules rise by destination value, then destination length, source value and source length. Among the rules that match both
+ * addresses the longest destination wins, then the longest source.
  *
  * A table can be laid out in two ways: in elements, as few as a level limit allows, or as a tree bitmap, in supernodes of four
  * levels and hops. Both give every address the same hop and the same length.
@@ -83,6 +91,7 @@ enum {
     HONGSAMUK_LEVELS = 32,         /* the most levels */
     HONGSAMUK_ENTRIES = 65536,     /* the most entries of a table */
     HONGSAMUK_DISCARD = 65535,     /* the hop of a route that discards packets */
+    HONGSAMUK_LINKS = 65535,       /* the most links of a gateway; with it no hop is refused but 0 */
     HONGSAMUK_ELEMENTS = 16777216, /* the most elements of a build */
     HONGSAMUK_ROW = 72,            /* numbers in a scratch row of a chooser, or of a build of elements or of rules */
     HONGSAMUK_NODE_ROW = 4,        /* numbers in a scratch row of a build of a bitmap */
@@ -168,9 +177,9 @@ typedef struct hongsamuk_verdict {
     uint32_t reads;                      /* blocks read in all tries, at most (HONGSAMUK_VISITS + 1) * levels; refused: 0 */
 } hongsamuk_verdict;
 
-/* Whether the three lists are a table of that width: tests 1, 3, 4, 5. No list changes. */
+/* Whether the three lists are a table of that width, for a gateway with so many links: tests 1, 3, 4, 5. No list changes. */
 hongsamuk_checked hongsamuk_check(
-    uint32_t width,
+    uint32_t width, uint16_t links,
     const uint32_t *value, size_t values,
     const uint8_t *length, size_t lengths,
     const uint16_t *hop, size_t hops);
@@ -181,7 +190,7 @@ hongsamuk_shared hongsamuk_shared_length(uint32_t width, uint32_t a, uint8_t a_b
 /* The first index and the number of the entries that start with a prefix; where there are none, count 0 at the index where the
  * prefix itself would stand: tests 1, 3, 4, 5, 10. No list changes. */
 hongsamuk_span hongsamuk_zone_span(
-    uint32_t width,
+    uint32_t width, uint16_t links,
     const uint32_t *value, size_t values,
     const uint8_t *length, size_t lengths,
     const uint16_t *hop, size_t hops,
@@ -191,14 +200,14 @@ hongsamuk_span hongsamuk_zone_span(
  * levels, and the strides of a build: tests 1 to 6. Accepted, all of scratch is 0; refused, it is as it was. No other list
  * changes. */
 hongsamuk_chosen hongsamuk_choose_fixed(
-    uint32_t width, uint32_t levels,
+    uint32_t width, uint32_t levels, uint16_t links,
     const uint32_t *value, size_t values,
     const uint8_t *length, size_t lengths,
     const uint16_t *hop, size_t hops,
     uint64_t *scratch, size_t words);
 
 hongsamuk_chosen hongsamuk_choose_variable(
-    uint32_t width, uint32_t levels,
+    uint32_t width, uint32_t levels, uint16_t links,
     const uint32_t *value, size_t values,
     const uint8_t *length, size_t lengths,
     const uint16_t *hop, size_t hops,
@@ -209,7 +218,7 @@ hongsamuk_chosen hongsamuk_choose_variable(
  * are as they were. Refused by 7, all of scratch is 0 and no element changes; refused by 1 to 6, no list changes. The table's lists
  * never change. An element's row_length is the length of the entry whose hop its row_hop is, 0 where that is 0. */
 hongsamuk_built hongsamuk_build_fixed(
-    uint32_t width, uint32_t levels,
+    uint32_t width, uint32_t levels, uint16_t links,
     const uint32_t *value, size_t values,
     const uint8_t *length, size_t lengths,
     const uint16_t *hop, size_t hops,
@@ -220,7 +229,7 @@ hongsamuk_built hongsamuk_build_fixed(
     uint8_t *row_stride, size_t row_strides);
 
 hongsamuk_built hongsamuk_build_variable(
-    uint32_t width, uint32_t levels,
+    uint32_t width, uint32_t levels, uint16_t links,
     const uint32_t *value, size_t values,
     const uint8_t *length, size_t lengths,
     const uint16_t *hop, size_t hops,
@@ -270,7 +279,7 @@ size_t hongsamuk_lookup_batch(
  * rows are as they were. Refused by 7, all of scratch is 0 and no row changes; refused by 1 to 6, no list changes. The table's
  * lists never change. */
 hongsamuk_built_bitmap hongsamuk_build_bitmap(
-    uint32_t width,
+    uint32_t width, uint16_t links,
     const uint32_t *value, size_t values,
     const uint8_t *length, size_t lengths,
     const uint16_t *hop, size_t hops,
@@ -297,8 +306,8 @@ hongsamuk_answer hongsamuk_lookup_bitmap(
 /* Turns rules into a record, the element rows of all tries and a list of source tries: tests 1 to 7, with rules for entries, where 6
  * counts the nodes and 7 the elements of all tries, in the shortest of the four element lists, and 7 then the whole rows of the list.
  * There is a trie of the destinations, at row 0, and behind it one of the sources of each destination, as the destinations rise; each
- * has the least number of elements of the kind. Links count from the trie's own first row. The source tries are numbered from 1, and
- * row n - 1 of the list is that of number n:
+ * has the least number of elements of the kind. A row_link counts from the trie's own first row. The source tries are numbered from 1,
+ * and row n - 1 of the list is that of number n:
  *
  *    0  floor    the action of the source of length 0, else 0
  *    1  root     the stride of its root block; 0 where it has no elements
@@ -311,7 +320,7 @@ hongsamuk_answer hongsamuk_lookup_bitmap(
  * them is as it was. Refused by 7, all of scratch is 0 and nothing else changes; refused by 1 to 6, no list changes. The rules' lists
  * never change. */
 hongsamuk_built_rules hongsamuk_build_rules_fixed(
-    uint32_t width, uint32_t levels,
+    uint32_t width, uint32_t levels, uint16_t links,
     const uint32_t *dest_value, size_t dest_values,
     const uint8_t *dest_length, size_t dest_lengths,
     const uint32_t *source_value, size_t source_values,
@@ -325,7 +334,7 @@ hongsamuk_built_rules hongsamuk_build_rules_fixed(
     uint32_t *list, size_t numbers);
 
 hongsamuk_built_rules hongsamuk_build_rules_variable(
-    uint32_t width, uint32_t levels,
+    uint32_t width, uint32_t levels, uint16_t links,
     const uint32_t *dest_value, size_t dest_values,
     const uint8_t *dest_length, size_t dest_lengths,
     const uint32_t *source_value, size_t source_values,

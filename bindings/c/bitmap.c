@@ -1,6 +1,6 @@
-/* The eight-prefix table both ways: as a tree bitmap and in elements, where every address must get the same hop and the same length.
- * Then the calls of the bitmap with too little room, with damaged rows, and with no lists at all. Exits with 1 where an answer is not
- * the one expected. */
+/* The eight-prefix table both ways: as a tree bitmap and in elements, where every address must get the same hop and the same
+ * length. Then the calls of the bitmap with too little room, with one link too few, with damaged rows, and with no lists at all.
+ * Exits with 1 where an answer is not the one expected. */
 #include <stdio.h>
 #include <string.h>
 #include "hongsamuk.h"
@@ -12,8 +12,9 @@
 #define BITMAP LIST(internal), LIST(external), NUMBERS, LIST(hop_row)
 #define ROWS LIST(row_hop), LIST(row_length), LIST(row_link), LIST(row_stride)
 
-/* Nodes of the binary trie and of the 1-bit trie; elements with two levels. */
-enum { WIDTH = 7, ADDRESSES = 128, NODES = 14, SUPERNODES = 3, HOPS = 8, LEVELS = 2, ONE_BIT_NODES = 10, ELEMENTS = 26 };
+/* Nodes of the binary trie; then those of the 1-bit trie, and elements with two levels. */
+enum { WIDTH = 7, LINKS = 8, ADDRESSES = 128, NODES = 14, SUPERNODES = 3, HOPS = 8 };
+enum { LEVELS = 2, ONE_BIT_NODES = 10, ELEMENTS = 26 };
 
 static const uint32_t value[] = { 0, 64, 68, 80, 96, 96, 96, 96 };
 static const uint8_t length[] = { 1, 1, 5, 3, 2, 4, 6, 7 };
@@ -47,7 +48,7 @@ static hongsamuk_bitmap build(void)
     static const uint16_t maps[2][SUPERNODES] = { { 4166, 4, 137 }, { 4352, 0, 0 } };
     static const uint32_t numbers[2][SUPERNODES] = { { 1, 0, 0 }, { 0, 4, 5 } };
     static const uint16_t hops[HOPS] = { 1, 2, 3, 4, 5, 6, 7, 8 };
-    hongsamuk_built_bitmap built = hongsamuk_build_bitmap(WIDTH, TABLE, LIST(node_rows), BITMAP);
+    hongsamuk_built_bitmap built = hongsamuk_build_bitmap(WIDTH, LINKS, TABLE, LIST(node_rows), BITMAP);
     printf("refusal=%u detail=%llu supernodes=%u hops=%u\n", (unsigned)built.number, (unsigned long long)built.detail,
            (unsigned)built.record.supernodes, (unsigned)built.record.hops);
     expect(built.number == 0 && built.detail == 0, "the build");
@@ -68,7 +69,7 @@ static void look(hongsamuk_bitmap record)
     printf("address=97 hop=%u length=%u reads=%u\n", (unsigned)answer.hop, (unsigned)answer.length, (unsigned)answer.reads);
     expect(answer.number == 0 && answer.hop == 7 && answer.length == 6 && answer.reads == 2, "address 97");
     expect(hongsamuk_lookup_bitmap(record, BITMAP, ADDRESSES).number == 8, "address 128");
-    hongsamuk_built built = hongsamuk_build_variable(WIDTH, LEVELS, TABLE, LIST(scratch), ROWS);
+    hongsamuk_built built = hongsamuk_build_variable(WIDTH, LEVELS, LINKS, TABLE, LIST(scratch), ROWS);
     unsigned same = 0;
     for (uint32_t address = 0; address < ADDRESSES; address++) {
         hongsamuk_answer other = hongsamuk_lookup(built.record, ROWS, address);
@@ -79,15 +80,17 @@ static void look(hongsamuk_bitmap record)
     expect(same == ADDRESSES, "one table, one answer");
 }
 
-static void lend_too_little(void)
+static void give_too_little(void)
 {
-    hongsamuk_built_bitmap built = hongsamuk_build_bitmap(WIDTH, TABLE, NONE, BITMAP);
+    hongsamuk_built_bitmap built = hongsamuk_build_bitmap(WIDTH, LINKS, TABLE, NONE, BITMAP);
     expect(built.number == 6 && built.detail == NODES && built.record.width == 0, "no scratch");
-    built = hongsamuk_build_bitmap(WIDTH, TABLE, LIST(node_rows), NONE, LIST(external), NUMBERS, LIST(hop_row));
+    built = hongsamuk_build_bitmap(WIDTH, LINKS, TABLE, LIST(node_rows), NONE, LIST(external), NUMBERS, LIST(hop_row));
     expect(built.number == 7 && built.detail == SUPERNODES && built.record.width == 0, "no internal maps");
-    built = hongsamuk_build_bitmap(WIDTH, TABLE, LIST(node_rows), LIST(internal), LIST(external), NUMBERS, NONE);
+    built = hongsamuk_build_bitmap(WIDTH, LINKS, TABLE, LIST(node_rows), LIST(internal), LIST(external), NUMBERS, NONE);
     expect(built.number == 7 && built.detail == HOPS && built.record.width == 0, "no hops");
-    built = hongsamuk_build_bitmap(WIDTH, NONE, NONE, NONE, NONE, NONE, NONE, NONE, NONE, NONE);
+    built = hongsamuk_build_bitmap(WIDTH, LINKS - 1, TABLE, LIST(node_rows), BITMAP);
+    expect(built.number == 4 && built.detail == 7 && built.record.width == 0, "one link too few");
+    built = hongsamuk_build_bitmap(WIDTH, LINKS, NONE, NONE, NONE, NONE, NONE, NONE, NONE, NONE, NONE);
     expect(built.number == 0 && built.record.width == WIDTH && built.record.supernodes == 0, "the build of nothing");
     hongsamuk_answer answer = hongsamuk_lookup_bitmap(built.record, NONE, NONE, NONE, NONE, NONE, 5);
     expect(answer.number == 0 && answer.hop == 0 && answer.length == 0 && answer.reads == 0, "the lookup in nothing");
@@ -111,7 +114,7 @@ int main(void)
 {
     hongsamuk_bitmap record = build();
     look(record);
-    lend_too_little();
+    give_too_little();
     damage(record);
     return wrong;
 }

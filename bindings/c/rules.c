@@ -1,6 +1,6 @@
-/* The seven rules of source document 004's figure 3: their build, and what packets get by their two addresses. Then the calls with too
- * little room, with no lists at all and with a damaged list, and every pair of addresses in builds of both kinds. Exits with 1 where an
- * answer is not the one expected. */
+/* The seven rules of source document 004's figure 3: their build, and what packets get by their two addresses. Then the calls
+ * with too little room, with one link too few, with no lists at all and with a damaged list, and every pair of addresses in
+ * builds of both kinds. Exits with 1 where an answer is not the one expected. */
 #include <stdio.h>
 #include <string.h>
 #include "hongsamuk.h"
@@ -11,7 +11,7 @@
 #define ROWS LIST(row_hop), LIST(row_length), LIST(row_link), LIST(row_stride)
 
 /* Nodes and elements of all tries, the latter with one level, and how many source tries there are. */
-enum { WIDTH = 4, ADDRESSES = 16, LEVELS = 1, NODES = 14, DEST_ELEMENTS = 16, ELEMENTS = 44, TRIES = 3 };
+enum { WIDTH = 4, LINKS = 7, ADDRESSES = 16, LEVELS = 1, NODES = 14, DEST_ELEMENTS = 16, ELEMENTS = 44, TRIES = 3 };
 
 /* An action is the number of its filter in the figure. */
 static const uint32_t dest_value[] = { 0, 0, 0, 0, 0, 0, 1 };
@@ -59,7 +59,7 @@ static unsigned winner(uint32_t dest, uint32_t source)
 static hongsamuk_rule_record build(void)
 {
     static const uint32_t rows[] = { 0, 4, 16, 16, 0, 0, 2, 32, 4, 1, 0, 3, 36, 8, 2 };
-    hongsamuk_built_rules built = hongsamuk_build_rules_variable(WIDTH, LEVELS, RULES, LIST(scratch), ROWS, LIST(list));
+    hongsamuk_built_rules built = hongsamuk_build_rules_variable(WIDTH, LEVELS, LINKS, RULES, LIST(scratch), ROWS, LIST(list));
     printf("refusal=%u detail=%llu elements=%u of them for destinations=%u\n", (unsigned)built.number,
            (unsigned long long)built.detail, (unsigned)built.record.elements, (unsigned)built.record.dest.elements);
     expect(built.number == 0 && built.detail == 0, "the build");
@@ -103,22 +103,24 @@ static unsigned as_scanned(hongsamuk_rule_record record)
 static void compare(hongsamuk_rule_record record)
 {
     unsigned pairs = ADDRESSES * ADDRESSES, variable = as_scanned(record);
-    hongsamuk_built_rules fixed = hongsamuk_build_rules_fixed(WIDTH, 3, RULES, LIST(scratch), ROWS, LIST(list));
+    hongsamuk_built_rules fixed = hongsamuk_build_rules_fixed(WIDTH, 3, LINKS, RULES, LIST(scratch), ROWS, LIST(list));
     expect(fixed.number == 0, "the fixed build with three levels");
     unsigned same = as_scanned(fixed.record);
     printf("the rule that wins: %u and %u of %u pairs of addresses\n", variable, same, pairs);
     expect(variable == pairs && same == pairs, "one list of rules, one action");
 }
 
-static void lend_too_little(void)
+static void give_too_little(void)
 {
-    hongsamuk_built_rules built = hongsamuk_build_rules_variable(WIDTH, LEVELS, RULES, NONE, ROWS, LIST(list));
+    hongsamuk_built_rules built = hongsamuk_build_rules_variable(WIDTH, LEVELS, LINKS, RULES, NONE, ROWS, LIST(list));
     expect(built.number == 6 && built.detail == NODES && built.record.dest.width == 0, "no scratch");
-    built = hongsamuk_build_rules_variable(WIDTH, LEVELS, RULES, LIST(scratch), NONE, NONE, NONE, NONE, LIST(list));
+    built = hongsamuk_build_rules_variable(WIDTH, LEVELS, LINKS, RULES, LIST(scratch), NONE, NONE, NONE, NONE, LIST(list));
     expect(built.number == 7 && built.detail == ELEMENTS && built.record.elements == 0, "no elements");
-    built = hongsamuk_build_rules_variable(WIDTH, LEVELS, RULES, LIST(scratch), ROWS, NONE);
+    built = hongsamuk_build_rules_variable(WIDTH, LEVELS, LINKS, RULES, LIST(scratch), ROWS, NONE);
     expect(built.number == 7 && built.detail == TRIES && built.record.elements == 0, "no list of tries");
-    built = hongsamuk_build_rules_fixed(WIDTH, LEVELS, NONE, NONE, NONE, NONE, NONE, NONE, NONE, NONE, NONE, NONE, NONE);
+    built = hongsamuk_build_rules_variable(WIDTH, LEVELS, LINKS - 1, RULES, LIST(scratch), ROWS, LIST(list));
+    expect(built.number == 4 && built.detail == 0 && built.record.elements == 0, "one link too few: the first rule has action 7");
+    built = hongsamuk_build_rules_fixed(WIDTH, LEVELS, LINKS, NONE, NONE, NONE, NONE, NONE, NONE, NONE, NONE, NONE, NONE, NONE);
     expect(built.number == 0 && built.record.dest.width == WIDTH && built.record.elements == 0, "the build of nothing");
     hongsamuk_verdict verdict = hongsamuk_classify(built.record, NONE, NONE, NONE, NONE, NONE, 5, 5);
     expect(verdict.number == 0 && verdict.action == 0 && verdict.reads == 0, "a packet and no rules");
@@ -146,7 +148,7 @@ int main(void)
 {
     hongsamuk_rule_record record = build();
     judge(record);
-    lend_too_little();
+    give_too_little();
     damage(record);
     compare(record);
     return wrong;

@@ -6,6 +6,7 @@ use hongsamuk::{BuiltBitmap, Kind, Outcome, Record, Rows, RowsMut, Table, NODE_R
 
 const TABLE: Table = Table {
     width: 7,
+    links: 8,
     value: &[0b0000000, 0b1000000, 0b1000100, 0b1010000, 0b1100000, 0b1100000, 0b1100000, 0b1100000],
     length: &[1, 1, 5, 3, 2, 4, 6, 7],
     hop: &[1, 2, 5, 4, 3, 6, 7, 8],

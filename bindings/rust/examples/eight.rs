@@ -1,7 +1,8 @@
 //! The eight-prefix table: builds it with variable strides and two levels, looks addresses up one by one and in a batch, and asks
-//! for a zone.
+//! for a zone. Then checks it for a gateway with one link too few.
 
-use hongsamuk::{build, lookup, lookup_batch, zone, Answer, AnswersMut, Kind, Outcome, Prefix, Rows, RowsMut, Table};
+use hongsamuk::{build, check, lookup, lookup_batch, zone};
+use hongsamuk::{Answer, AnswersMut, Kind, Outcome, Prefix, Rows, RowsMut, Table};
 
 const LEVELS: u32 = 2;
 /// Nodes of the table's 1-bit trie, and elements of the build: both are told by a refusal when there are too few.
@@ -10,6 +11,7 @@ const ELEMENTS: usize = 26;
 
 const TABLE: Table = Table {
     width: 7,
+    links: 8,
     value: &[0b0000000, 0b1000000, 0b1000100, 0b1010000, 0b1100000, 0b1100000, 0b1100000, 0b1100000],
     length: &[1, 1, 5, 3, 2, 4, 6, 7],
     hop: &[1, 2, 5, 4, 3, 6, 7, 8],
@@ -45,4 +47,8 @@ fn main() {
     let answered = lookup_batch(&built.record, rows, &ADDRESSES, room);
     println!("batch of {answered}: hops {best:?}, lengths {matched:?}");
     println!("zone 1100: {:?}", zone(TABLE, Prefix { value: 0b1100000, bits: 4 }));
+    // The last entry has hop 8.
+    let fewer = Table { links: 7, ..TABLE };
+    let Outcome::Refused { number, detail } = check(fewer) else { panic!("accepted with {} links", fewer.links) };
+    println!("links={}: refused by {number}, detail {detail}", fewer.links);
 }

@@ -10,6 +10,7 @@ const LEVELS: u32 = 2;
 /// An action is the number of its filter in the figure.
 const RULES: Rules = Rules {
     width: 4,
+    links: 7,
     dest_value: &[0, 0, 0, 0, 0, 0, 0b0001],
     dest_length: &[1, 1, 1, 1, 3, 3, 4],
     source_value: &[0b1000, 0b1100, 0b1110, 0b1111, 0b1000, 0b1100, 0b0000],

@@ -8,7 +8,7 @@
 //! | 1 | the width is 0 or above 32 | 0 |
 //! | 2 | the level limit is 0 or above 32 | 0 |
 //! | 3 | lists of unequal length, more than 65,536 entries or more than 1,024 rules | 0 |
-//! | 4 | an entry is no prefix of that width, or has hop 0; a rule has such a destination or source, or action 0 | its index |
+//! | 4 | an entry is no prefix of that width, or has hop 0 or one above `links` that is not 65,535; a rule has such a destination, source or action | its index |
 //! | 5 | an entry or rule does not stand above the one before | its index |
 //! | 6 | scratch has too few whole rows for the table's trie, or for all tries of the rules | the rows needed |
 //! | 7 | too little room for elements, or above 16,777,216; of a bitmap for supernodes, then hops; of rules then for the list | those needed, or list rows |
@@ -29,6 +29,8 @@ pub const LEVELS: usize = 32;
 pub const ENTRIES: usize = 65_536;
 /// The hop of a route that discards packets: an entry like any other.
 pub const DISCARD: u16 = 65_535;
+/// The most links of a gateway; with it no hop is refused but 0.
+pub const LINKS: u16 = 65_535;
 /// The most elements of a build.
 pub const ELEMENTS: u32 = 16_777_216;
 /// Numbers in a scratch row of a chooser, or of a build of elements or of rules; it needs one row for each node of the table's 1-bit trie,
@@ -131,10 +133,12 @@ pub struct Bitmap {
     pub hops: u32,
 }
 
-/// A table, lent: the width, and value, length and hop of each entry.
+/// A table, lent: the width, the number of links, and value, length and hop of each entry.
 #[derive(Clone, Copy, PartialEq, Eq, Debug)]
 pub struct Table<'a> {
     pub width: u32,
+    /// The number of links of the gateway: an entry's hop is at most that, or [`DISCARD`]. With [`LINKS`] no hop is refused but 0.
+    pub links: u16,
     pub value: &'a [u32],
     pub length: &'a [u8],
     pub hop: &'a [u16],
@@ -242,12 +246,21 @@ impl From<raw::Answer> for Answer {
     }
 }
 
-/// Whether the lists are a table: tests 1, 3, 4, 5.
+/// Whether the lists are a table for a gateway with so many links: tests 1, 3, 4, 5.
 pub fn check(table: Table) -> Outcome {
-    let Table { width, value, length, hop } = table;
+    let Table { width, links, value, length, hop } = table;
     // SAFETY: pointers and lengths are those of slices, which the call only reads.
     let checked = unsafe {
-        raw::hongsamuk_check(width, value.as_ptr(), value.len(), length.as_ptr(), length.len(), hop.as_ptr(), hop.len())
+        raw::hongsamuk_check(
+            width,
+            links,
+            value.as_ptr(),
+            value.len(),
+            length.as_ptr(),
+            length.len(),
+            hop.as_ptr(),
+            hop.len(),
+        )
     };
     outcome(checked.number, checked.detail)
 }
@@ -265,11 +278,12 @@ pub fn shared_length(width: u32, a: Prefix, b: Prefix) -> Shared {
 /// The first index and the number of the entries that start with a prefix; where there are none, count 0 at the index where the
 /// prefix itself would stand: tests 1, 3, 4, 5, 10.
 pub fn zone_span(table: Table, prefix: Prefix) -> Span {
-    let Table { width, value, length, hop } = table;
+    let Table { width, links, value, length, hop } = table;
     // SAFETY: pointers and lengths are those of slices, which the call only reads.
     let span = unsafe {
         raw::hongsamuk_zone_span(
             width,
+            links,
             value.as_ptr(),
             value.len(),
             length.as_ptr(),
@@ -301,12 +315,13 @@ pub fn choose(kind: Kind, levels: u32, table: Table, scratch: &mut [u64]) -> Cho
         Kind::Fixed => raw::hongsamuk_choose_fixed,
         Kind::Variable => raw::hongsamuk_choose_variable,
     };
-    let Table { width, value, length, hop } = table;
+    let Table { width, links, value, length, hop } = table;
     // SAFETY: pointers and lengths are those of slices; the call writes scratch only, which nobody else borrows.
     let chosen = unsafe {
         call(
             width,
             levels,
+            links,
             value.as_ptr(),
             value.len(),
             length.as_ptr(),
@@ -328,12 +343,13 @@ pub fn build(kind: Kind, levels: u32, table: Table, scratch: &mut [u64], rows: R
         Kind::Fixed => raw::hongsamuk_build_fixed,
         Kind::Variable => raw::hongsamuk_build_variable,
     };
-    let Table { width, value, length, hop } = table;
+    let Table { width, links, value, length, hop } = table;
     // SAFETY: pointers and lengths are those of slices; the call writes scratch and rows only, which nobody else borrows.
     let built = unsafe {
         call(
             width,
             levels,
+            links,
             value.as_ptr(),
             value.len(),
             length.as_ptr(),
@@ -412,11 +428,12 @@ pub fn lookup_batch(record: &Record, rows: Rows, addresses: &[u32], answers: Ans
 /// Accepted, all of scratch is 0, as many rows of the four lists and as many hop rows as the record says are the build's, and later
 /// rows are as they were. Refused by 7, all of scratch is 0 and no row changes; refused by 1 to 6, no list changes.
 pub fn build_bitmap(table: Table, scratch: &mut [u64], rows: BitmapRowsMut) -> BuiltBitmap {
-    let Table { width, value, length, hop } = table;
+    let Table { width, links, value, length, hop } = table;
     // SAFETY: pointers and lengths are those of slices; the call writes scratch and rows only, which nobody else borrows.
     let built = unsafe {
         raw::hongsamuk_build_bitmap(
             width,
+            links,
             value.as_ptr(),
             value.len(),
             length.as_ptr(),

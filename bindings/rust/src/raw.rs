@@ -80,6 +80,7 @@ pub struct Verdict {
 pub type Build = unsafe extern "C" fn(
     width: u32,
     levels: u32,
+    links: u16,
     value: *const u32,
     values: usize,
     length: *const u8,
@@ -102,6 +103,7 @@ pub type Build = unsafe extern "C" fn(
 pub type Choose = unsafe extern "C" fn(
     width: u32,
     levels: u32,
+    links: u16,
     value: *const u32,
     values: usize,
     length: *const u8,
@@ -116,6 +118,7 @@ pub type Choose = unsafe extern "C" fn(
 pub type BuildRules = unsafe extern "C" fn(
     width: u32,
     levels: u32,
+    links: u16,
     dest_value: *const u32,
     dest_values: usize,
     dest_length: *const u8,
@@ -143,6 +146,7 @@ pub type BuildRules = unsafe extern "C" fn(
 extern "C" {
     pub fn hongsamuk_check(
         width: u32,
+        links: u16,
         value: *const u32,
         values: usize,
         length: *const u8,
@@ -155,6 +159,7 @@ extern "C" {
 
     pub fn hongsamuk_zone_span(
         width: u32,
+        links: u16,
         value: *const u32,
         values: usize,
         length: *const u8,
@@ -168,6 +173,7 @@ extern "C" {
     pub fn hongsamuk_choose_fixed(
         width: u32,
         levels: u32,
+        links: u16,
         value: *const u32,
         values: usize,
         length: *const u8,
@@ -181,6 +187,7 @@ extern "C" {
     pub fn hongsamuk_choose_variable(
         width: u32,
         levels: u32,
+        links: u16,
         value: *const u32,
         values: usize,
         length: *const u8,
@@ -194,6 +201,7 @@ extern "C" {
     pub fn hongsamuk_build_fixed(
         width: u32,
         levels: u32,
+        links: u16,
         value: *const u32,
         values: usize,
         length: *const u8,
@@ -215,6 +223,7 @@ extern "C" {
     pub fn hongsamuk_build_variable(
         width: u32,
         levels: u32,
+        links: u16,
         value: *const u32,
         values: usize,
         length: *const u8,
@@ -270,6 +279,7 @@ extern "C" {
 
     pub fn hongsamuk_build_bitmap(
         width: u32,
+        links: u16,
         value: *const u32,
         values: usize,
         length: *const u8,
@@ -308,6 +318,7 @@ extern "C" {
     pub fn hongsamuk_build_rules_fixed(
         width: u32,
         levels: u32,
+        links: u16,
         dest_value: *const u32,
         dest_values: usize,
         dest_length: *const u8,
@@ -335,6 +346,7 @@ extern "C" {
     pub fn hongsamuk_build_rules_variable(
         width: u32,
         levels: u32,
+        links: u16,
         dest_value: *const u32,
         dest_values: usize,
         dest_length: *const u8,

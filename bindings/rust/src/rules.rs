@@ -56,11 +56,14 @@ pub struct RuleRecord {
     pub elements: u32,
 }
 
-/// Rules, lent: the width of both fields, and value and length of the destination, value and length of the source, and action of each.
-/// They rise by destination value, then destination length, source value and source length.
+/// Rules, lent: the width of both fields, the number of links, and value and length of the destination, value and length of the
+/// source, and action of each. They rise by destination value, then destination length, source value and source length.
 #[derive(Clone, Copy, PartialEq, Eq, Debug)]
 pub struct Rules<'a> {
     pub width: u32,
+    /// The number of links of the gateway: a rule's action is at most that, or [`DISCARD`]. With [`LINKS`](crate::LINKS) no action is
+    /// refused but 0.
+    pub links: u16,
     pub dest_value: &'a [u32],
     pub dest_length: &'a [u8],
     pub source_value: &'a [u32],
@@ -93,12 +96,13 @@ pub fn build_rules(
         Kind::Fixed => raw::hongsamuk_build_rules_fixed,
         Kind::Variable => raw::hongsamuk_build_rules_variable,
     };
-    let Rules { width, dest_value, dest_length, source_value, source_length, action } = rules;
+    let Rules { width, links, dest_value, dest_length, source_value, source_length, action } = rules;
     // SAFETY: pointers and lengths are those of slices; the call writes scratch, rows and list only, which nobody else borrows.
     let built = unsafe {
         call(
             width,
             levels,
+            links,
             dest_value.as_ptr(),
             dest_value.len(),
             dest_length.as_ptr(),

@@ -75,18 +75,18 @@ fn what_refused_builds_leave() {
 
 #[test]
 fn little_in_the_table() {
-    let none = Table { width: 7, value: &[], length: &[], hop: &[] };
+    let none = Table { width: 7, links: LINKS, value: &[], length: &[], hop: &[] };
     let made = MadeBitmap::of(none, 0, 0, 0);
     assert_eq!(made.built.record, Bitmap { width: 7, supernodes: 0, hops: 0 });
     assert_eq!(made.lookup(5), Answer::NoRoute { reads: 0 });
-    let every = Table { width: 7, value: &[0], length: &[0], hop: &[9] };
+    let every = Table { width: 7, links: LINKS, value: &[0], length: &[0], hop: &[9] };
     assert_eq!(MadeBitmap::of(every, NODE_ROW, 1, 1).lookup(5), Answer::Match { hop: 9, length: 0, reads: 1 });
     assert_eq!(MadeBitmap::of(every, 0, 1, 1).built, refused(6, 1));
 }
 
 #[test]
 fn bits_past_the_width() {
-    let last = Table { width: 4, value: &[15], length: &[4], hop: &[5] };
+    let last = Table { width: 4, links: LINKS, value: &[15], length: &[4], hop: &[5] };
     let mut made = MadeBitmap::of(last, 5 * NODE_ROW, 2, 1);
     assert_eq!(made.lookup(15), Answer::Match { hop: 5, length: 4, reads: 2 });
     made.internal[1] = 2;

@@ -3,11 +3,11 @@
 
 mod common;
 
-use common::{Made, MadeBitmap};
+use common::{Made, MadeBitmap, KINDS};
 use hongsamuk::*;
 
 /// 10 to hop 1, and 1010 discarded.
-const CORNER: Table = Table { width: 4, value: &[0b1000, 0b1010], length: &[2, 4], hop: &[1, DISCARD] };
+const CORNER: Table = Table { width: 4, links: LINKS, value: &[0b1000, 0b1010], length: &[2, 4], hop: &[1, DISCARD] };
 
 /// An accepted build.
 fn made(kind: Kind, levels: u32, table: Table) -> Made {
@@ -18,7 +18,7 @@ fn made(kind: Kind, levels: u32, table: Table) -> Made {
 
 #[test]
 fn a_discarded_corner_in_elements() {
-    for kind in [Kind::Fixed, Kind::Variable] {
+    for kind in KINDS {
         for levels in 1..=LEVELS as u32 {
             let made = made(kind, levels, CORNER);
             assert!(
@@ -65,7 +65,7 @@ fn a_batch() {
 /// A floor that discards, and the hop of a discard in rows and records that no build left.
 #[test]
 fn wherever_it_is_found() {
-    let floor = Table { width: 4, value: &[0], length: &[0], hop: &[DISCARD] };
+    let floor = Table { width: 4, links: LINKS, value: &[0], length: &[0], hop: &[DISCARD] };
     assert_eq!(made(Kind::Variable, 1, floor).lookup(5), Answer::Discard { length: 0, reads: 0 });
     let mut made = made(Kind::Variable, 2, CORNER);
     made.built.record.floor = DISCARD;
@@ -76,7 +76,7 @@ fn wherever_it_is_found() {
     assert_eq!(made.lookup(0b1011), Answer::Discard { length: 2, reads: 2 });
 }
 
-/// Of all hops only 0 is refused by 4.
+/// With the most links only hop 0 is refused by 4.
 #[test]
 fn hops_of_a_table() {
     for hop in [1, 65_533, 65_534, DISCARD] {

@@ -2,7 +2,7 @@
 
 mod common;
 
-use common::{Made, EIGHT, WORDS};
+use common::{Made, EIGHT, KINDS, WORDS};
 use hongsamuk::*;
 
 fn refused(number: u32, detail: u64) -> Outcome {
@@ -33,7 +33,7 @@ fn costs_and_strides() {
 #[test]
 fn longest_match_with_every_limit() {
     let answers = [(97, 7), (96, 8), (103, 6), (104, 3), (71, 5), (79, 2), (127, 3), (0, 1)];
-    for kind in [Kind::Fixed, Kind::Variable] {
+    for kind in KINDS {
         for levels in 1..=LEVELS as u32 {
             let made = Made::of(kind, levels, EIGHT, WORDS, 128);
             assert_eq!(made.built.outcome, Outcome::Accepted);
@@ -63,7 +63,7 @@ fn variable_with_two_levels() {
 
 #[test]
 fn rows_of_the_small_table() {
-    let table = Table { width: 3, value: &[4, 5], length: &[1, 3], hop: &[1, 2] };
+    let table = Table { width: 3, links: LINKS, value: &[4, 5], length: &[1, 3], hop: &[1, 2] };
     let made = Made::of(Kind::Variable, 2, table, 3 * SCRATCH_ROW, 6);
     assert_eq!(made.hop, [0, 1, 0, 2, 0, 0]);
     assert_eq!(made.length, [0, 1, 0, 3, 0, 0]);
@@ -112,12 +112,12 @@ fn check_and_choose_refuse() {
 
 #[test]
 fn empty_lists() {
-    let none = Table { width: 7, value: &[], length: &[], hop: &[] };
+    let none = Table { width: 7, links: LINKS, value: &[], length: &[], hop: &[] };
     let made = Made::of(Kind::Fixed, 1, none, 0, 0);
     assert_eq!(made.built.outcome, Outcome::Accepted);
     assert_eq!(made.lookup(5), Answer::NoRoute { reads: 0 });
     assert_eq!(zone(none, Prefix { value: 64, bits: 1 }), []);
-    let floor = Table { width: 7, value: &[0], length: &[0], hop: &[9] };
+    let floor = Table { width: 7, links: LINKS, value: &[0], length: &[0], hop: &[9] };
     assert_eq!(Made::of(Kind::Variable, 1, floor, 0, 0).lookup(5), Answer::Match { hop: 9, length: 0, reads: 0 });
 }
 

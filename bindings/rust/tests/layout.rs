@@ -153,6 +153,7 @@ fn the_headers_limits() {
         ("LEVELS", hongsamuk::LEVELS),
         ("ENTRIES", hongsamuk::ENTRIES),
         ("DISCARD", hongsamuk::DISCARD as usize),
+        ("LINKS", hongsamuk::LINKS as usize),
         ("ELEMENTS", hongsamuk::ELEMENTS as usize),
         ("ROW", hongsamuk::SCRATCH_ROW),
         ("NODE_ROW", hongsamuk::NODE_ROW),

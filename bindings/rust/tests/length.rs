@@ -3,14 +3,14 @@
 
 mod common;
 
-use common::{Made, MadeBitmap, EIGHT, WORDS};
+use common::{Made, MadeBitmap, EIGHT, KINDS, WORDS};
 use hongsamuk::*;
 
 /// 01's six addresses with the hop and the length of the entry that wins.
 const WINNERS: [(u32, u16, u8); 6] =
     [(0b1100001, 7, 6), (0b1100000, 8, 7), (0b1100111, 6, 4), (0b1101000, 3, 2), (0b1000111, 5, 5), (0b1001111, 2, 1)];
 /// The entry of length 0 to hop 9, 1 discarded, and 101 to hop 2.
-const FLOOR: Table = Table { width: 3, value: &[0, 4, 5], length: &[0, 1, 3], hop: &[9, DISCARD, 2] };
+const FLOOR: Table = Table { width: 3, links: LINKS, value: &[0, 4, 5], length: &[0, 1, 3], hop: &[9, DISCARD, 2] };
 
 /// A build with so many lengths, and so much room in the other three lists.
 fn make(kind: Kind, levels: u32, table: Table, lengths: usize, room: usize) -> Made {
@@ -19,7 +19,7 @@ fn make(kind: Kind, levels: u32, table: Table, lengths: usize, room: usize) -> M
 
 #[test]
 fn winners_in_elements() {
-    for kind in [Kind::Fixed, Kind::Variable] {
+    for kind in KINDS {
         for levels in (1..=9).chain([31, 32]) {
             let made = make(kind, levels, EIGHT, 128, 128);
             assert_eq!(made.built.outcome, Outcome::Accepted);
@@ -49,15 +49,15 @@ fn winners_in_a_bitmap() {
 /// The entry of length 0 wins with length 0, in a bitmap as in elements; so does it where it discards.
 #[test]
 fn the_floor() {
-    for kind in [Kind::Fixed, Kind::Variable] {
+    for kind in KINDS {
         let made = make(kind, 2, FLOOR, 8, 8);
         assert!(matches!(made.lookup(0b011), Answer::Match { hop: 9, length: 0, .. }));
         assert!(matches!(made.lookup(0b111), Answer::Discard { length: 1, .. }));
         assert!(matches!(made.lookup(0b101), Answer::Match { hop: 2, length: 3, .. }));
-        let alone = Table { width: 3, value: &[0], length: &[0], hop: &[DISCARD] };
+        let alone = Table { width: 3, links: LINKS, value: &[0], length: &[0], hop: &[DISCARD] };
         assert_eq!(make(kind, 2, alone, 0, 0).lookup(5), Answer::Discard { length: 0, reads: 0 });
     }
-    let every = Table { width: 3, value: &[0], length: &[0], hop: &[9] };
+    let every = Table { width: 3, links: LINKS, value: &[0], length: &[0], hop: &[9] };
     assert_eq!(MadeBitmap::of(every, NODE_ROW, 1, 1).lookup(5), Answer::Match { hop: 9, length: 0, reads: 1 });
 }
 

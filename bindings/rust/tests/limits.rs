@@ -23,7 +23,7 @@ impl Routes {
     }
 
     fn table(&self) -> Table<'_> {
-        Table { width: WIDTH, value: &self.value, length: &self.length, hop: &self.hop }
+        Table { width: WIDTH, links: LINKS, value: &self.value, length: &self.length, hop: &self.hop }
     }
 }
 
@@ -118,7 +118,7 @@ fn the_most_entries_in_a_bitmap() {
 /// One entry of 32 bits has 32 nodes, one a level. Strides of 1 and of 2 cost as much, so the tie decides: with 32 levels all are 1.
 #[test]
 fn the_most_levels() {
-    let chain = Table { width: 32, value: &[0xc0a8_0101], length: &[32], hop: &[9] };
+    let chain = Table { width: 32, links: LINKS, value: &[0xc0a8_0101], length: &[32], hop: &[9] };
     for kind in [Kind::Fixed, Kind::Variable] {
         for (levels, reads) in [(9, 9), (31, 31), (32, 32)] {
             let mut scratch = vec![7; 32 * SCRATCH_ROW];

@@ -3,12 +3,13 @@
 
 mod common;
 
-use common::MadeRules;
+use common::{MadeRules, KINDS};
 use hongsamuk::*;
 
 /// Figure 3 of source document 004, in the order that 02 asks for; an action is the number of its filter.
 const SEVEN: Rules = Rules {
     width: 4,
+    links: LINKS,
     dest_value: &[0, 0, 0, 0, 0, 0, 0b0001],
     dest_length: &[1, 1, 1, 1, 3, 3, 4],
     source_value: &[0b1000, 0b1100, 0b1110, 0b1111, 0b1000, 0b1100, 0b0000],
@@ -19,8 +20,6 @@ const SEVEN: Rules = Rules {
 const WORDS: usize = 14 * SCRATCH_ROW;
 const ROWS: usize = 44;
 const NUMBERS: usize = 3 * TRIE_ROW;
-
-const KINDS: [Kind; 2] = [Kind::Fixed, Kind::Variable];
 
 /// With one level, in just enough room: each trie is one block.
 fn seven() -> MadeRules {
@@ -153,6 +152,7 @@ fn one_short_list() {
 fn discards_and_little() {
     let rules = Rules {
         width: 3,
+        links: LINKS,
         dest_value: &[0, 0, 0],
         dest_length: &[0, 1, 1],
         source_value: &[0, 0b010, 0b011],
@@ -167,8 +167,15 @@ fn discards_and_little() {
     assert_eq!(made.classify(0, 3), Verdict::Act { action: 2, reads: 3 });
     assert_eq!(made.classify(0, 4), Verdict::Act { action: 4, reads: 2 });
     assert_eq!(made.classify(4, 2), Verdict::Act { action: 4, reads: 1 });
-    let none =
-        Rules { width: 3, dest_value: &[], dest_length: &[], source_value: &[], source_length: &[], action: &[] };
+    let none = Rules {
+        width: 3,
+        links: LINKS,
+        dest_value: &[],
+        dest_length: &[],
+        source_value: &[],
+        source_length: &[],
+        action: &[],
+    };
     let made = MadeRules::of(Kind::Variable, 3, none, 0, 0, 0);
     assert_eq!((made.built.outcome, made.built.record.elements), (Outcome::Accepted, 0));
     assert_eq!(
@@ -189,6 +196,7 @@ fn the_most_visits() {
     let source: Vec<u32> = nested.iter().map(|rule| rule.2).collect();
     let rules = Rules {
         width: 32,
+        links: LINKS,
         dest_value: &value,
         dest_length: &length,
         source_value: &source,
@@ -216,6 +224,7 @@ fn the_most_rules() {
         let (long, short, action) = (vec![11; n as usize], vec![1; n as usize], (1..=n as u16).collect::<Vec<u16>>());
         with(Rules {
             width: 11,
+            links: LINKS,
             dest_value: &value,
             dest_length: &long,
             source_value: &source,

@@ -1,11 +1,14 @@
-//! What several tests share: 01's eight-prefix table, and the lists that a build in elements, as a tree bitmap or of rules leaves. Every
-//! place of a list is lent with its mark: 7 in scratch, 9 in the others.
+//! What several tests share: both kinds, 01's eight-prefix table, and the lists that a build in elements, as a tree bitmap or of rules
+//! leaves. Every place of a list is lent with its mark: 7 in scratch, 9 in the others.
 #![allow(dead_code)] // each test takes what it needs
 
 use hongsamuk::*;
 
+pub const KINDS: [Kind; 2] = [Kind::Fixed, Kind::Variable];
+
 pub const EIGHT: Table = Table {
     width: 7,
+    links: LINKS,
     value: &[0, 64, 68, 80, 96, 96, 96, 96],
     length: &[1, 1, 5, 3, 2, 4, 6, 7],
     hop: &[1, 2, 5, 4, 3, 6, 7, 8],
@@ -13,6 +16,7 @@ pub const EIGHT: Table = Table {
 /// The words of scratch that it takes in elements: it has 10 nodes.
 pub const WORDS: usize = 10 * SCRATCH_ROW;
 
+#[derive(PartialEq, Debug)]
 pub struct Made {
     pub built: Built,
     pub scratch: Vec<u64>,
@@ -53,7 +57,7 @@ impl Made {
     }
 }
 
-#[derive(Clone)]
+#[derive(Clone, PartialEq, Debug)]
 pub struct MadeBitmap {
     pub built: BuiltBitmap,
     pub scratch: Vec<u64>,
@@ -98,7 +102,7 @@ impl MadeBitmap {
     }
 }
 
-#[derive(Clone)]
+#[derive(Clone, PartialEq, Debug)]
 pub struct MadeRules {
     pub built: BuiltRules,
     pub scratch: Vec<u64>,
