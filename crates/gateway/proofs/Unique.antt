@@ -109,7 +109,7 @@ pub built-bitmap-unique : (W links : ℕ) (vs ls hs scratch : List ℕ) {rows ro
     → Told (AllowedBitmap W links vs ls hs scratch rows hops s rows1 hops1) bitmapNumbers r → Told (AllowedBitmap W links vs ls hs scratch rows hops s′ rows2 hops2) bitmapNumbers r′
     → (r ≡ r′) × (s ≡ s′) × (rows1 ≡ rows2) × (hops1 ≡ hops2)
 built-bitmap-unique W links vs ls hs scratch {rows} {hops = hops} t t′ =
-    let u = bitmap-unique W vs ls hs scratch rows hops (t .1) (t′ .1) in
+    let u = bitmap-unique W links vs ls hs scratch rows hops (t .1) (t′ .1) in
     (t .2 ∙ bitmap-same {b = t .0} {b′ = t′ .0} (u .0) (u .1) ∙ sym (t′ .2), u .2, u .3, u .4)
 
 -- ---- rules of two fields
@@ -120,7 +120,7 @@ rule-build-same p q = rw (p, q)
 pub built-rules-unique : (kind : Kind) (W k links : ℕ) (rs : Rules) (scratch : List ℕ) {rows rows1 rows2 : Lists} {list s list1 s′ list2 : List ℕ} {r r′ : BuiltRulesNumbers}
     → Told (AllowedRules kind W k links rs scratch rows list s rows1 list1) ruleBuildNumbers r → Told (AllowedRules kind W k links rs scratch rows list s′ rows2 list2) ruleBuildNumbers r′
     → (r ≡ r′) × (s ≡ s′) × (rows1 ≡ rows2) × (list1 ≡ list2)
-built-rules-unique kind W k rs scratch {rows} {list = list} t t′ =
+built-rules-unique kind W k links rs scratch {rows} {list = list} t t′ =
     let u = rule-builds-unique kind W k links rs scratch rows list (t .1) (t′ .1) in
     (t .2 ∙ rule-build-same {b = t .0} {b′ = t′ .0} (u .0) (u .1) ∙ sym (t′ .2), u .2, u .3, u .4)
 

@@ -2,6 +2,7 @@
 -- stands for `build_bitmap`, LookedBitmap for `lookup_bitmap`. A list that a call borrows to read cannot change.
 use Prim.Native.Nat.{ℕ, suc, _*_, _/_, _^_, _≤_, _<_}
 use mathlib.Core.Path.{_≡_, refl, sym, ap, subst, _∙_}
+use mathlib.Core.Bool.{false}
 use mathlib.Core.List.{List, [], _∷_, List·Memᴰ}
 use mathlib.Core.Logic.{_⊎_, inl, inr, _↔_, Iff·trans}
 use native.Mathlib.Omega.{arith}
@@ -9,13 +10,15 @@ use lib.ListN.{length, getD, replicate}
 use borrow.Author.Tests.{lt-ltb, le-ltb, ltb-true, ltb-false}
 use Rattle.table.specs.Refusals.{Test, outcome, Gives, Numbered, andThen, outcomeNumber, outcomeDetail}
 use Rattle.table.specs.Prefix.{start}
-use Rattle.table.specs.Table.{at, tableTests}
+use Rattle.table.specs.Entry.{unlinked}
+use Rattle.table.specs.Table.{at, tableTests, checkOf, Linked}
 use Rattle.table.specs.Longest.{NoPrefix, LongestEntry, LongestDiscards}
 use Rattle.table.specs.declared.entry.Outcome.{Outcome}
 use Rattle.table.specs.declared.entry.Outcome.the-variants.{Accepted, Refused}
-use Rattle.table.proofs.Refusals.{outcome-gives, outcome-append, gives-outcome, gives-unique, given-exactly, refused-not-accepted}
+use Rattle.table.proofs.Refusals.{outcome-gives, outcome-append, accepted-parts, gives-outcome, gives-unique, given-exactly, refused-not-accepted}
 use Rattle.table.proofs.Numbered.{refused-number, numbered-append, numbered-table}
-use Rattle.table.proofs.Unique.{longest-discards}
+use Rattle.table.proofs.Table.{accepted-linked}
+use Rattle.table.proofs.Unique.{longest-discards, longest-linked}
 use Rattle.walk.specs.declared.walk.Answer.{Answer}
 use Rattle.walk.specs.declared.walk.Answer.the-variants.{Discard, NoRoute}
 use Rattle.walk.specs.Limits.{WIDTH}
@@ -93,14 +96,23 @@ module _ {W links : ℕ} {vs ls hs scratch : List ℕ} {rows : RowLists} {hops :
           let g = subst (Gives tests) p (outcome-gives tests) in
           absurd (omega (arith, refused-number 6 tests n x (numbered-scratch 6 (omega arith) W links vs ls hs (length scratch)) g, ap outcomeNumber (sym (bitmap-refused-early g .0) ∙ e)))
 
-  -- an accepted build zeroes all scratch, writes the rows and hops that its record counts, and keeps later ones
-  pub bitmap-accepted : out ≡ Accepted → (s ≡ replicate (length scratch) 0) × ((i : ℕ) → rec .supernodes ≤ i → supernodeAt rows′ i ≡ supernodeAt rows i)
-      × ((i : ℕ) → rec .hops ≤ i → getD hops′ i 0 ≡ getD hops i 0)
-  bitmap-accepted e = (b .zeroed (go (outcome tests) refl), b .keeps .later e, b .keeps .later-hop e)
+  -- an accepted build passes 1 to 6, zeroes all scratch, writes the rows and hops that its record counts, and keeps later ones
+  all-passed : out ≡ Accepted → Gives tests Accepted
+  all-passed e = go (outcome tests) refl
     where
       go : (o : Outcome) → outcome tests ≡ o → Gives tests Accepted
       go Accepted p = subst (Gives tests) p (outcome-gives tests)
       go (Refused n x) p = absurd (refused-not-accepted (sym (bitmap-refused-early (subst (Gives tests) p (outcome-gives tests)) .0) ∙ e))
+
+  pub bitmap-accepted : out ≡ Accepted → (s ≡ replicate (length scratch) 0) × ((i : ℕ) → rec .supernodes ≤ i → supernodeAt rows′ i ≡ supernodeAt rows i)
+      × ((i : ℕ) → rec .hops ≤ i → getD hops′ i 0 ≡ getD hops i 0)
+  bitmap-accepted e = (b .zeroed (all-passed e), b .keeps .later e, b .keeps .later-hop e)
+
+  -- the gateway has every hop of a table that is accepted (02, [7])
+  pub bitmap-linked : out ≡ Accepted → Linked links hs
+  unfolding upToScratch checkOf
+  bitmap-linked e =
+      accepted-linked W links vs ls hs (accepted-parts (tableTests W links vs ls hs) (nodesTest (tableBinary W vs ls hs) (length scratch) ∷ []) (sym (gives-outcome tests Accepted (all-passed e))) .0)
 
   -- for a well-formed table and enough scratch, it is refused for room exactly when the supernodes exceed the shortest row list, with their
   -- number, or else the hops exceed the hop list, with theirs
@@ -188,6 +200,10 @@ module _ {W links : ℕ} {vs ls hs scratch : List ℕ} {rows : RowLists} {hops :
     -- and it is a discard exactly when the longest prefix that begins the address discards (02, [4])
     pub bitmap-discard : (r ≡ Discard (lengthOf r) (readsOf r)) ↔ LongestDiscards W vs ls hs a
     bitmap-discard = Iff·trans (discard-by-hop r (l .case)) (longest-discards W vs ls hs (b .laid e .table) a (bitmap-longest .1))
+
+    -- and a hop that is answered is a link that the gateway has, or a discard's, or none (02, [7])
+    pub bitmap-link : unlinked links (hopOf r) ≡ false
+    bitmap-link = longest-linked W links vs ls hs (b .laid e .table) (bitmap-linked b e) a (bitmap-longest .1)
 
     -- ---- demand 3: r reads are r supernodes, one at each of the levels 0, 4, .. at which the address's start begins some entry, and no other
     pub bitmap-counted : (n : ℕ) → (n < readsOf r) ↔ ((STEP * n ≤ W) × SomeBegins W (at vs) (at ls) (length vs) (STEP * n) (start W (STEP * n) a))
