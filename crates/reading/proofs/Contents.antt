@@ -46,7 +46,7 @@ module _ (s vs ls hs xs ds : List ℕ) {t : Parsed} (read : parsedContents t vs 
   unfolding parsedContents
   read-bad is e = e ∙ sym (ap (λ (x : Parsed). parsedContents x vs ls hs xs ds) is) ∙ read
 
-  pub read-good : {w l n m : ℕ} {k : Kind} → t ≡ Parsed.Whole w k l n m → r ≡ parsedContents (Parsed.Whole w k l n m) vs ls hs xs ds → r ≡ contentsOf (textOf s)
+  pub read-good : {w l g n m : ℕ} {k : Kind} → t ≡ Parsed.Whole w k l g n m → r ≡ parsedContents (Parsed.Whole w k l g n m) vs ls hs xs ds → r ≡ contentsOf (textOf s)
   read-good is e = e ∙ sym (ap (λ (x : Parsed). parsedContents x vs ls hs xs ds) is) ∙ read
 
 -- ---- for the callers: r is what the call handed back

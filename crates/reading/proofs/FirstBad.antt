@@ -13,17 +13,17 @@ use lib.Dec.{eqb, lit≤}
 use borrow.Author.Tests.{ne-eqb}
 use Rattle.table.specs.Table.{at}
 use Rattle.reading.specs.declared.lines.Spot.{Spot}
-use Rattle.reading.specs.Limits.{COUNT, NUMBER-DIGITS, NUMBER, HOP, BITS}
-use Rattle.reading.specs.Keys.{widthKey, levelsKey, entriesKey, bitsKey, hopKey, queriesKey, addressKey}
+use Rattle.reading.specs.Limits.{COUNT, NUMBER-DIGITS, NUMBER, SHORT, BITS}
+use Rattle.reading.specs.Keys.{widthKey, levelsKey, linksKey, entriesKey, bitsKey, hopKey, queriesKey, addressKey}
 use Rattle.reading.specs.Lines.{numberLine, bitsLine}
 use Rattle.reading.specs.Entries.{entryFrom, addressFrom, afterEntries, afterQueries}
 use Rattle.reading.specs.Sheet.{Sheet}
-use Rattle.reading.specs.Text.{Text, good, bad, textStart, widthItem, kindItem, levelsItem, entriesItem, queriesItem, lastSpot, sheetOf, textOf}
+use Rattle.reading.specs.Text.{Text, good, bad, textStart, widthItem, kindItem, levelsItem, linksItem, entriesItem, queriesItem, lastSpot, sheetOf, textOf}
 use Rattle.reading.specs.Spelling.{kindText, entryText, queryText, sheetText, Sound}
 use Rattle.reading.specs.Numerals.{lineOf, bitsLineOf, joined}
 use Rattle.reading.specs.FirstBad.{lineCount, firstLines, Opens, FirstBad}
 use Rattle.reading.proofs.ReadBack.{Ahead, number-read, bits-read, kind-read}
-use Rattle.reading.proofs.Sound.{eight, spelled-is-read, spelled-is-good}
+use Rattle.reading.proofs.Sound.{nine, spelled-is-read, spelled-is-good}
 use Rattle.reading.proofs.FirstLines.{count-append, restLines, first-rest, first-count, first-short, first-fewer, Complete, complete-then}
 use Rattle.reading.proofs.FirstLines.{OneLine, number-line-one, bits-line-one, kind-line-one}
 use Rattle.reading.proofs.Following.{Turn, number-turn, bits-turn, kind-turn, turn-more, lines-read, good-is-sound, good-is-spelled}
@@ -123,7 +123,7 @@ module _ (s r r′ : List ℕ) (goal : ℕ) where
   stage-any (inr v) = inr (tt, v .1)
 
   stage-entries : (p : Spot) (vs ls hs : List ℕ) (n : ℕ) (z : List ℕ)
-      → ((i : ℕ) → i < n → (at ls i ≤ BITS) × (at vs i < 2 ^ at ls i) × (at hs i ≤ HOP))
+      → ((i : ℕ) → i < n → (at ls i ≤ BITS) × (at vs i < 2 ^ at ls i) × (at hs i ≤ SHORT))
       → {P : Type 0} → Stage P p (joined (entryText vs ls hs) n ++ z) → Stage (Unit {0}) (afterEntries s p n) z
   unfolding afterEntries entryFrom entryText joined lineCount
   stage-entries p vs ls hs zero z sound v = stage-any v
@@ -137,7 +137,7 @@ module _ (s r r′ : List ℕ) (goal : ℕ) where
       ∙ ap (λ (l : List ℕ). joined (entryText vs ls hs) n ++ l) (append-assoc bits-line hop-line z) in
       let w = stage-entries p vs ls hs n (bits-line ++ (hop-line ++ z)) (λ i k. sound i (omega arith)) (subst (Stage P p) e v) in
       let b = stage-bits bitsKey refl 0 (at vs n) (at ls n) (omega arith) (x .0) (x .1) q (hop-line ++ z) w in
-      stage-any (stage-number hopKey refl HOP (at hs n) (lit≤ tt) (x .2) (bitsLine 0 bitsKey s q .spot) z b)
+      stage-any (stage-number hopKey refl SHORT (at hs n) (lit≤ tt) (x .2) (bitsLine 0 bitsKey s q .spot) z b)
 
   stage-queries : (p : Spot) (xs ds : List ℕ) (n : ℕ) (z : List ℕ)
       → ((i : ℕ) → i < n → (1 ≤ at ds i) × (at ds i ≤ BITS) × (at xs i < 2 ^ at ds i))
@@ -158,7 +158,7 @@ entries-lines s p zero = omega arith
 entries-lines s p (suc n) =
     let q = afterEntries s p n in
     let b = bitsLine 0 bitsKey s q .spot in
-    omega (arith, entries-lines s p n, turn-more (bits-turn bitsKey s q 0), turn-more (number-turn hopKey s b NUMBER-DIGITS HOP))
+    omega (arith, entries-lines s p n, turn-more (bits-turn bitsKey s q 0), turn-more (number-turn hopKey s b NUMBER-DIGITS SHORT))
 
 queries-lines : (s : List ℕ) (p : Spot) (n : ℕ) → p .line ≤ afterQueries s p n .line
 unfolding afterQueries addressFrom
@@ -197,10 +197,13 @@ module _ (s : List ℕ) (m : ℕ) (o : Opens s (suc m)) where
   abbrev entriesRest : List ℕ
   entriesRest = lineOf queriesKey k ++ (queriesText ++ [])
 
-  abbrev levelsRest : List ℕ
-  levelsRest = lineOf entriesKey n ++ (entriesText ++ entriesRest)
+  abbrev linksRest : List ℕ
+  linksRest = lineOf entriesKey n ++ (entriesText ++ entriesRest)
 
-  stage-start : Stage s ours theirs goal (Unit {0}) textStart (lineOf widthKey (sh .width) ++ (kindText (sh .kind) ++ (lineOf levelsKey (sh .levels) ++ levelsRest)))
+  abbrev kindRest : List ℕ
+  kindRest = lineOf levelsKey (sh .levels) ++ (lineOf linksKey (sh .links) ++ linksRest)
+
+  stage-start : Stage s ours theirs goal (Unit {0}) textStart (lineOf widthKey (sh .width) ++ (kindText (sh .kind) ++ kindRest))
   unfolding sheetText
   stage-start =
       let c : lineCount opening ≡ suc m = first-count (suc m) s (o .complete) in
@@ -211,8 +214,8 @@ module _ (s : List ℕ) (m : ℕ) (o : Opens s (suc m)) where
           on = refl;
           left = sym (first-rest (suc m) s);
           ahead =
-              sym (eight (lineOf widthKey (sh .width)) (kindText (sh .kind)) (lineOf levelsKey (sh .levels)) (lineOf entriesKey n) entriesText
-              (lineOf queriesKey k) queriesText [])
+              sym (nine (lineOf widthKey (sh .width)) (kindText (sh .kind)) (lineOf levelsKey (sh .levels)) (lineOf linksKey (sh .links)) (lineOf entriesKey n)
+              entriesText (lineOf queriesKey k) queriesText [])
               ∙ append-nil (sheetText sh)
               ∙ sym (first-rest (suc m) (sheetText sh))
               ∙ ap (λ (l : List ℕ). l ++ theirs) (sym (o .same));
@@ -221,18 +224,19 @@ module _ (s : List ℕ) (m : ℕ) (o : Opens s (suc m)) where
         },
       )
 
-  stage-levels : Stage s ours theirs goal (levelsItem s .value ≡ sh .levels) (levelsItem s .spot) levelsRest
-  unfolding widthItem kindItem levelsItem lineCount
-  stage-levels =
+  stage-links : Stage s ours theirs goal (linksItem s .value ≡ sh .links) (linksItem s .spot) linksRest
+  unfolding widthItem kindItem levelsItem linksItem lineCount
+  stage-links =
       let w = stage-number s ours theirs goal widthKey refl NUMBER (sh .width) (lit≤ tt) (o .sound .width-fits) textStart _ stage-start in
       let p = widthItem s .spot in
       let c = stage-line s ours theirs goal (Unit {0}) (kindText (sh .kind)) _ p _ (kind-line-one (sh .kind)) (kind-turn s p)
       (λ rest h. (tt, kind-read s p rest (sh .kind) h .1)) w in
-      stage-number s ours theirs goal levelsKey refl NUMBER (sh .levels) (lit≤ tt) (o .sound .levels-fit) (kindItem s .spot) levelsRest c
+      let l = stage-number s ours theirs goal levelsKey refl NUMBER (sh .levels) (lit≤ tt) (o .sound .levels-fit) (kindItem s .spot) _ c in
+      stage-number s ours theirs goal linksKey refl SHORT (sh .links) (lit≤ tt) (o .sound .links-fit) (levelsItem s .spot) linksRest l
 
   stage-after : Stage s ours theirs goal (Unit {0}) (afterEntries s (entriesItem s .spot) (entriesItem s .value)) entriesRest
   unfolding entriesItem lineCount
-  stage-after = go (stage-number s ours theirs goal entriesKey refl COUNT n (lit≤ tt) (o .sound .entries-few) (levelsItem s .spot) (entriesText ++ entriesRest) stage-levels)
+  stage-after = go (stage-number s ours theirs goal entriesKey refl COUNT n (lit≤ tt) (o .sound .entries-few) (linksItem s .spot) (entriesText ++ entriesRest) stage-links)
     where
       go : Stage s ours theirs goal (entriesItem s .value ≡ n) (entriesItem s .spot) (entriesText ++ entriesRest)
           → Stage s ours theirs goal (Unit {0}) (afterEntries s (entriesItem s .spot) (entriesItem s .value)) entriesRest

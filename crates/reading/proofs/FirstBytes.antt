@@ -15,17 +15,17 @@ use Rattle.reading.specs.declared.lines.Spot.{Spot}
 use Rattle.reading.specs.declared.lines.Digits.{Digits}
 use Rattle.reading.specs.declared.lines.Item.{Item}
 use Rattle.reading.specs.declared.entries.EntryItem.{EntryItem}
-use Rattle.reading.specs.Limits.{COUNT, NUMBER-DIGITS, NUMBER, HOP, BITS, ENTRY-BYTES, QUERY-BYTES, LONGEST}
-use Rattle.reading.specs.Keys.{widthKey, fixedKey, variableKey, levelsKey, entriesKey, bitsKey, hopKey, queriesKey, addressKey}
+use Rattle.reading.specs.Limits.{COUNT, NUMBER-DIGITS, NUMBER, SHORT, BITS, ENTRY-BYTES, QUERY-BYTES, LONGEST}
+use Rattle.reading.specs.Keys.{widthKey, fixedKey, variableKey, levelsKey, linksKey, entriesKey, bitsKey, hopKey, queriesKey, addressKey}
 use Rattle.reading.specs.Lines.{byteAt, keyAt, countAt, valueAt, digitsAt, close, numberLine, bitsLine, kindLine}
 use Rattle.reading.specs.Entries.{entryFrom, addressFrom, afterEntries, afterQueries}
 use Rattle.reading.specs.Sheet.{Sheet}
-use Rattle.reading.specs.Text.{good, bad, textStart, widthItem, kindItem, levelsItem, entriesItem, queriesItem, lastSpot, sheetOf, textOf}
+use Rattle.reading.specs.Text.{good, bad, textStart, widthItem, kindItem, levelsItem, linksItem, entriesItem, queriesItem, lastSpot, sheetOf, textOf}
 use Rattle.reading.specs.Spelling.{sheetText, Sound}
 use Rattle.reading.proofs.Digits.{count-most, read-most}
 use Rattle.reading.proofs.Steps.{bits-is}
 use Rattle.reading.proofs.Listing.{entries-step, queries-step}
-use Rattle.reading.proofs.Whole.{width-line, kind-line, levels-line, entries-line, queries-line, to-entries, to-queries, to-last, after-entries}
+use Rattle.reading.proofs.Whole.{width-line, kind-line, levels-line, links-line, entries-line, queries-line, to-entries, to-queries, to-last, after-entries}
 use Rattle.reading.proofs.Sound.{spelled-is-good}
 
 -- two texts with the same bytes before place B
@@ -89,7 +89,7 @@ module _ (s t : List ℕ) (B : ℕ) (same : (p : ℕ) → p < B → byteAt s p �
   entry-same p h =
       rw (
         bits-same 0 bitsKey p (omega arith),
-        number-same NUMBER-DIGITS HOP hopKey (bitsLine 0 bitsKey t p .spot) (omega (arith, bits-is bitsKey t p 0 .step .near)),
+        number-same NUMBER-DIGITS SHORT hopKey (bitsLine 0 bitsKey t p .spot) (omega (arith, bits-is bitsKey t p 0 .step .near)),
       )
 
   entries-same : (p : Spot) (n : ℕ) → p .at + n * ENTRY-BYTES ≤ B → afterEntries s p n ≡ afterEntries t p n
@@ -125,13 +125,22 @@ module _ (s t : List ℕ) (B : ℕ) (same : (p : ℕ) → p < B → byteAt s p �
           number-same NUMBER-DIGITS NUMBER levelsKey (kindItem t .spot) (omega (arith, width-line t .step .near, kind-line t .step .near)),
         )
 
+    links-same : linksItem s ≡ linksItem t
+    unfolding linksItem
+    links-same =
+        rw (
+          levels-same,
+          number-same NUMBER-DIGITS SHORT linksKey (levelsItem t .spot)
+              (omega (arith, width-line t .step .near, kind-line t .step .near, levels-line t .step .near)),
+        )
+
     entries-item-same : entriesItem s ≡ entriesItem t
     unfolding entriesItem
     entries-item-same =
         rw (
-          levels-same,
-          number-same NUMBER-DIGITS COUNT entriesKey (levelsItem t .spot)
-              (omega (arith, width-line t .step .near, kind-line t .step .near, levels-line t .step .near)),
+          links-same,
+          number-same NUMBER-DIGITS COUNT entriesKey (linksItem t .spot)
+              (omega (arith, width-line t .step .near, kind-line t .step .near, levels-line t .step .near, links-line t .step .near)),
         )
 
     queries-item-same : queriesItem s ≡ queriesItem t

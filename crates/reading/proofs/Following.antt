@@ -16,18 +16,18 @@ use borrow.Author.Tests.{eqb-true}
 use Rattle.reading.specs.declared.lines.Spot.{Spot}
 use Rattle.reading.specs.declared.lines.Digits.{Digits}
 use Rattle.reading.specs.declared.lines.Item.{Item}
-use Rattle.reading.specs.Limits.{COUNT, NUMBER-DIGITS, NUMBER, HOP, BITS, LF}
-use Rattle.reading.specs.Keys.{widthKey, fixedKey, variableKey, levelsKey, entriesKey, bitsKey, hopKey, queriesKey, addressKey}
+use Rattle.reading.specs.Limits.{COUNT, NUMBER-DIGITS, NUMBER, SHORT, BITS, LF}
+use Rattle.reading.specs.Keys.{widthKey, fixedKey, variableKey, levelsKey, linksKey, entriesKey, bitsKey, hopKey, queriesKey, addressKey}
 use Rattle.reading.specs.Lines.{byteAt, keyAt, digitsAt, unpadded, badLine, close, numberLine, bitsLine, kindLine}
 use Rattle.table.specs.Lists.{listed}
 use Rattle.reading.specs.Entries.{entryFrom, addressFrom, afterEntries, afterQueries, entryBits, entryLength, entryHop, queryAddress, queryPlaces}
 use Rattle.reading.specs.Sheet.{Sheet}
-use Rattle.reading.specs.Text.{kindNamed, good, bad, textStart, widthItem, kindItem, levelsItem, entriesItem, queriesItem, lastSpot, sheetOf, textOf}
+use Rattle.reading.specs.Text.{kindNamed, good, bad, textStart, widthItem, kindItem, levelsItem, linksItem, entriesItem, queriesItem, lastSpot, sheetOf, textOf}
 use Rattle.reading.specs.Spelling.{kindText, entryText, queryText, sheetText, Sound}
 use Rattle.reading.specs.Numerals.{lineOf, bitsLineOf, joined}
 use Rattle.reading.specs.FirstBad.{lineCount, firstLines, Opens}
 use Rattle.table.proofs.Lists.{listed-length, listed-at, listed-same}
-use Rattle.reading.proofs.Whole.{width-line, levels-line, entries-line, queries-line}
+use Rattle.reading.proofs.Whole.{width-line, levels-line, links-line, entries-line, queries-line}
 use Rattle.reading.proofs.Numerals.{joined-same}
 use Rattle.reading.proofs.Spelled.{Stretch, number-spelled, bits-spelled, kind-spelled}
 use Rattle.reading.proofs.Sound.{bits-enough, entry-fits, query-fits}
@@ -177,9 +177,9 @@ module _ (s : List ℕ) (p : Spot) where
       let q = afterEntries s p n in
       let b = bitsLine 0 bitsKey s q in
       let bits-line = bitsLineOf bitsKey (b .value) (b .count) in
-      let hop-line = lineOf hopKey (numberLine NUMBER-DIGITS HOP hopKey s (b .spot) .value) in
+      let hop-line = lineOf hopKey (numberLine NUMBER-DIGITS SHORT hopKey s (b .spot) .value) in
       let g = follow-line (bits-took bitsKey refl s q 0 (b .count) (λ e. refl)) (follow-entries n text f) in
-      let h = follow-line (number-took hopKey refl s (b .spot) HOP) g in
+      let h = follow-line (number-took hopKey refl s (b .spot) SHORT) g in
       let e = ap (λ (l : List ℕ). l ++ hop-line) (append-assoc text (joined entryBytes n) bits-line)
       ∙ append-assoc text (joined entryBytes n ++ bits-line) hop-line
       ∙ ap (λ (l : List ℕ). text ++ l) (append-assoc (joined entryBytes n) bits-line hop-line) in
@@ -203,6 +203,7 @@ module _ (s : List ℕ) where
         width = widthItem s .value;
         kind = kindNamed (kindItem s .value);
         levels = levelsItem s .value;
+        links = linksItem s .value;
         bits = listed (entryBits s (entriesItem s .spot)) (entriesItem s .value);
         lengths = listed (entryLength s (entriesItem s .spot)) (entriesItem s .value);
         hops = listed (entryHop s (entriesItem s .spot)) (entriesItem s .value);
@@ -215,6 +216,7 @@ module _ (s : List ℕ) where
       lineOf widthKey (widthItem s .value)
       ++ kindText (kindNamed (kindItem s .value))
       ++ lineOf levelsKey (levelsItem s .value)
+      ++ lineOf linksKey (linksItem s .value)
       ++ lineOf entriesKey (entriesItem s .value)
       ++ joined (entryBytes s (entriesItem s .spot)) (entriesItem s .value)
       ++ lineOf queriesKey (queriesItem s .value)
@@ -241,12 +243,13 @@ module _ (s : List ℕ) where
   follow-start = record { read = []; rest = []; told = refl; begins = refl; all = λ e. refl; number = refl }
 
   follow-whole : Follow s (lastSpot s) lineBytes
-  unfolding lastSpot queriesItem entriesItem levelsItem kindItem widthItem lineCount
+  unfolding lastSpot queriesItem entriesItem linksItem levelsItem kindItem widthItem lineCount
   follow-whole =
       let w = follow-line (number-took widthKey refl s textStart NUMBER) follow-start in
       let k = follow-line (kind-took s (widthItem s .spot)) w in
       let l = follow-line (number-took levelsKey refl s (kindItem s .spot) NUMBER) k in
-      let e = follow-line (number-took entriesKey refl s (levelsItem s .spot) COUNT) l in
+      let g = follow-line (number-took linksKey refl s (levelsItem s .spot) SHORT) l in
+      let e = follow-line (number-took entriesKey refl s (linksItem s .spot) COUNT) g in
       let es = follow-entries s (entriesItem s .spot) (entriesItem s .value) _ e in
       let q = follow-line (number-took queriesKey refl s (afterEntries s (entriesItem s .spot) (entriesItem s .value)) COUNT) es in
       follow-queries s (queriesItem s .spot) (queriesItem s .value) _ q
@@ -261,6 +264,7 @@ module _ (s : List ℕ) where
       record {
         width-fits = width-line s .value;
         levels-fit = levels-line s .value;
+        links-fit = links-line s .value;
         entries-few = rw (listed-length (entryBits s p) n) (entries-line s .value);
         as-many-lengths = listed-length (entryLength s p) n ∙ sym (listed-length (entryBits s p) n);
         as-many-hops = listed-length (entryHop s p) n ∙ sym (listed-length (entryBits s p) n);

@@ -10,7 +10,7 @@ use lib.Dec.{lit≤}
 use Rattle.reading.specs.declared.lines.Spot.{Spot}
 use Rattle.reading.specs.declared.lines.Item.{Item}
 use Rattle.reading.specs.declared.entries.EntryItem.{EntryItem}
-use Rattle.reading.specs.Limits.{BITS, NUMBER-DIGITS, HOP, ENTRY-BYTES, QUERY-BYTES}
+use Rattle.reading.specs.Limits.{BITS, NUMBER-DIGITS, SHORT, ENTRY-BYTES, QUERY-BYTES}
 use Rattle.reading.specs.Keys.{bitsKey, hopKey, addressKey}
 use Rattle.reading.specs.Lines.{bitsLine}
 use Rattle.reading.specs.Entries.{entryFrom, addressFrom, afterEntries, afterQueries, entryBits, entryLength, entryHop, queryAddress, queryPlaces, HoldsEntries, HoldsQueries}
@@ -26,7 +26,7 @@ spells-fits {v} {n} h = omega (arith, h .0, pow-le-pow-right {n = 2} (lit≤ tt)
 module _ (s : List ℕ) (p : Spot) where
   pub entry-step : Step s p ENTRY-BYTES 2 (entryFrom s p .spot)
   unfolding entryFrom
-  entry-step = step-then (bits-is bitsKey s p 0 .step) (number-is hopKey s (bitsLine 0 bitsKey s p .spot) NUMBER-DIGITS HOP .step)
+  entry-step = step-then (bits-is bitsKey s p 0 .step) (number-is hopKey s (bitsLine 0 bitsKey s p .spot) NUMBER-DIGITS SHORT .step)
 
 -- ---- where the reading stands after so many entries, and after so many queries
 

@@ -18,7 +18,7 @@ use Rattle.choosers.specs.declared.chooser.Kind.the-variants.{Fixed, Variable}
 use Rattle.io.specs.Digits.{digits, glyph, Fewest}
 use Rattle.reading.specs.declared.lines.Spot.{Spot}
 use Rattle.reading.specs.declared.lines.Item.{Item}
-use Rattle.reading.specs.Limits.{NUMBER-DIGITS, NUMBER, HOP, BITS, LF, ZERO-DIGIT, DECIMAL-DIGITS}
+use Rattle.reading.specs.Limits.{NUMBER-DIGITS, NUMBER, SHORT, BITS, LF, ZERO-DIGIT, DECIMAL-DIGITS}
 use Rattle.reading.specs.Keys.{fixedKey, variableKey, bitsKey, hopKey, addressKey}
 use Rattle.reading.specs.Lines.{byteAt, keyAt, isDigit, countAt, valueAt, digitsAt, unpadded, close, numberLine, bitsLine, kindLine}
 use Rattle.table.specs.Lists.{listed}
@@ -262,7 +262,7 @@ module _ (s : List ℕ) (p : Spot) where
       pub hops : listed (entryHop s p) n ≡ listed (at hs) n
       pub ahead : Ahead s (afterEntries s p n) rest
 
-    pub entries-read : (n : ℕ) (rest : List ℕ) → ((i : ℕ) → i < n → (at ls i ≤ BITS) × (at vs i < 2 ^ at ls i) × (at hs i ≤ HOP))
+    pub entries-read : (n : ℕ) (rest : List ℕ) → ((i : ℕ) → i < n → (at ls i ≤ BITS) × (at vs i < 2 ^ at ls i) × (at hs i ≤ SHORT))
         → Ahead s p (joined (entryText vs ls hs) n ++ rest) → EntriesAs rest n
     unfolding listed entryBits entryLength entryHop afterEntries entryFrom entryText joined
     entries-read zero rest sound h = record { bits = refl; lengths = refl; hops = refl; ahead = h }
@@ -277,7 +277,7 @@ module _ (s : List ℕ) (p : Spot) where
         let w = entries-read n (bits-line ++ (hop-line ++ rest)) (λ i k. sound i (omega arith)) (record { on = h .on; left = e }) in
         let b = bits-read bitsKey s q (hop-line ++ rest) 0 (at vs n) (at ls n) (omega arith) (x .0) (x .1) (w .ahead) in
         let c =
-        number-read hopKey s (bitsLine 0 bitsKey s q .spot) rest HOP (at hs n) (lit≤ tt) (x .2) (b .ahead) in
+        number-read hopKey s (bitsLine 0 bitsKey s q .spot) rest SHORT (at hs n) (lit≤ tt) (x .2) (b .ahead) in
         record {
           bits = rw (w .bits, b .value);
           lengths = rw (w .lengths, b .count);

@@ -9,12 +9,12 @@ use lib.Dec.{leb, lit≤}
 use borrow.Author.Tests.{eq-eqb, leb-true}
 use Rattle.reading.specs.declared.lines.Spot.{Spot}
 use Rattle.reading.specs.declared.lines.Item.{Item}
-use Rattle.reading.specs.Limits.{COUNT, NUMBER-DIGITS, NUMBER, HOP, BITS}
-use Rattle.reading.specs.Keys.{widthKey, levelsKey, entriesKey, bitsKey, hopKey, queriesKey, addressKey}
+use Rattle.reading.specs.Limits.{COUNT, NUMBER-DIGITS, NUMBER, SHORT, BITS}
+use Rattle.reading.specs.Keys.{widthKey, levelsKey, linksKey, entriesKey, bitsKey, hopKey, queriesKey, addressKey}
 use Rattle.reading.specs.Lines.{keyAt, countAt, digitsAt, close, bitsLine}
 use Rattle.reading.specs.Entries.{entryFrom, addressFrom, afterEntries, afterQueries, entryBits, entryLength, entryHop, queryAddress, queryPlaces}
 use Rattle.reading.specs.Sheet.{Sheet}
-use Rattle.reading.specs.Text.{kindNamed, good, textStart, widthItem, kindItem, levelsItem, entriesItem, queriesItem, lastSpot, sheetOf, textOf}
+use Rattle.reading.specs.Text.{kindNamed, good, textStart, widthItem, kindItem, levelsItem, linksItem, entriesItem, queriesItem, lastSpot, sheetOf, textOf}
 use Rattle.reading.specs.Spelling.{kindText, entryText, queryText, sheetText, Sound}
 use Rattle.reading.specs.Numerals.{decimalLength, lineOf, joined}
 use Rattle.reading.proofs.Steps.{both, number-is, bits-is}
@@ -24,16 +24,17 @@ use Rattle.reading.proofs.ReadBack.{Ahead, ReadAs, number-read, kind-re
 
 -- ---- the whole text
 
--- eight texts, from the first on
-pub eight : (a b c d e f g h : List ℕ) → a ++ b ++ c ++ d ++ e ++ f ++ g ++ h ≡ a ++ (b ++ (c ++ (d ++ (e ++ (f ++ (g ++ h))))))
-eight a b c d e f g h =
+-- nine texts, from the first on
+pub nine : (a b c d e f g h i : List ℕ) → a ++ b ++ c ++ d ++ e ++ f ++ g ++ h ++ i ≡ a ++ (b ++ (c ++ (d ++ (e ++ (f ++ (g ++ (h ++ i)))))))
+nine a b c d e f g h i =
     rw (
-      append-assoc (a ++ b ++ c ++ d ++ e ++ f) g h,
-      append-assoc (a ++ b ++ c ++ d ++ e) f (g ++ h),
-      append-assoc (a ++ b ++ c ++ d) e (f ++ (g ++ h)),
-      append-assoc (a ++ b ++ c) d (e ++ (f ++ (g ++ h))),
-      append-assoc (a ++ b) c (d ++ (e ++ (f ++ (g ++ h)))),
-      append-assoc a b (c ++ (d ++ (e ++ (f ++ (g ++ h))))),
+      append-assoc (a ++ b ++ c ++ d ++ e ++ f ++ g) h i,
+      append-assoc (a ++ b ++ c ++ d ++ e ++ f) g (h ++ i),
+      append-assoc (a ++ b ++ c ++ d ++ e) f (g ++ (h ++ i)),
+      append-assoc (a ++ b ++ c ++ d) e (f ++ (g ++ (h ++ i))),
+      append-assoc (a ++ b ++ c) d (e ++ (f ++ (g ++ (h ++ i)))),
+      append-assoc (a ++ b) c (d ++ (e ++ (f ++ (g ++ (h ++ i))))),
+      append-assoc a b (c ++ (d ++ (e ++ (f ++ (g ++ (h ++ i)))))),
     )
 
 -- the text of a sound sheet, and what stands after it
@@ -50,15 +51,18 @@ module _ (sh : Sheet) (sound : Sound sh) (extra : List ℕ) where
   abbrev queriesText : List ℕ
   queriesText = joined (queryText (sh .addresses) (sh .places)) m
 
-  -- what is left after the entries, after their count, and after the kind
+  -- what is left after the entries, after their count, after the levels, and after the kind
   abbrev entriesRest : List ℕ
   entriesRest = lineOf queriesKey m ++ (queriesText ++ extra)
 
   abbrev countRest : List ℕ
   countRest = entriesText ++ entriesRest
 
+  abbrev levelsRest : List ℕ
+  levelsRest = lineOf linksKey (sh .links) ++ (lineOf entriesKey n ++ countRest)
+
   abbrev kindRest : List ℕ
-  kindRest = lineOf levelsKey (sh .levels) ++ (lineOf entriesKey n ++ countRest)
+  kindRest = lineOf levelsKey (sh .levels) ++ levelsRest
 
   module _ (s : List ℕ) (is : s ≡ sheetText sh ++ extra) where
     all-ahead : Ahead s textStart (lineOf widthKey (sh .width) ++ (kindText (sh .kind) ++ kindRest))
@@ -68,8 +72,8 @@ module _ (sh : Sheet) (sound : Sound sh) (extra : List ℕ) where
           on = refl;
           left =
               is
-              ∙ eight (lineOf widthKey (sh .width)) (kindText (sh .kind)) (lineOf levelsKey (sh .levels)) (lineOf entriesKey n) entriesText
-              (lineOf queriesKey m) queriesText extra;
+              ∙ nine (lineOf widthKey (sh .width)) (kindText (sh .kind)) (lineOf levelsKey (sh .levels)) (lineOf linksKey (sh .links)) (lineOf entriesKey n)
+              entriesText (lineOf queriesKey m) queriesText extra;
         }
 
     width-said : ReadAs s (kindText (sh .kind) ++ kindRest) (sh .width) (decimalLength (sh .width)) (widthItem s)
@@ -80,14 +84,18 @@ module _ (sh : Sheet) (sound : Sound sh) (extra : List ℕ) where
     unfolding kindItem
     kind-said = kind-read s (widthItem s .spot) kindRest (sh .kind) (width-said .ahead)
 
-    levels-said : ReadAs s (lineOf entriesKey n ++ countRest) (sh .levels) (decimalLength (sh .levels)) (levelsItem s)
+    levels-said : ReadAs s levelsRest (sh .levels) (decimalLength (sh .levels)) (levelsItem s)
     unfolding levelsItem
-    levels-said =
-        number-read levelsKey s (kindItem s .spot) (lineOf entriesKey n ++ countRest) NUMBER (sh .levels) (lit≤ tt) (sound .levels-fit) (kind-said .1)
+    levels-said = number-read levelsKey s (kindItem s .spot) levelsRest NUMBER (sh .levels) (lit≤ tt) (sound .levels-fit) (kind-said .1)
+
+    links-said : ReadAs s (lineOf entriesKey n ++ countRest) (sh .links) (decimalLength (sh .links)) (linksItem s)
+    unfolding linksItem
+    links-said =
+        number-read linksKey s (levelsItem s .spot) (lineOf entriesKey n ++ countRest) SHORT (sh .links) (lit≤ tt) (sound .links-fit) (levels-said .ahead)
 
     count-said : ReadAs s countRest n (decimalLength n) (entriesItem s)
     unfolding entriesItem
-    count-said = number-read entriesKey s (levelsItem s .spot) countRest COUNT n (lit≤ tt) (sound .entries-few) (levels-said .ahead)
+    count-said = number-read entriesKey s (linksItem s .spot) countRest COUNT n (lit≤ tt) (sound .entries-few) (links-said .ahead)
 
     entries-said : EntriesAs s (entriesItem s .spot) (sh .bits) (sh .lengths) (sh .hops) entriesRest n
     entries-said = entries-read s (entriesItem s .spot) (sh .bits) (sh .lengths) (sh .hops) n entriesRest (sound .entry) (count-said .ahead)
@@ -112,6 +120,7 @@ module _ (sh : Sheet) (sound : Sound sh) (extra : List ℕ) where
           width-said .value,
           kind-said .0,
           levels-said .value,
+          links-said .value,
           count-said .value,
           queries-count-said .value,
           entries-said .bits ∙ listed-all (sh .bits) n refl,
@@ -157,12 +166,12 @@ bits-enough least key s p e =
     R l = least ≤ l .count
 
 module _ (s : List ℕ) (p : Spot) (i : ℕ) where
-  pub entry-fits : (entryLength s p i ≤ BITS) × (entryBits s p i < 2 ^ entryLength s p i) × (entryHop s p i ≤ HOP)
+  pub entry-fits : (entryLength s p i ≤ BITS) × (entryBits s p i < 2 ^ entryLength s p i) × (entryHop s p i ≤ SHORT)
   unfolding entryLength entryBits entryHop entryFrom
   entry-fits =
       let q = afterEntries s p i in
       let w = bits-is bitsKey s q 0 .value in
-      (w .1, w .0, number-is hopKey s (bitsLine 0 bitsKey s q .spot) NUMBER-DIGITS HOP .value)
+      (w .1, w .0, number-is hopKey s (bitsLine 0 bitsKey s q .spot) NUMBER-DIGITS SHORT .value)
 
   pub query-fits : (queryAddress s p i < 2 ^ queryPlaces s p i) × (queryPlaces s p i ≤ BITS)
   unfolding queryAddress queryPlaces addressFrom

@@ -12,11 +12,11 @@ use Rattle.reading.specs.declared.lines.Spot.{Spot}
 use Rattle.reading.specs.declared.lines.Item.{Item}
 use Rattle.reading.specs.declared.parsing.Head.{Head}
 use Rattle.reading.specs.declared.parsing.Parsed.{Parsed}
-use Rattle.reading.specs.Limits.{COUNT, NUMBER-DIGITS, NUMBER, LINES, WIDTH-BYTES, KIND-BYTES, LEVELS-BYTES, COUNT-BYTES, ENTRY-BYTES, OPENING-BYTES, LONGEST}
-use Rattle.reading.specs.Keys.{widthKey, levelsKey, entriesKey, queriesKey}
+use Rattle.reading.specs.Limits.{COUNT, NUMBER-DIGITS, NUMBER, SHORT, LINES, WIDTH-BYTES, KIND-BYTES, LEVELS-BYTES, LINKS-BYTES, COUNT-BYTES, ENTRY-BYTES, OPENING-BYTES, LONGEST}
+use Rattle.reading.specs.Keys.{widthKey, levelsKey, linksKey, entriesKey, queriesKey}
 use Rattle.reading.specs.Lines.{numberLine, kindLine}
 use Rattle.reading.specs.Entries.{afterEntries, entryBits, queryAddress, HoldsEntries, HoldsQueries}
-use Rattle.reading.specs.Text.{kindNamed, good, bad, textStart, widthItem, kindItem, levelsItem, entriesItem, queriesItem, lastSpot, sheetOf}
+use Rattle.reading.specs.Text.{kindNamed, good, bad, textStart, widthItem, kindItem, levelsItem, linksItem, entriesItem, queriesItem, lastSpot, sheetOf}
 use Rattle.reading.specs.Text.{headOf, textOf, contentsOf, concluded, parsedContents}
 use Rattle.reading.specs.Contents.{sheetContents}
 use Rattle.reading.proofs.Steps.{Line, Step, step-then, step-widen, UpTo, number-is, kind-is}
@@ -40,9 +40,13 @@ module _ (s : List ℕ) where
   unfolding levelsItem
   levels-line = number-is levelsKey s (kindItem s .spot) NUMBER-DIGITS NUMBER
 
-  pub entries-line : Line s (levelsItem s .spot) COUNT-BYTES (UpTo COUNT) (entriesItem s)
+  pub links-line : Line s (levelsItem s .spot) LINKS-BYTES (UpTo SHORT) (linksItem s)
+  unfolding linksItem
+  links-line = number-is linksKey s (levelsItem s .spot) NUMBER-DIGITS SHORT
+
+  pub entries-line : Line s (linksItem s .spot) COUNT-BYTES (UpTo COUNT) (entriesItem s)
   unfolding entriesItem
-  entries-line = number-is entriesKey s (levelsItem s .spot) NUMBER-DIGITS COUNT
+  entries-line = number-is entriesKey s (linksItem s .spot) NUMBER-DIGITS COUNT
 
   pub after-entries : Step s (entriesItem s .spot) (entriesItem s .value * ENTRY-BYTES) (entriesItem s .value * 2) (afterEntries s (entriesItem s .spot) (entriesItem s .value))
   after-entries = entries-step s (entriesItem s .spot) (entriesItem s .value)
@@ -51,11 +55,12 @@ module _ (s : List ℕ) where
   unfolding queriesItem
   queries-line = number-is queriesKey s (afterEntries s (entriesItem s .spot) (entriesItem s .value)) NUMBER-DIGITS COUNT
 
-  -- the steps from the start: to after the first four lines, to `queries=`, and to the end
-  pub to-entries : Step s textStart OPENING-BYTES 4 (entriesItem s .spot)
-  to-entries = step-then (step-then (step-then (width-line .step) (kind-line .step)) (levels-line .step)) (entries-line .step)
+  -- the steps from the start: to after the first five lines, to `queries=`, and to the end
+  pub to-entries : Step s textStart OPENING-BYTES 5 (entriesItem s .spot)
+  to-entries =
+      step-then (step-then (step-then (step-then (width-line .step) (kind-line .step)) (levels-line .step)) (links-line .step)) (entries-line .step)
 
-  pub to-queries : Step s textStart (OPENING-BYTES + COUNT-BYTES + COUNT * ENTRY-BYTES) (5 + COUNT * 2) (queriesItem s .spot)
+  pub to-queries : Step s textStart (OPENING-BYTES + COUNT-BYTES + COUNT * ENTRY-BYTES) (6 + COUNT * 2) (queriesItem s .spot)
   to-queries =
       step-widen (step-then (step-then to-entries after-entries) (queries-line .step)) (omega (arith, entries-line .value)) (omega (arith, entries-line .value))
 
@@ -76,10 +81,11 @@ unfolding kindNamed
 kind-variable zero h = absurd (h refl)
 kind-variable (suc n) h = refl
 
--- ---- the first four lines, as they were read
+-- ---- the first five lines, as they were read
 
-module _ (s : List ℕ) {w k l n : Item} (w-read : w ≡ numberLine NUMBER-DIGITS NUMBER widthKey s textStart) (k-read : k ≡ kindLine s (w .spot))
-    (l-read : l ≡ numberLine NUMBER-DIGITS NUMBER levelsKey s (k .spot)) (n-read : n ≡ numberLine NUMBER-DIGITS COUNT entriesKey s (l .spot)) {c : Kind} (c-read : c ≡ kindNamed (k .value)) where
+module _ (s : List ℕ) {w k l g n : Item} (w-read : w ≡ numberLine NUMBER-DIGITS NUMBER widthKey s textStart) (k-read : k ≡ kindLine s (w .spot))
+    (l-read : l ≡ numberLine NUMBER-DIGITS NUMBER levelsKey s (k .spot)) (g-read : g ≡ numberLine NUMBER-DIGITS SHORT linksKey s (l .spot))
+    (n-read : n ≡ numberLine NUMBER-DIGITS COUNT entriesKey s (g .spot)) {c : Kind} (c-read : c ≡ kindNamed (k .value)) where
   w-is : w ≡ widthItem s
   unfolding widthItem
   w-is = w-read
@@ -92,16 +98,20 @@ module _ (s : List ℕ) {w k l n : Item} (w-read : w ≡ numberLine NUMBER-DIGIT
   unfolding levelsItem
   l-is = l-read ∙ ap (λ (x : Item). numberLine NUMBER-DIGITS NUMBER levelsKey s (x .spot)) k-is
 
+  g-is : g ≡ linksItem s
+  unfolding linksItem
+  g-is = g-read ∙ ap (λ (x : Item). numberLine NUMBER-DIGITS SHORT linksKey s (x .spot)) l-is
+
   n-is : n ≡ entriesItem s
   unfolding entriesItem
-  n-is = n-read ∙ ap (λ (x : Item). numberLine NUMBER-DIGITS COUNT entriesKey s (x .spot)) l-is
+  n-is = n-read ∙ ap (λ (x : Item). numberLine NUMBER-DIGITS COUNT entriesKey s (x .spot)) g-is
 
-  pub head-read : _≡_ {A = Head} (record { width = w .value; kind = c; levels = l .value; entries = n .value; spot = n .spot }) (headOf s)
+  pub head-read : _≡_ {A = Head} (record { width = w .value; kind = c; levels = l .value; links = g .value; entries = n .value; spot = n .spot }) (headOf s)
   unfolding headOf
-  head-read = rw (w-is, c-read, k-is, l-is, n-is)
+  head-read = rw (w-is, c-read, k-is, l-is, g-is, n-is)
 
 module _ (s : List ℕ) {h : Head} (h-read : h ≡ headOf s) where
-  pub head-step : Step s textStart OPENING-BYTES 4 (h .spot)
+  pub head-step : Step s textStart OPENING-BYTES 5 (h .spot)
   unfolding headOf
   head-step = rw h-read (to-entries s)
 
@@ -121,7 +131,7 @@ module _ (s vs₀ ls₀ hs₀ vs ls hs : List ℕ) {h : Head} {after : Spot} {q 
   unfolding queriesItem
   q-is = q-read ∙ ap (numberLine NUMBER-DIGITS COUNT queriesKey s) (entries-held .spot)
 
-  pub queries-step-read : Step s textStart (OPENING-BYTES + COUNT-BYTES + COUNT * ENTRY-BYTES) (5 + COUNT * 2) (q .spot)
+  pub queries-step-read : Step s textStart (OPENING-BYTES + COUNT-BYTES + COUNT * ENTRY-BYTES) (6 + COUNT * 2) (q .spot)
   queries-step-read = rw q-is (to-queries s)
 
   pub queries-few : q .value ≤ COUNT
@@ -143,7 +153,7 @@ module _ (s vs₀ ls₀ hs₀ vs ls hs : List ℕ) {h : Head} {after : Spot} {q 
     module _ (es-blank : (vs₀ ≡ padded COUNT []) × (ls₀ ≡ padded COUNT []) × (hs₀ ≡ padded COUNT [])) (qs-blank : (xs₀ ≡ padded COUNT []) × (ds₀ ≡ padded COUNT [])) where
       abbrev whole : Parsed
       whole =
-          Parsed.Whole (widthItem s .value) (kindNamed (kindItem s .value)) (levelsItem s .value) (entriesItem s .value) (queriesItem s .value)
+          Parsed.Whole (widthItem s .value) (kindNamed (kindItem s .value)) (levelsItem s .value) (linksItem s .value) (entriesItem s .value) (queriesItem s .value)
 
       whole-read : parsedContents whole vs ls hs xs ds ≡ sheetContents (sheetOf s)
       unfolding parsedContents sheetContents sheetOf

@@ -7,7 +7,7 @@ use Rattle.reading.specs.declared.lines.Spot.{Spot}
 use Rattle.reading.specs.declared.lines.Item.{Item}
 use Rattle.reading.specs.declared.entries.EntryItem.{EntryItem}
 use Rattle.table.specs.Lists.{FilledTo}
-use Rattle.reading.specs.Limits.{NUMBER-DIGITS, HOP}
+use Rattle.reading.specs.Limits.{NUMBER-DIGITS, SHORT}
 use Rattle.reading.specs.Keys.{bitsKey, hopKey, addressKey}
 use Rattle.reading.specs.Lines.{numberLine, bitsLine}
 
@@ -16,7 +16,7 @@ module _ (s : List ℕ) where
   unfoldable pub entryFrom : Spot → EntryItem
   entryFrom p =
       let b = bitsLine 0 bitsKey s p in
-      let h = numberLine NUMBER-DIGITS HOP hopKey s (b .spot) in
+      let h = numberLine NUMBER-DIGITS SHORT hopKey s (b .spot) in
       record { bits = b .value; len = b .count; hop = h .value; spot = h .spot }
 
   -- a query's line

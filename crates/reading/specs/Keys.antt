@@ -1,4 +1,4 @@
--- The keys of the text (01, "The tablet program"), each with its `=`, as bytes.
+-- The keys of the text (01, "The tablet program"; `links=`: 02, [7]), each with its `=`, as bytes.
 use mathlib.Core.List.{List, [], _∷_}
 use Prim.Native.Nat.{ℕ}
 
@@ -16,6 +16,10 @@ variableKey = 107 ∷ 105 ∷ 110 ∷ 100 ∷ 61 ∷ 118 ∷ 115 ∷ 116 ∷ []
 -- `levels=`
 abbrev pub levelsKey : List ℕ
 levelsKey = 108 ∷ 101 ∷ 118 ∷ 101 ∷ 108 ∷ 115 ∷ 61 ∷ []
+
+-- `links=`
+abbrev pub linksKey : List ℕ
+linksKey = 108 ∷ 105 ∷ 110 ∷ 107 ∷ 115 ∷ 61 ∷ []
 
 -- `entries=`
 abbrev pub entriesKey : List ℕ

@@ -1,7 +1,7 @@
 -- The numbers of the tablet's text, named once (01, "The tablet program"); `src/limits.rt` has the code's.
 use Prim.Native.Nat.{ℕ, _+_, _*_}
 use lib.ListN.{length}
-use Rattle.reading.specs.Keys.{widthKey, fixedKey, levelsKey, entriesKey, bitsKey, hopKey, addressKey}
+use Rattle.reading.specs.Keys.{widthKey, fixedKey, levelsKey, linksKey, entriesKey, bitsKey, hopKey, addressKey}
 
 -- the most entries, and the most queries
 abbrev pub COUNT : ℕ
@@ -14,9 +14,9 @@ NUMBER-DIGITS = 5
 abbrev pub NUMBER : ℕ
 NUMBER = 99999
 
--- the largest hop that the text takes
-abbrev pub HOP : ℕ
-HOP = 65535
+-- the largest hop, and the largest number of links, that the text takes: the largest number of 16 bits
+abbrev pub SHORT : ℕ
+SHORT = 65535
 
 -- the most binary digits of an entry's bits, and of an address
 abbrev pub BITS : ℕ
@@ -37,12 +37,12 @@ ZERO-DIGIT = 48
 abbrev pub KEY : ℕ
 KEY = 16
 
--- no good text has more lines: 5, two for an entry, one for a query
+-- no good text has more lines: 6, two for an entry, one for a query
 abbrev pub LINES : ℕ
-LINES = 5 + COUNT * 3
+LINES = 6 + COUNT * 3
 
 -- the most bytes of each line: its key, its digits and LF. First the lines of the width, the kind (`kind=vst` is as long as
--- `kind=fst`), the levels, and a count (`queries=` is as long as `entries=`)
+-- `kind=fst`), the levels, the links, and a count (`queries=` is as long as `entries=`)
 abbrev pub WIDTH-BYTES : ℕ
 WIDTH-BYTES = length widthKey + NUMBER-DIGITS + 1
 
@@ -51,6 +51,9 @@ KIND-BYTES = length fixedKey + 1
 
 abbrev pub LEVELS-BYTES : ℕ
 LEVELS-BYTES = length levelsKey + NUMBER-DIGITS + 1
+
+abbrev pub LINKS-BYTES : ℕ
+LINKS-BYTES = length linksKey + NUMBER-DIGITS + 1
 
 abbrev pub COUNT-BYTES : ℕ
 COUNT-BYTES = length entriesKey + NUMBER-DIGITS + 1
@@ -68,11 +71,11 @@ ENTRY-BYTES = BITS-BYTES + HOP-BYTES
 abbrev pub QUERY-BYTES : ℕ
 QUERY-BYTES = length addressKey + BITS + 1
 
--- the first four lines
+-- the first five lines
 abbrev pub OPENING-BYTES : ℕ
-OPENING-BYTES = WIDTH-BYTES + KIND-BYTES + LEVELS-BYTES + COUNT-BYTES
+OPENING-BYTES = WIDTH-BYTES + KIND-BYTES + LEVELS-BYTES + LINKS-BYTES + COUNT-BYTES
 
--- no good text has more bytes. It is a bound: a count has at most two digits, so the longest good text has 5,752 bytes
+-- no good text has more bytes. It is a bound: a count has at most two digits, so the longest good text has 5,764 bytes
 abbrev pub LONGEST : ℕ
 LONGEST = OPENING-BYTES + COUNT-BYTES + COUNT * (ENTRY-BYTES + QUERY-BYTES)
 

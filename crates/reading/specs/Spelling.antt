@@ -8,8 +8,8 @@ use lib.ListN.{length}
 use Rattle.table.specs.Table.{at}
 use Rattle.choosers.specs.declared.chooser.Kind.{Kind}
 use Rattle.choosers.specs.declared.chooser.Kind.the-variants.{Fixed, Variable}
-use Rattle.reading.specs.Limits.{COUNT, NUMBER, HOP, BITS, LF}
-use Rattle.reading.specs.Keys.{widthKey, fixedKey, variableKey, levelsKey, entriesKey, bitsKey, hopKey, queriesKey, addressKey}
+use Rattle.reading.specs.Limits.{COUNT, NUMBER, SHORT, BITS, LF}
+use Rattle.reading.specs.Keys.{widthKey, fixedKey, variableKey, levelsKey, linksKey, entriesKey, bitsKey, hopKey, queriesKey, addressKey}
 use Rattle.reading.specs.Numerals.{lineOf, bitsLineOf, joined}
 use Rattle.reading.specs.Sheet.{Sheet}
 
@@ -30,6 +30,7 @@ sheetText sh =
     lineOf widthKey (sh .width)
     ++ kindText (sh .kind)
     ++ lineOf levelsKey (sh .levels)
+    ++ lineOf linksKey (sh .links)
     ++ lineOf entriesKey (length (sh .bits))
     ++ joined (entryText (sh .bits) (sh .lengths) (sh .hops)) (length (sh .bits))
     ++ lineOf queriesKey (length (sh .addresses))
@@ -40,10 +41,11 @@ sheetText sh =
 pub record Sound (sh : Sheet) : Type 0 where
   pub width-fits : sh .width ≤ NUMBER
   pub levels-fit : sh .levels ≤ NUMBER
+  pub links-fit : sh .links ≤ SHORT
   pub entries-few : length (sh .bits) ≤ COUNT
   pub as-many-lengths : length (sh .lengths) ≡ length (sh .bits)
   pub as-many-hops : length (sh .hops) ≡ length (sh .bits)
-  pub entry : (i : ℕ) → i < length (sh .bits) → (at (sh .lengths) i ≤ BITS) × (at (sh .bits) i < 2 ^ at (sh .lengths) i) × (at (sh .hops) i ≤ HOP)
+  pub entry : (i : ℕ) → i < length (sh .bits) → (at (sh .lengths) i ≤ BITS) × (at (sh .bits) i < 2 ^ at (sh .lengths) i) × (at (sh .hops) i ≤ SHORT)
   pub queries-few : length (sh .addresses) ≤ COUNT
   pub as-many-places : length (sh .places) ≡ length (sh .addresses)
   pub query : (i : ℕ) → i < length (sh .addresses) → (1 ≤ at (sh .places) i) × (at (sh .places) i ≤ BITS) × (at (sh .addresses) i < 2 ^ at (sh .places) i)

@@ -14,8 +14,8 @@ use Rattle.reading.specs.declared.lines.Item.{Item}
 use Rattle.reading.specs.declared.parsing.Head.{Head}
 use Rattle.reading.specs.declared.parsing.Parsed.{Parsed}
 use Rattle.reading.specs.declared.parsing.Contents.{Contents}
-use Rattle.reading.specs.Limits.{COUNT, NUMBER-DIGITS, NUMBER}
-use Rattle.reading.specs.Keys.{widthKey, levelsKey, entriesKey, queriesKey}
+use Rattle.reading.specs.Limits.{COUNT, NUMBER-DIGITS, NUMBER, SHORT}
+use Rattle.reading.specs.Keys.{widthKey, levelsKey, linksKey, entriesKey, queriesKey}
 use Rattle.reading.specs.Lines.{numberLine, kindLine}
 use Rattle.reading.specs.Contents.{sheetContents, badContents}
 use Rattle.table.specs.Lists.{listed}
@@ -45,8 +45,11 @@ module _ (s : List ℕ) where
   unfoldable pub levelsItem : Item
   levelsItem = numberLine NUMBER-DIGITS NUMBER levelsKey s (kindItem .spot)
 
+  unfoldable pub linksItem : Item
+  linksItem = numberLine NUMBER-DIGITS SHORT linksKey s (levelsItem .spot)
+
   unfoldable pub entriesItem : Item
-  entriesItem = numberLine NUMBER-DIGITS COUNT entriesKey s (levelsItem .spot)
+  entriesItem = numberLine NUMBER-DIGITS COUNT entriesKey s (linksItem .spot)
 
   unfoldable pub queriesItem : Item
   queriesItem = numberLine NUMBER-DIGITS COUNT queriesKey s (afterEntries s (entriesItem .spot) (entriesItem .value))
@@ -61,6 +64,7 @@ module _ (s : List ℕ) where
         width = widthItem .value;
         kind = kindNamed (kindItem .value);
         levels = levelsItem .value;
+        links = linksItem .value;
         bits = listed (entryBits s (entriesItem .spot)) (entriesItem .value);
         lengths = listed (entryLength s (entriesItem .spot)) (entriesItem .value);
         hops = listed (entryHop s (entriesItem .spot)) (entriesItem .value);
@@ -71,13 +75,14 @@ module _ (s : List ℕ) where
   unfoldable pub textOf : Text
   textOf = cond (lastSpot .good && eqb (lastSpot .at) (length s)) (good sheetOf) (bad (lastSpot .line))
 
-  -- the first four lines together
+  -- the first five lines together
   unfoldable pub headOf : Head
   headOf =
       record {
         width = widthItem .value;
         kind = kindNamed (kindItem .value);
         levels = levelsItem .value;
+        links = linksItem .value;
         entries = entriesItem .value;
         spot = entriesItem .spot;
       }
@@ -90,16 +95,17 @@ contentsOf (bad line) = badContents line
 
 unfoldable pub concluded : Head → (queries : ℕ) → Spot → (end : ℕ) → Parsed
 concluded h m last end =
-    cond (last .good && eqb (last .at) end) (Parsed.Whole (h .width) (h .kind) (h .levels) (h .entries) m) (Parsed.Bad (last .line))
+    cond (last .good && eqb (last .at) end) (Parsed.Whole (h .width) (h .kind) (h .levels) (h .links) (h .entries) m) (Parsed.Bad (last .line))
 
 unfoldable pub parsedContents : Parsed → (vs ls hs xs ds : List ℕ) → Contents
 parsedContents (Parsed.Bad line) vs ls hs xs ds = badContents line
-parsedContents (Parsed.Whole w kind l n m) vs ls hs xs ds =
+parsedContents (Parsed.Whole w kind l g n m) vs ls hs xs ds =
     record {
       line = 0;
       width = w;
       kind = kind;
       levels = l;
+      links = g;
       entries = n;
       queries = m;
       bits = vs;

@@ -5,8 +5,8 @@ ghost use Prim.Native.Nat.{_+_, _*_, _≤_, _<_};
 ghost use lib.ListN.{length};
 ghost use Rattle.reading.specs.Limits.{COUNT, LINES};
 ghost use Rattle.reading.specs.Entries.{entryFrom, HoldsEntries, HoldsQueries};
-use crate::limits::HOP;
 use crate::limits::NUMBER_DIGITS;
+use crate::limits::SHORT;
 use crate::lines::Spot;
 use crate::lines::bits_line;
 use crate::lines::number_line;
@@ -24,7 +24,7 @@ fn read_entry(s: &[u8], spot: Spot) -> EntryItem
     ensures { λ r. ⌜ r ≡ entryFrom (now (s .entry)) spot ⌝ }
 {
     let b = bits_line(s, spot, b"bits=", 0);
-    let h = number_line(s, b.spot, b"hop=", NUMBER_DIGITS, HOP);
+    let h = number_line(s, b.spot, b"hop=", NUMBER_DIGITS, SHORT);
     let after = h.spot;
     EntryItem {
         bits: b.value as u32,

@@ -10,8 +10,8 @@ pub(crate) const NUMBER_DIGITS: u32 = 5;
 // The largest number of so many digits: a width or a level limit of the text.
 pub(crate) const NUMBER: u64 = 99999;
 
-// The largest hop that the text takes.
-pub(crate) const HOP: u64 = 65535;
+// The largest hop, and the largest number of links, that the text takes: the largest number of 16 bits.
+pub(crate) const SHORT: u64 = 65535;
 
 // The most binary digits of an entry's bits, and of an address.
 pub(crate) const BITS: u32 = 32;

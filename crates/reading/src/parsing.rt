@@ -11,16 +11,18 @@ use crate::entries::read_queries;
 use crate::limits::COUNT;
 use crate::limits::NUMBER;
 use crate::limits::NUMBER_DIGITS;
+use crate::limits::SHORT;
 use crate::lines::Spot;
 use crate::lines::kind_line;
 use crate::lines::number_line;
 use choosers::Kind;
 
-// The first four lines, and where the reading stands after them.
+// The first five lines, and where the reading stands after them.
 pub(crate) struct Head {
     pub(crate) width: u32,
     pub(crate) kind: Kind,
     pub(crate) levels: u32,
+    pub(crate) links: u16,
     pub(crate) entries: usize,
     pub(crate) spot: Spot,
 }
@@ -32,6 +34,7 @@ pub struct Contents {
     pub width: u32,
     pub kind: Kind,
     pub levels: u32,
+    pub links: u16,
     pub entries: usize,
     pub queries: usize,
     pub bits: [u32; COUNT as usize],
@@ -47,6 +50,7 @@ pub(crate) enum Parsed {
         width: u32,
         kind: Kind,
         levels: u32,
+        links: u16,
         entries: usize,
         queries: usize,
     },
@@ -75,12 +79,14 @@ fn read_head(s: &[u8]) -> Head
     let k = kind_line(s, w.spot);
     let kind = kind_named(k.value);
     let l = number_line(s, k.spot, b"levels=", NUMBER_DIGITS, NUMBER);
-    let n = number_line(s, l.spot, b"entries=", NUMBER_DIGITS, COUNT);
+    let g = number_line(s, l.spot, b"links=", NUMBER_DIGITS, SHORT);
+    let n = number_line(s, g.spot, b"entries=", NUMBER_DIGITS, COUNT);
     let spot = n.spot;
     Head {
         width: w.value as u32,
         kind,
         levels: l.value as u32,
+        links: g.value as u16,
         entries: n.value as usize,
         spot,
     }
@@ -98,6 +104,7 @@ fn conclude(head: Head, queries: usize, last: Spot, end: usize) -> Parsed
         width: head.width,
         kind,
         levels: head.levels,
+        links: head.links,
         entries: head.entries,
         queries,
     }
@@ -136,6 +143,7 @@ fn bad_text(line: u32) -> Contents
         width: 0,
         kind: Kind::Fixed,
         levels: 0,
+        links: 0,
         entries: 0,
         queries: 0,
         bits: [0; COUNT as usize],
@@ -163,6 +171,7 @@ pub fn read(text: &[u8]) -> Contents
             width,
             kind,
             levels,
+            links,
             entries,
             queries,
         } => Contents {
@@ -170,6 +179,7 @@ pub fn read(text: &[u8]) -> Contents
             width,
             kind,
             levels,
+            links,
             entries,
             queries,
             bits,

@@ -3,7 +3,7 @@ use Prim.Native.Nat.{_-_, _≤_}
 use native.Mathlib.Omega.{arith}
 use denote.Ref.{now}
 use lib.Dec.{lit≤}
-use Rattle.reading.specs.Limits.{NUMBER-DIGITS, HOP, BITS-BYTES, HOP-BYTES}
+use Rattle.reading.specs.Limits.{NUMBER-DIGITS, SHORT, BITS-BYTES, HOP-BYTES}
 use Rattle.reading.specs.Keys.{bitsKey, hopKey}
 use Rattle.reading.specs.Entries.{entryFrom}
 use Rattle.reading.proofs.Steps.{Line, UpTo, Spells, number-is, bits-is, line-of}
@@ -17,8 +17,8 @@ bits-of : (x : tie.After-bits-line) → let a = x .before .before .before .args 
 bits-of x = line-of (x .bits-line .ensures) (bits-is bitsKey _ _ 0)
 
 hop-of : (x : tie.After-number-line) → let b = x .before .before in
-    Line (now (b .before .before .before .args .s)) (b .bits-line .result .spot) HOP-BYTES (UpTo HOP) (x .number-line .result)
-hop-of x = line-of (x .number-line .ensures) (number-is hopKey _ _ NUMBER-DIGITS HOP)
+    Line (now (b .before .before .before .args .s)) (b .bits-line .result .spot) HOP-BYTES (UpTo SHORT) (x .number-line .result)
+hop-of x = line-of (x .number-line .ensures) (number-is hopKey _ _ NUMBER-DIGITS SHORT)
 
 slice-aggregate-bits-line : tie.Need-slice-aggregate-bits-line
 slice-aggregate-bits-line c = search needs
