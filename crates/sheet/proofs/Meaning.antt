@@ -50,10 +50,10 @@ use Rattle.sheet.specs.Meaning.{FirstWrong, pathLines, AnsweredBy, Solve
 
 -- ---- the meaning of the definition
 
-accepted-tests : (W k : ℕ) (vs ls hs : List ℕ) (words room least : ℕ) → outcome (buildTests W k vs ls hs words room least) ≡ Accepted
-    → outcome (chooseTests W k vs ls hs words) ≡ Accepted
+accepted-tests : (W k links : ℕ) (vs ls hs : List ℕ) (words room least : ℕ) → outcome (buildTests W k links vs ls hs words room least) ≡ Accepted
+    → outcome (chooseTests W k links vs ls hs words) ≡ Accepted
 unfolding buildTests
-accepted-tests W k vs ls hs words room least e = accepted-parts (chooseTests W k vs ls hs words) _ e .0
+accepted-tests W k links vs ls hs words room least e = accepted-parts (chooseTests W k links vs ls hs words) _ e .0
 
 -- the report of an accepted build
 module _ (W k : ℕ) (vs ls hs : List ℕ) (σ : Strides) (xs ds : List ℕ) where
@@ -85,18 +85,18 @@ module _ (W k : ℕ) (vs ls hs : List ℕ) (σ : Strides) (xs ds : List ℕ) whe
             lines = refl;
           })
 
-module _ (kind : Kind) (W k : ℕ) (vs ls hs xs ds : List ℕ) where
-  solved-out : (o : Outcome) → buildOutcome kind W k vs ls hs ≡ o → Solves kind W k vs ls hs xs ds (reportFor o (tableReport kind W k vs ls hs xs ds))
+module _ (kind : Kind) (W k links : ℕ) (vs ls hs xs ds : List ℕ) where
+  solved-out : (o : Outcome) → buildOutcome kind W k links vs ls hs ≡ o → Solves kind W k links vs ls hs xs ds (reportFor o (tableReport kind W k vs ls hs xs ds))
   unfolding buildOutcome reportFor
   solved-out o e = record {
     out = o;
     tested = λ least c.
-        let t = buildTests W k vs ls hs (LENT-ROWS * ROW) LENT-ELEMENTS least in
-        subst (Gives t) (sym (tests-least kind W k vs ls hs (LENT-ROWS * ROW) LENT-ELEMENTS least c) ∙ e) (outcome-gives t);
+        let t = buildTests W k links vs ls hs (LENT-ROWS * ROW) LENT-ELEMENTS least in
+        subst (Gives t) (sym (tests-least kind W k links vs ls hs (LENT-ROWS * ROW) LENT-ELEMENTS least c) ∙ e) (outcome-gives t);
     refused = refused-lines o;
     accepted = λ a.
-        let pass = accepted-tests W k vs ls hs (LENT-ROWS * ROW) LENT-ELEMENTS (leastBy plain kind k (tableTrie W vs ls hs)) (e ∙ a) in
-        let some = accepted-levels W k vs ls hs (LENT-ROWS * ROW) pass .0 in
+        let pass = accepted-tests W k links vs ls hs (LENT-ROWS * ROW) LENT-ELEMENTS (leastBy plain kind k (tableTrie W vs ls hs)) (e ∙ a) in
+        let some = accepted-levels W k links vs ls hs (LENT-ROWS * ROW) pass .0 in
         let σ = chosen kind W k vs ls hs in
         (σ, chosen-follows kind k (tableTrie W vs ls hs) some, rw a (report-answers W k vs ls hs σ xs ds));
   }
@@ -104,8 +104,8 @@ module _ (kind : Kind) (W k : ℕ) (vs ls hs xs ds : List ℕ) where
       refused-lines : (o : Outcome) (n d : ℕ) → o ≡ Refused n d → reportFor o (tableReport kind W k vs ls hs xs ds) ≡ refusalLines n d
       refused-lines o n d q = rw q
 
-  pub solved-means : Solves kind W k vs ls hs xs ds (reportFor (buildOutcome kind W k vs ls hs) (tableReport kind W k vs ls hs xs ds))
-  solved-means = solved-out (buildOutcome kind W k vs ls hs) refl
+  pub solved-means : Solves kind W k links vs ls hs xs ds (reportFor (buildOutcome kind W k links vs ls hs) (tableReport kind W k vs ls hs xs ds))
+  solved-means = solved-out (buildOutcome kind W k links vs ls hs) refl
 
 text-says : (s : List ℕ) → Says s (reportOf s)
 unfolding reportOf textReport solved
@@ -113,7 +113,7 @@ text-says s = go (textOf s) refl
   where
     go : (t : Text) → textOf s ≡ t → Says s (textReport t)
     go (bad line) e = inr (line, bad-is-first s line e, refl)
-    go (good sh) e = inl (sh, good-is-sound s sh e, good-is-spelled s sh e, solved-means _ _ _ _ _ _ _ _)
+    go (good sh) e = inl (sh, good-is-sound s sh e, good-is-spelled s sh e, solved-means _ _ _ _ _ _ _ _ _)
 
 pub ran-reports : {s out out′ : List ℕ} {r : Report} → Ran s out out′ r → Reports s out out′ r
 ran-reports {s} ran = record { bytes = reportOf s; says = text-says s; answer = ran .answer; left = ran .left }
@@ -148,9 +148,9 @@ module _ (W k : ℕ) (vs ls hs : List ℕ) (table : Table W vs ls hs) (σ τ : S
       same-head : {e e′ r r′ : ℕ} {l l′ : List ℕ} → e ≡ e′ → r ≡ r′ → l ≡ l′ → headLines e r ++ l ≡ headLines e′ r′ ++ l′
       same-head p q z = rw (p, q, z)
 
-pub solves-unique : (kind : Kind) (W k : ℕ) (vs ls hs xs ds : List ℕ) {bytes bytes′ : List ℕ}
-    → Solves kind W k vs ls hs xs ds bytes → Solves kind W k vs ls hs xs ds bytes′ → bytes ≡ bytes′
-solves-unique kind W k vs ls hs xs ds {bytes} {bytes′} c d = go (c .out) refl
+pub solves-unique : (kind : Kind) (W k links : ℕ) (vs ls hs xs ds : List ℕ) {bytes bytes′ : List ℕ}
+    → Solves kind W k links vs ls hs xs ds bytes → Solves kind W k links vs ls hs xs ds bytes′ → bytes ≡ bytes′
+solves-unique kind W k links vs ls hs xs ds {bytes} {bytes′} c d = go (c .out) refl
   where
     t : Trie
     t = tableTrie W vs ls hs
@@ -159,7 +159,7 @@ solves-unique kind W k vs ls hs xs ds {bytes} {bytes′} c d = go (c .out) refl
     least = leastBy plain kind k t
 
     tests : List Test
-    tests = buildTests W k vs ls hs (LENT-ROWS * ROW) LENT-ELEMENTS least
+    tests = buildTests W k links vs ls hs (LENT-ROWS * ROW) LENT-ELEMENTS least
 
     one : c .out ≡ d .out
     one = gives-unique tests (c .out) (d .out) (c .tested least (least-cheapest kind k t)) (d .tested least (least-cheapest kind k t))
@@ -170,17 +170,17 @@ solves-unique kind W k vs ls hs xs ds {bytes} {bytes′} c d = go (c .out) refl
         let a = c .accepted e in
         let a′ = d .accepted (sym one ∙ e) in
         let gives = subst (Gives tests) e (c .tested least (least-cheapest kind k t)) in
-        let pass = accepted-tests W k vs ls hs (LENT-ROWS * ROW) LENT-ELEMENTS least (sym (gives-outcome tests Accepted gives)) in
-        let table = accepted-tests-table W k vs ls hs (LENT-ROWS * ROW) pass in
+        let pass = accepted-tests W k links vs ls hs (LENT-ROWS * ROW) LENT-ELEMENTS least (sym (gives-outcome tests Accepted gives)) in
+        let table = accepted-tests-table W k links vs ls hs (LENT-ROWS * ROW) pass in
         let deep = trie-depth-width W (at vs) (at ls) (entryMarks ls hs) (length vs) (λ i l. table .entry i l .prefix) in
-        let fine = follows-good kind k t W (a .0) (accepted-levels W k vs ls hs (LENT-ROWS * ROW) pass .0) deep (a .1) in
+        let fine = follows-good kind k t W (a .0) (accepted-levels W k links vs ls hs (LENT-ROWS * ROW) pass .0) deep (a .1) in
         let agree = same-agree (a .0) (a′ .0) t W 0 k fine (follows-unique kind k t (a .0) (a′ .0) (a .1) (a′ .1)) in
         answers-one W k vs ls hs table (a .0) (a′ .0) agree xs ds (a .2) (a′ .2)
 
 says-unique : (s : List ℕ) {bytes bytes′ : List ℕ} → Says s bytes → Says s bytes′ → bytes ≡ bytes′
 says-unique s {bytes} (inl a) (inl b) =
     let one : a .0 ≡ b .0 = sheet-of-text (a .1) (b .1) (sym (a .2) ∙ b .2) in
-    solves-unique _ _ _ _ _ _ _ _ (subst (λ (sh : Sheet). SheetSolves sh bytes) one (a .3)) (b .3)
+    solves-unique _ _ _ _ _ _ _ _ _ (subst (λ (sh : Sheet). SheetSolves sh bytes) one (a .3)) (b .3)
 says-unique s (inl a) (inr b) = absurd (b .1 .no-sheet (a .0) (a .1) (a .2))
 says-unique s (inr a) (inl b) = absurd (a .1 .no-sheet (b .0) (b .1) (b .2))
 says-unique s (inr a) (inr b) = a .2 ∙ ap (refusalLines 11) (first-bad-unique (a .1) (b .1)) ∙ sym (b .2)

@@ -46,9 +46,9 @@ module _ (xs ds : List ℕ) (few : length ds ≤ COUNT) (short : (i : ℕ) → i
   for-short Accepted bytes h = h
   for-short (Refused n d) bytes h = omega (arith, length-refusal n d)
 
-  solved-short : (n : Kind) (W k : ℕ) (bits ls hs : List ℕ) → length (solved n W k bits ls hs xs ds) ≤ PAGE
+  solved-short : (n : Kind) (W k links : ℕ) (bits ls hs : List ℕ) → length (solved n W k links bits ls hs xs ds) ≤ PAGE
   unfolding solved reportBy
-  solved-short n W k bits ls hs = for-short _ _ (answers-short _ _ _ W _ _)
+  solved-short n W k links bits ls hs = for-short _ _ (answers-short _ _ _ W _ _)
 
 -- the page holds the report of every text
 pub report-short : (s : List ℕ) → length (reportOf s) ≤ PAGE
@@ -60,7 +60,7 @@ report-short s = go (textOf s) refl
     go (good sh) e =
         let sound = good-is-sound s sh e in
         solved-short (sh .addresses) (sh .places) (omega (arith, sound .as-many-places, sound .queries-few))
-        (λ i h. sound .query i (omega (arith, sound .as-many-places)) .1) _ _ _ _ _ _
+        (λ i h. sound .query i (omega (arith, sound .as-many-places)) .1) _ _ _ _ _ _ _
 
 -- a run with room for a page writes the report
 pub run-writes : {s out out′ : List ℕ} {r : Report} → PAGE ≤ length out → Ran s out out′ r → r ≡ Report.Written (length (reportOf s))

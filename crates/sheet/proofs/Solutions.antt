@@ -49,19 +49,19 @@ module _ (kind : Kind) (W k : ℕ) (vs ls hs : List ℕ) {rec : Record} {rows : 
           ≡ answersReport (hopFor rec rows) (lengthFor rec rows) (readsFor rec rows) xs ds v f q
       named a b c = rw (a, b, c)
 
-  module _ {scratch scratch′ : List ℕ} {lent : Lists} {out : Outcome} (words : length scratch ≡ LENT-ROWS * ROW) (room : shortest lent ≡ LENT-ELEMENTS)
-      (b : BuildIs kind W k vs ls hs scratch lent out rec scratch′ rows) where
-    outcome-is : out ≡ buildOutcome kind W k vs ls hs
+  module _ {links : ℕ} {scratch scratch′ : List ℕ} {lent : Lists} {out : Outcome} (words : length scratch ≡ LENT-ROWS * ROW) (room : shortest lent ≡ LENT-ELEMENTS)
+      (b : BuildIs kind W k links vs ls hs scratch lent out rec scratch′ rows) where
+    outcome-is : out ≡ buildOutcome kind W k links vs ls hs
     unfolding buildOutcome
     outcome-is = b .tests ∙ rw (words, room)
 
     built-refused : {number detail : ℕ} → out ≡ Refused number detail → (bytes : List ℕ)
-        → refusalLines number detail ≡ reportFor (buildOutcome kind W k vs ls hs) bytes
+        → refusalLines number detail ≡ reportFor (buildOutcome kind W k links vs ls hs) bytes
     unfolding reportFor
     built-refused is bytes = rw (sym outcome-is, is)
 
     built-accepted : out ≡ Accepted → (xs ds : List ℕ) → LentQueries xs ds
-        → lookedUp rec rows xs ds ≡ reportFor (buildOutcome kind W k vs ls hs) (tableReport kind W k vs ls hs xs ds)
+        → lookedUp rec rows xs ds ≡ reportFor (buildOutcome kind W k links vs ls hs) (tableReport kind W k vs ls hs xs ds)
     unfolding reportFor
     built-accepted is xs ds q = rw (sym outcome-is, is) (looked-up-laid (b .written .laid is) xs ds q)
 
@@ -85,7 +85,7 @@ module _ (sh : Sheet) {lent rows : Lists} {out : Outcome} {rec : Record} (room :
 -- the build of their entries: vs begins with the values
 pub sheet-built : (r : Contents) (vs : List ℕ) {scratch scratch′ : List ℕ} {lent rows : Lists} {out : Outcome} {rec : Record}
     → length scratch ≡ LENT-ROWS * ROW → take (r .entries) vs ≡ valuesOf (r .width) (sheetIn r .bits) (sheetIn r .lengths)
-    → BuildIs (kindOf (r .kind)) (r .width) (r .levels) (take (r .entries - 0) vs) (take (r .entries - 0) (r .lengths)) (take (r .entries - 0) (r .hops))
+    → BuildIs (kindOf (r .kind)) (r .width) (r .levels) (r .links) (take (r .entries - 0) vs) (take (r .entries - 0) (r .lengths)) (take (r .entries - 0) (r .hops))
     scratch lent out rec scratch′ rows
     → SheetBuilt (sheetIn r) lent out rec rows
 unfolding sheetIn

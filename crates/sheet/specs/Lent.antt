@@ -27,5 +27,5 @@ pub record SheetBuilt (sh : Sheet) (lent : Lists) (out : Outcome) (rec : Record)
   pub scratch : List ℕ
   pub scratch′ : List ℕ
   pub words : length scratch ≡ LENT-ROWS * ROW
-  pub build : BuildIs (kindOf (sh .kind)) (sh .width) (sh .levels) (valuesOf (sh .width) (sh .bits) (sh .lengths)) (sh .lengths) (sh .hops)
+  pub build : BuildIs (kindOf (sh .kind)) (sh .width) (sh .levels) (sh .links) (valuesOf (sh .width) (sh .bits) (sh .lengths)) (sh .lengths) (sh .hops)
       scratch lent out rec scratch′ rows

@@ -55,17 +55,17 @@ module _ (W k : ℕ) (vs ls hs : List ℕ) (σ : Strides) (xs ds : List ℕ) whe
   AnsweredBy bytes = ((i : ℕ) × FirstWrong W ds i × (bytes ≡ refusalLines 8 i)) ⊎ AllAnswered bytes
 
 -- the report of a table and its queries
-pub record Solves (kind : Kind) (W k : ℕ) (vs ls hs xs ds bytes : List ℕ) : Type 0 where
+pub record Solves (kind : Kind) (W k links : ℕ) (vs ls hs xs ds bytes : List ℕ) : Type 0 where
   pub out : Outcome
   pub tested : (least : ℕ) → (1 ≤ k → Cheapest kind k (tableTrie W vs ls hs) least)
-      → Gives (buildTests W k vs ls hs (LENT-ROWS * ROW) LENT-ELEMENTS least) out
+      → Gives (buildTests W k links vs ls hs (LENT-ROWS * ROW) LENT-ELEMENTS least) out
   pub refused : (number detail : ℕ) → out ≡ Refused number detail → bytes ≡ refusalLines number detail
   pub accepted : out ≡ Accepted → (σ : Strides) × Follows kind k (tableTrie W vs ls hs) σ × AnsweredBy W k vs ls hs σ xs ds bytes
 
 -- the report of a sheet
 abbrev pub SheetSolves : Sheet → (bytes : List ℕ) → Type 0
 SheetSolves sh bytes =
-    Solves (kindOf (sh .kind)) (sh .width) (sh .levels) (valuesOf (sh .width) (sh .bits) (sh .lengths)) (sh .lengths) (sh .hops)
+    Solves (kindOf (sh .kind)) (sh .width) (sh .levels) (sh .links) (valuesOf (sh .width) (sh .bits) (sh .lengths)) (sh .lengths) (sh .hops)
     (sh .addresses) (sh .places) bytes
 
 -- the report of a text: that of the sound sheet whose text it is; or refusal 11, the first bad line as detail

@@ -43,19 +43,19 @@ module _ (kind : Kind) (W k : ℕ) (vs ls hs : List ℕ) where
   abbrev pub chosen : Strides
   chosen = chosenBy plain kind k (tableTrie W vs ls hs)
 
-  -- tests 1 to 7, over what the program lends
-  unfoldable pub buildOutcome : Outcome
-  buildOutcome = outcome (buildTests W k vs ls hs (LENT-ROWS * ROW) LENT-ELEMENTS (leastBy plain kind k (tableTrie W vs ls hs)))
-
   abbrev pub tableReport : (xs ds : List ℕ) → List ℕ
   tableReport = reportBy W k vs ls hs chosen
+
+-- tests 1 to 7, over what the program lends
+unfoldable pub buildOutcome : (kind : Kind) (W k links : ℕ) (vs ls hs : List ℕ) → Outcome
+buildOutcome kind W k links vs ls hs = outcome (buildTests W k links vs ls hs (LENT-ROWS * ROW) LENT-ELEMENTS (leastBy plain kind k (tableTrie W vs ls hs)))
 
 -- a refusal prints only its two lines
 unfoldable pub reportFor : Outcome → List ℕ → List ℕ
 reportFor Accepted bytes = bytes
 reportFor (Refused number detail) bytes = refusalLines number detail
 
-unfoldable pub solved : (kind : code.Kind) (W k : ℕ) (bits lengths hops addresses places : List ℕ) → List ℕ
-solved kind W k bits lengths hops addresses places =
+unfoldable pub solved : (kind : code.Kind) (W k links : ℕ) (bits lengths hops addresses places : List ℕ) → List ℕ
+solved kind W k links bits lengths hops addresses places =
     let vs = valuesOf W bits lengths in
-    reportFor (buildOutcome (kindOf kind) W k vs lengths hops) (tableReport (kindOf kind) W k vs lengths hops addresses places)
+    reportFor (buildOutcome (kindOf kind) W k links vs lengths hops) (tableReport (kindOf kind) W k vs lengths hops addresses places)

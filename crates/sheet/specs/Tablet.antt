@@ -16,7 +16,7 @@ use Rattle.sheet.specs.Solved.{solved}
 -- a bad text is refused by 11, the first bad line as detail
 unfoldable pub textReport : Text → List ℕ
 textReport (bad line) = refusalLines 11 line
-textReport (good sh) = solved (sh .kind) (sh .width) (sh .levels) (sh .bits) (sh .lengths) (sh .hops) (sh .addresses) (sh .places)
+textReport (good sh) = solved (sh .kind) (sh .width) (sh .levels) (sh .links) (sh .bits) (sh .lengths) (sh .hops) (sh .addresses) (sh .places)
 
 unfoldable pub reportOf : List ℕ → List ℕ
 reportOf s = textReport (textOf s)

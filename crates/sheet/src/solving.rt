@@ -43,6 +43,7 @@ fn build_sheet(
         kind,
         got.width,
         got.levels,
+        got.links,
         &vals[0..n],
         &lengths[0..n],
         &hops[0..n],
