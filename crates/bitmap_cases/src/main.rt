@@ -1,6 +1,6 @@
 // Runs the build of tree bitmaps and the lookup in them on the cases of standard input, and prints every answer.
 // A line of the input is a case. `table` gives the table of the builds below it; `rising` has it made of a width, a
-// number of entries and their length. `bitmap` gives the lengths of scratch, which is filled with sevens, and of the four
+// number of links, a number of entries and their length. `bitmap` gives the lengths of scratch, which is filled with sevens, and of the four
 // lists of supernode rows and the hop list, filled with nines; the answer is the outcome, the record, scratch's zeros and
 // sevens, and how many nines each list has past the record's counts. `record` gives a record, rows and hops of its own.
 // `print` prints the rows and hops within the last record's counts, `look` asks it one address, `sweep` all addresses
@@ -63,6 +63,7 @@ fn mark_lists(
 
 fn built(
     width: u32,
+    links: u16,
     values: &[u32],
     lengths: &[u8],
     hops: &[u16],
@@ -76,6 +77,7 @@ fn built(
     mark_lists(scratch, internal, external, child, first, hop_rows);
     let built = supernodes::build_bitmap(
         width,
+        links,
         values,
         lengths,
         hops,
@@ -106,6 +108,7 @@ fn build_held(
     let h = cases::front16(hops, held.hops);
     built(
         held.width,
+        held.links,
         v,
         l,
         h,

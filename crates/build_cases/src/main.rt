@@ -1,6 +1,6 @@
 // Runs build and lookup on the cases of standard input, and prints every answer.
 // A line of the input is a case. `table` gives the table of the builds below it; `rising` has it made of a width, a
-// number of entries and their length. `fixed` and `variable` give the level limit and the lengths of scratch, which is
+// number of links, a number of entries and their length. `fixed` and `variable` give the level limit and the lengths of scratch, which is
 // filled with sevens, and of the element lists, filled with nines, the length list with fives; the answer is the outcome,
 // the record, scratch's zeros and sevens, and how many nines, or fives, each element list has past row E. The element lists
 // and the four numbers of a row are in the order hop, length, link, stride. `record` gives a record and rows of its own.
@@ -87,6 +87,7 @@ fn built(
     kind: Kind,
     width: u32,
     levels: u32,
+    links: u16,
     values: &[u32],
     lengths: &[u8],
     hops: &[u16],
@@ -101,6 +102,7 @@ fn built(
         kind,
         width,
         levels,
+        links,
         values,
         lengths,
         hops,
@@ -140,6 +142,7 @@ fn build_held(
         kind,
         held.width,
         levels,
+        held.links,
         v,
         l,
         h,

@@ -1,6 +1,6 @@
 // Runs the two stride choosers on the cases of standard input, and prints every answer.
 // A line of the input is a case. `table` gives the table of the lines below it; `rising` has it made of a width, a number
-// of entries and their length. `fixed` and `variable` give the level limit and the length of the scratch list, which is
+// of links, a number of entries and their length. `fixed` and `variable` give the level limit and the length of the scratch list, which is
 // filled with sevens. The answer is the outcome, the cost, the strides, and how many zeros and how many sevens scratch
 // then holds.
 use cases::Held;
@@ -26,15 +26,16 @@ fn chosen(
     letter: u8,
     width: u32,
     levels: u32,
+    links: u16,
     values: &[u32],
     lengths: &[u8],
     hops: &[u16],
     scratch: &mut [u64],
 ) -> Chosen {
     if letter == b'f' {
-        return choosers::choose_fixed(width, levels, values, lengths, hops, scratch);
+        return choosers::choose_fixed(width, levels, links, values, lengths, hops, scratch);
     }
-    choosers::choose_variable(width, levels, values, lengths, hops, scratch)
+    choosers::choose_variable(width, levels, links, values, lengths, hops, scratch)
 }
 
 fn answer(
@@ -50,7 +51,7 @@ fn answer(
     let l = cases::front8(lengths, held.lengths);
     let h = cases::front16(hops, held.hops);
     cases::fill64(scratch, 7);
-    say_chosen(chosen(letter, held.width, levels, v, l, h, scratch));
+    say_chosen(chosen(letter, held.width, levels, held.links, v, l, h, scratch));
     say_scratch(scratch);
 }
 

@@ -5,9 +5,10 @@ use verdicts::RuleRecord;
 use walk::LEVELS;
 use walk::Record;
 
-// The rules of the lines below, as their width and the lengths of their five lists, and the next place of the text.
+// The rules of the lines below, as their width, the number of links and the lengths of their five lists, and the next place of the text.
 pub struct HeldRules {
     pub width: u32,
+    pub links: u16,
     pub dvals: usize,
     pub dlens: usize,
     pub svals: usize,
@@ -51,13 +52,15 @@ struct Rule {
 
 pub(crate) fn rules_at(text: &[u8], at: usize) -> HeldRules {
     let width = cases::number(text, at);
-    let dests = cases::number(text, width.next);
+    let links = cases::number(text, width.next);
+    let dests = cases::number(text, links.next);
     let dest_lengths = cases::number(text, dests.next);
     let sources = cases::number(text, dest_lengths.next);
     let source_lengths = cases::number(text, sources.next);
     let actions = cases::number(text, source_lengths.next);
     HeldRules {
         width: cases::held32(width.value),
+        links: cases::held16(links.value),
         dvals: dests.value as usize,
         dlens: dest_lengths.value as usize,
         svals: sources.value as usize,

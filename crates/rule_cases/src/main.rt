@@ -1,9 +1,9 @@
 // Runs the build of rules and the classification by them on the cases of standard input, and prints every answer.
-// A line of the input is a case. `rules` gives the rules of the builds below it. `fixed` and `variable` give the level limit
-// and the lengths of scratch, which is filled with sevens, of the element lists, filled with nines, the length list with fives,
-// and of the list of tries, in numbers, filled with nines; the answer is the outcome, the destinations' record, the E of all tries,
-// scratch's zeros and sevens, how many nines, or fives, each element list has past row E of all tries, and how many nines the
-// list of tries has. The element lists and the four numbers of a row are in the order hop, length, link, stride. `record` gives a
+// A line of the input is a case. `rules` gives a width, a number of links and the rules of the builds below it. `fixed` and
+// `variable` give the level limit and the lengths of scratch, which is filled with sevens, of the element lists, filled with nines,
+// the length list with fives, and of the list of tries, in numbers, filled with nines; the answer is the outcome, the destinations'
+// record, the E of all tries, scratch's zeros and sevens, how many nines, or fives, each element list has past row E of all tries,
+// and how many nines the list of tries has. The element lists and the four numbers of a row are in the order hop, length, link, stride. `record` gives a
 // record, rows and a list of tries of its own. `print` prints the rows of all tries and the list of tries, `look` asks for one
 // destination and source, `sweep` for all destinations below a number, each with all sources below another. A line with another
 // word, or with a list longer than the program's room or than what the line gives for it, is answered `bad line` and changes
@@ -100,6 +100,7 @@ fn built(
     kind: Kind,
     width: u32,
     levels: u32,
+    links: u16,
     dvals: &[u32],
     dlens: &[u8],
     svals: &[u32],
@@ -117,6 +118,7 @@ fn built(
         kind,
         width,
         levels,
+        links,
         dvals,
         dlens,
         svals,
@@ -178,6 +180,7 @@ fn build_lent(
         kind,
         held.width,
         levels,
+        held.links,
         cases::front32(dvals, held.dvals),
         cases::front8(dlens, held.dlens),
         cases::front32(svals, held.svals),
@@ -363,10 +366,10 @@ fn line(
     slens: &mut [u8],
     actions: &mut [u16],
     scratch: &mut [u64],
-    hops: &mut [u16],
-    lens: &mut [u8],
-    links: &mut [u32],
-    strides: &mut [u8],
+    row_hops: &mut [u16],
+    row_lengths: &mut [u8],
+    row_links: &mut [u32],
+    row_strides: &mut [u8],
     list: &mut [u32],
 ) -> State {
     let end = cases::seek(text, state.at, b'\n', b'\n');
@@ -385,14 +388,33 @@ fn line(
             slens,
             actions,
             scratch,
-            hops,
-            lens,
-            links,
-            strides,
+            row_hops,
+            row_lengths,
+            row_links,
+            row_strides,
             list,
         ),
-        Word::Record => record_line(text, at, state, hops, lens, links, strides, list),
-        _ => ask(text, at, word, state, hops, lens, links, strides, list),
+        Word::Record => record_line(
+            text,
+            at,
+            state,
+            row_hops,
+            row_lengths,
+            row_links,
+            row_strides,
+            list,
+        ),
+        _ => ask(
+            text,
+            at,
+            word,
+            state,
+            row_hops,
+            row_lengths,
+            row_links,
+            row_strides,
+            list,
+        ),
     }
 }
 
@@ -401,6 +423,7 @@ fn start(at: usize) -> State {
     State {
         held: HeldRules {
             width: 0,
+            links: 0,
             dvals: 0,
             dlens: 0,
             svals: 0,

@@ -1,7 +1,8 @@
 // Runs the table's four calls about tables and prefixes on the cases of standard input, and prints every answer.
-// A line of the input is a case. `table` gives a width, the lengths of the three lists and their entries
+// A line of the input is a case. `table` gives a width, a number of links, the lengths of the three lists and their entries
 // (value/length>hop), for this line and those below it, and asks the check; entries that it does not give stay those of
-// the line before. `rising` gives a width, how many entries and their length, makes these entries, and asks the same.
+// the line before. `rising` gives a width, a number of links, how many entries and their length, makes these entries, and
+// asks the same.
 // `zone` asks for a prefix's zone in that table; `shared` for the shared length of two prefixes.
 use cases::Held;
 use libc::STDIN_FILENO;
@@ -46,7 +47,7 @@ fn check_held(held: Held, values: &[u32], lengths: &[u8], hops: &[u16]) {
     let v = cases::front32(values, held.values);
     let l = cases::front8(lengths, held.lengths);
     let h = cases::front16(hops, held.hops);
-    say_outcome(table::check_table(held.width, v, l, h));
+    say_outcome(table::check_table(held.width, held.links, v, l, h));
 }
 
 fn zone_line(
@@ -64,8 +65,8 @@ fn zone_line(
     let v = cases::front32(values, held.values);
     let l = cases::front8(lengths, held.lengths);
     let h = cases::front16(hops, held.hops);
-    say_span(table::zone_span(held.width, v, l, h, prefix, bits));
-    say_part(table::zone(held.width, v, l, h, prefix, bits));
+    say_span(table::zone_span(held.width, held.links, v, l, h, prefix, bits));
+    say_part(table::zone(held.width, held.links, v, l, h, prefix, bits));
     length.next
 }
 
