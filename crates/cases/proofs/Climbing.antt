@@ -9,7 +9,7 @@ use native.Mathlib.Omega.{arith}
 use lib.Dec.{lit<}
 use lib.ListN.{length, set, length-set}
 use lib.Pow.{shl-exact, pow-mono}
-use Rattle.cases.specs.Limits.{MOST-32, MOST-8, STEP-CAP}
+use Rattle.cases.specs.Limits.{MOST-32, MOST-16, MOST-8, STEP-CAP}
 use Rattle.cases.specs.Numerals.{numberAt}
 use Rattle.cases.specs.Rising.{climbValue, climbHop, setFirst, Climbs, Risen}
 use Rattle.cases.specs.declared.numerals.Numeral.{Numeral}
@@ -124,23 +124,26 @@ climbs-held {n} {p} {bits} {t} {a} e m =
 
 -- the line read number by number, each from where the one before ends
 pub risen-read :
-    {s : List ℕ} {p : ℕ} {a b c a′ b′ c′ : List ℕ} {w l t : ℕ} (x y z : Numeral)
+    {s : List ℕ} {p : ℕ} {a b c a′ b′ c′ : List ℕ} {w g l t : ℕ} (x y z u : Numeral)
     → x ≡ numberAt s p
     → y ≡ numberAt s (x .next)
     → z ≡ numberAt s (y .next)
+    → u ≡ numberAt s (z .next)
     → w ≡ min (x .value) MOST-32
-    → l ≡ min (z .value) MOST-8
+    → g ≡ min (y .value) MOST-16
+    → l ≡ min (u .value) MOST-8
     → t ≡ min (2 ^ (w - l)) STEP-CAP
-    → Climbs (y .value) t l a b c a′ b′ c′
-    → Risen s p a b c a′ b′ c′ (record { width = w; values = y .value; lengths = y .value; hops = y .value; at = z .next })
-risen-read x y z ex ey ez ew el et m =
+    → Climbs (z .value) t l a b c a′ b′ c′
+    → Risen s p a b c a′ b′ c′ (record { width = w; links = g; values = z .value; lengths = z .value; hops = z .value; at = u .next })
+risen-read x y z u ex ey ez eu ew eg el et m =
     record {
       width = rw ex at ew;
-      values = rw (ey, ex);
-      lengths = rw (ey, ex);
-      hops = rw (ey, ex);
+      links = rw (ey, ex) at eg;
+      values = rw (ez, ey, ex);
+      lengths = rw (ez, ey, ex);
+      hops = rw (ez, ey, ex);
       bits = _;
-      held = rw (ez, ey, ex) at el;
+      held = rw (eu, ez, ey, ex) at el;
       entries = climbs-held et m;
-      at = rw (ez, ey, ex);
+      at = rw (eu, ez, ey, ex);
     }

@@ -43,9 +43,10 @@ module _ (s : List ℕ) (l : ThreeLengths) (room : ℕ) (x : Numeral) (e : x ≡
   unfit-lists h f = rw (le-ltb _ _ (rw e at h)) (rw e at f)
 
 pub bad-table-read :
-    (s : List ℕ) (p room : ℕ) {r : Bool} (x : Numeral) (l : ThreeLengths)
+    (s : List ℕ) (p room : ℕ) {r : Bool} (x y : Numeral) (l : ThreeLengths)
     → x ≡ numberAt s p
-    → l ≡ threeAt s (x .next)
+    → y ≡ numberAt s (x .next)
+    → l ≡ threeAt s (y .next)
     → r ≡ isUnfit s l room
     → r ≡ badTable s p room
-bad-table-read s p room x l ex el er = rw (el, ex) at er
+bad-table-read s p room x y l ex ey el er = rw (el, ey, ex) at er

@@ -9,8 +9,7 @@ use lib.Dec.{ltb}
 use lib.ListN.{length}
 use Rattle.cases.specs.Limits.{MOST-32, MOST-16, MOST-8}
 use Rattle.cases.specs.Numerals.{numberAt}
-use Rattle.cases.specs.Triples.{secondAt, thirdAt}
-use Rattle.cases.specs.Tables.{fourthAt}
+use Rattle.cases.specs.Triples.{secondAt, thirdAt, fourthAt}
 use Rattle.cases.specs.Rising.{setFirst}
 use Rattle.cases.specs.declared.elements.FourLengths.{FourLengths}
 use Rattle.cases.specs.declared.elements.ElementRow.{ElementRow}

@@ -17,6 +17,10 @@ isLonger l n = ltb n (l .first) || (ltb n (l .second) || ltb n (l .third))
 unfoldable pub isUnfit : List ℕ → ThreeLengths → ℕ → Bool
 isUnfit s l room = ltb room (numberAt s (l .next) .value) || isLonger l (numberAt s (l .next) .value)
 
--- a table's line: the width, the three lengths, and the entries
+-- the lengths on a table's line, after the width and the number of links
+abbrev pub tableLists : List ℕ → ℕ → ThreeLengths
+tableLists s p = threeAt s (secondAt s p .next)
+
+-- they do not go with the entries that come next
 abbrev pub badTable : List ℕ → ℕ → ℕ → Bool
-badTable s p room = isUnfit s (threeAt s (numberAt s p .next)) room
+badTable s p room = isUnfit s (tableLists s p) room

@@ -14,12 +14,15 @@ pub record ThreeLists : Type 0 where
   pub second : List ℕ
   pub third : List ℕ
 
--- the second and third number of the row at place p; its first is the number there
+-- the second and third number of the row at place p, and the one after them; its first is the number there
 abbrev pub secondAt : List ℕ → ℕ → Numeral
 secondAt s p = numberAt s (numberAt s p .next)
 
 abbrev pub thirdAt : List ℕ → ℕ → Numeral
 thirdAt s p = numberAt s (secondAt s p .next)
+
+abbrev pub fourthAt : List ℕ → ℕ → Numeral
+fourthAt s p = numberAt s (thirdAt s p .next)
 
 unfoldable pub putThree : ThreeLists → ℕ → ℕ → ℕ → ℕ → ThreeLists
 putThree t i x y z =

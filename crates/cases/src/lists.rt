@@ -49,10 +49,11 @@ pub(crate) fn is_unfit(text: &[u8], lists: ThreeLengths, room: usize) -> bool
     is_longer(lists, rows)
 }
 
-// The same of a table's line, whose first number is the width.
+// The same of a table's line, whose first numbers are the width and the number of links.
 pub fn is_bad_table(text: &[u8], at: usize, room: usize) -> bool
     ensures { λ r. ⌜ r ≡ badTable (now (text .entry)) at room ⌝ }
 {
     let width = number(text, at);
-    is_unfit(text, three_at(text, width.next), room)
+    let links = number(text, width.next);
+    is_unfit(text, three_at(text, links.next), room)
 }

@@ -1,5 +1,5 @@
-// A table that its line makes itself: listed, 65,536 entries would take a mebibyte of text. The line gives the width, how many
-// entries, and the length of each.
+// A table that its line makes itself: listed, 65,536 entries would take a mebibyte of text. The line gives the width, the number of
+// links, how many entries, and the length of each.
 ghost use mathlib.Core.Path.{_≡_};
 ghost use Prim.Native.Nat.{_-_, _^_, _≤_, min};
 ghost use Rattle.cases.specs.Limits.{STEP-CAP};
@@ -8,6 +8,7 @@ use crate::limits::LAST_HOP;
 use crate::limits::STEP_CAP;
 use crate::limits::VALUE_BITS;
 use crate::numerals::held8;
+use crate::numerals::held16;
 use crate::numerals::held32;
 use crate::numerals::least;
 use crate::numerals::number;
@@ -67,7 +68,8 @@ pub fn rising_line(
         (now (hops .exit)) r ⌝ }
 {
     let width = number(text, at);
-    let count = number(text, width.next);
+    let links = number(text, width.next);
+    let count = number(text, links.next);
     let length = number(text, count.next);
     let held = held32(width.value);
     let bits = held8(length.value);
@@ -75,6 +77,7 @@ pub fn rising_line(
     climb(n, step_of(held, bits), bits, values, lengths, hops);
     Held {
         width: held,
+        links: held16(links.value),
         values: n,
         lengths: n,
         hops: n,
@@ -87,6 +90,7 @@ pub fn is_bad_rising(text: &[u8], at: usize, room: usize) -> bool
     ensures { λ r. ⌜ r ≡ badRising (now (text .entry)) at room ⌝ }
 {
     let width = number(text, at);
-    let count = number(text, width.next);
+    let links = number(text, width.next);
+    let count = number(text, links.next);
     room < count.value as usize
 }

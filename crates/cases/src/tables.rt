@@ -1,8 +1,10 @@
-// A table's line: the width, the lengths of the three lists, and the entries (value/length>hop), for this line
+// A table's line: the width, the number of links, the lengths of the three lists, and the entries (value/length>hop), for this line
 // and those below it.
 ghost use mathlib.Core.Path.{_≡_};
 ghost use lib.ListN.{getD};
 ghost use Rattle.cases.specs.Tables.{noTable, Holds};
+use crate::lists::three_at;
+use crate::numerals::held16;
 use crate::numerals::held32;
 use crate::numerals::number;
 use crate::triples::rows;
@@ -10,6 +12,7 @@ use crate::triples::rows;
 // The table of the lines below, as the lengths of its lists, and the next place of the text.
 pub struct Held {
     pub width: u32,
+    pub links: u16,
     pub values: usize,
     pub lengths: usize,
     pub hops: usize,
@@ -22,6 +25,7 @@ pub fn no_table(at: usize) -> Held
 {
     Held {
         width: 0,
+        links: 0,
         values: 0,
         lengths: 0,
         hops: 0,
@@ -41,15 +45,15 @@ pub fn table_line(
         (now (hops .exit)) r ⌝ }
 {
     let width = number(text, at);
-    let v = number(text, width.next);
-    let l = number(text, v.next);
-    let h = number(text, l.next);
-    let entries = rows(text, h.next, values, lengths, hops);
+    let links = number(text, width.next);
+    let lists = three_at(text, links.next);
+    let entries = rows(text, lists.next, values, lengths, hops);
     Held {
         width: held32(width.value),
-        values: v.value as usize,
-        lengths: l.value as usize,
-        hops: h.value as usize,
+        links: held16(links.value),
+        values: lists.first,
+        lengths: lists.second,
+        hops: lists.third,
         at: entries.next,
     }
 }

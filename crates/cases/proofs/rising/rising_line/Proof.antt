@@ -12,6 +12,9 @@ number-requires-2 c κs = search needs
 number-requires-3 : tie.Need-number-requires-3
 number-requires-3 c κs = search needs
 
+number-requires-4 : tie.Need-number-requires-4
+number-requires-4 c κs = search needs
+
 held32-requires : tie.Need-held32-requires
 held32-requires c κs = search needs
 
@@ -24,6 +27,9 @@ step-of-requires c κs = search needs
 climb-requires : tie.Need-climb-requires
 climb-requires c κs = search needs
 
+held16-requires : tie.Need-held16-requires
+held16-requires c κs = search needs
+
 same-length : tie.Need-same-length
 same-length c = search needs
 
@@ -35,17 +41,21 @@ same-length-3 c = search needs
 
 returns : tie.Need-returns
 returns c =
-    let made = c .before .before .before .before .before .before in
+    let made = c .before .before .before .before .before .before .before in
     let stepped = made .before .before .before .before in
-    let third = stepped .before .before .before in
+    let fourth = stepped .before .before .before in
+    let second = fourth .before .before in
     risen-read
-    (third .before .before .number .result)
-    (third .before .number2 .result)
-    (third .number3 .result)
-    (third .before .before .number .ensures)
-    (third .before .number2 .ensures)
-    (third .number3 .ensures)
+    (second .before .number .result)
+    (second .number2 .result)
+    (fourth .before .number3 .result)
+    (fourth .number4 .result)
+    (second .before .number .ensures)
+    (second .number2 .ensures)
+    (fourth .before .number3 .ensures)
+    (fourth .number4 .ensures)
     (stepped .before .before .held32 .ensures)
+    (c .held16 .ensures)
     (stepped .before .held8 .ensures)
     (stepped .step-of .ensures)
     (made .climb .ensures)
@@ -57,10 +67,12 @@ rising-line-spec =
     number-requires
     number-requires-2
     number-requires-3
+    number-requires-4
     held32-requires
     held8-requires
     step-of-requires
     climb-requires
+    held16-requires
     same-length
     same-length-2
     same-length-3
