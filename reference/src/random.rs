@@ -2,7 +2,7 @@
 //! tables, rules and prefixes made with it.
 
 use crate::rules::{Rule, Rules};
-use crate::table::{Table, DISCARD};
+use crate::table::{Table, DISCARD, LINKS};
 
 pub struct Random {
     state: u64,
@@ -58,7 +58,7 @@ impl Random {
         }
     }
 
-    /// A well-formed table of at most n entries, half of them nested in others.
+    /// A well-formed table of at most n entries, half of them nested in others, with the most links.
     pub fn table(&mut self, width: u32, n: usize) -> Table {
         let mut prefixes: Vec<(u32, u8)> = vec![];
         for _ in 0..n {
@@ -73,7 +73,7 @@ impl Random {
         }
         prefixes.sort();
         prefixes.dedup();
-        let mut table = Table { width, ..Table::default() };
+        let mut table = Table::empty(width, LINKS);
         for (value, length) in prefixes {
             table.value.push(value);
             table.length.push(length);

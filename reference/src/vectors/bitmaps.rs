@@ -11,7 +11,7 @@ mod harmed;
 
 use super::choosers::SCRATCH;
 use super::tables::{damaged, width, FAULTS};
-use super::{answered, discards, eight, marks, of, outcome, swept, table_line, Rising, Vectors, PLACES};
+use super::{answered, discards, eight, marks, of, outcome, rising, swept, table_line, Rising, Vectors, PLACES};
 use crate::bitmap::{build, lookup, nodes, walk, Bitmap, Damage, Supernodes, NODE_ROW, STRIDE};
 use crate::lookup::Found;
 use crate::random::Random;
@@ -435,7 +435,7 @@ fn large(vectors: &mut Vectors, random: &mut Random) {
         built(vectors, &made, Lent { hops: 4095, ..need });
         built(vectors, &made, need);
     }
-    let many = risen(vectors, Rising { width: 13, entries: 4097, length: 13 });
+    let many = risen(vectors, rising(13, 4097, 13));
     let left = built(vectors, &many, needed(&many));
     for address in [0, 4095, 4096, 4097, 8191, 8192] {
         look(vectors, &left, address);
@@ -445,7 +445,6 @@ fn large(vectors: &mut Vectors, random: &mut Random) {
 /// The most entries that a table has, and one more. Those of 19 bits that share their first 3 have few enough supernodes for the
 /// program's lists, those of 16 bits too many.
 fn most(vectors: &mut Vectors) {
-    let rising = |width, entries, length| Rising { width, entries, length };
     let made = risen(vectors, rising(32, 65536, 19));
     let need = needed(&made);
     let [a, b, c, d] = need.rows;
@@ -531,12 +530,12 @@ fn bad(vectors: &mut Vectors) {
         format!("bitmap scratch 56 rows 3 3 {} 3 hops 8", ROWS + 1),
         format!("bitmap scratch 56 rows 3 3 3 {} hops 8", ROWS + 1),
         format!("bitmap scratch 56 rows 3 3 3 3 hops {}", HOPS + 1),
-        format!("table width 7 lists 0 0 0 entries {}: 0/1>1", PLACES + 1),
-        format!("rising width 7 entries {} length 7", PLACES + 1),
-        "rising width 7 entries 99999999999999999999 length 7".to_string(),
-        "risings width 7 entries 8 length 7".to_string(),
-        "table width 7 lists 2 1 1 entries 1: 0/1>1".to_string(),
-        "table width 7 lists 1 1 2 entries 1: 0/1>1".to_string(),
+        format!("table width 7 links 0 lists 0 0 0 entries {}: 0/1>1", PLACES + 1),
+        format!("rising width 7 links 0 entries {} length 7", PLACES + 1),
+        "rising width 7 links 0 entries 99999999999999999999 length 7".to_string(),
+        "risings width 7 links 0 entries 8 length 7".to_string(),
+        "table width 7 links 0 lists 2 1 1 entries 1: 0/1>1".to_string(),
+        "table width 7 links 0 lists 1 1 2 entries 1: 0/1>1".to_string(),
         format!("{record} 2 1 1 1 1 rows 1: 1/0/0/0 hops 1: 5"),
         format!("{record} 1 2 1 1 1 rows 1: 1/0/0/0 hops 1: 5"),
         format!("{record} 1 1 2 1 1 rows 1: 1/0/0/0 hops 1: 5"),

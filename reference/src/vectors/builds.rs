@@ -13,7 +13,8 @@ mod lengths;
 use super::choosers::{name, KINDS, SCRATCH};
 use super::tables::{damaged, width, FAULTS};
 use super::{
-    answered, any_levels, chain, deep, discards, eight, marks, of, outcome, swept, table_line, Rising, Vectors, PLACES,
+    answered, any_levels, chain, deep, discards, eight, marks, of, outcome, rising, swept, table_line, Rising, Vectors,
+    PLACES,
 };
 use crate::build::{build, Elements, Record, SCRATCH_ROW};
 use crate::choices::{Kind, LEVELS};
@@ -392,7 +393,6 @@ fn wide(vectors: &mut Vectors, random: &mut Random) {
 
 /// Tables that their lines make: as many entries as scratch has rows for, and the most that a table has.
 fn most(vectors: &mut Vectors) {
-    let rising = |width, entries, length| Rising { width, entries, length };
     let made = risen(vectors, rising(14, 8192, 13));
     for kind in KINDS {
         for levels in [1, 4, 32] {
@@ -605,12 +605,12 @@ fn bad(vectors: &mut Vectors) {
         format!("variable levels 2 scratch 720 lists 26 {} 26 26", ROOM + 1),
         format!("variable levels 2 scratch 720 lists 26 26 {} 26", ROOM + 1),
         format!("variable levels 2 scratch 720 lists 26 26 26 {}", ROOM + 1),
-        format!("table width 7 lists 0 0 0 entries {}: 0/1>1", PLACES + 1),
-        format!("rising width 7 entries {} length 7", PLACES + 1),
-        "rising width 7 entries 99999999999999999999 length 7".to_string(),
-        "risings width 7 entries 8 length 7".to_string(),
-        "table width 7 lists 2 1 1 entries 1: 0/1>1".to_string(),
-        "table width 7 lists 1 1 2 entries 1: 0/1>1".to_string(),
+        format!("table width 7 links 0 lists 0 0 0 entries {}: 0/1>1", PLACES + 1),
+        format!("rising width 7 links 0 entries {} length 7", PLACES + 1),
+        "rising width 7 links 0 entries 99999999999999999999 length 7".to_string(),
+        "risings width 7 links 0 entries 8 length 7".to_string(),
+        "table width 7 links 0 lists 2 1 1 entries 1: 0/1>1".to_string(),
+        "table width 7 links 0 lists 1 1 2 entries 1: 0/1>1".to_string(),
         format!("{record} 0 0 0 0 rows {}:", ROOM + 1),
         format!("{record} 1 0 0 0 rows 0:"),
         format!("{record} 0 1 0 0 rows 0:"),

@@ -5,8 +5,8 @@
 
 use super::tables::{damaged, width, FAULTS};
 use super::{
-    any_levels, chain, deep, discards, eight, full, lengths_line, of, outcome, over, table_line, with_lengths, Rising,
-    Vectors, PLACES,
+    any_levels, chain, deep, discards, eight, full, lengths_line, of, outcome, over, rising, table_line, with_lengths,
+    Rising, Vectors, PLACES,
 };
 use crate::build::{chosen, SCRATCH_ROW};
 use crate::choices::{
@@ -256,7 +256,6 @@ fn large(vectors: &mut Vectors, random: &mut Random) {
 /// Tables that their lines make: as many entries as scratch has rows for, all of 13 bits and below a chain of 19 nodes; one more than
 /// 01's limit before 02; and the most that a table has, whose nodes are counted before any scratch is asked for.
 fn most(vectors: &mut Vectors) {
-    let rising = |width, entries, length| Rising { width, entries, length };
     for (rising, levels) in [(rising(13, 8192, 13), 12), (rising(32, 8192, 32), 20), (rising(17, 4097, 15), 9)] {
         let made = risen(vectors, rising);
         for kind in KINDS {
@@ -279,7 +278,6 @@ fn most(vectors: &mut Vectors) {
 
 /// The most entries and more, with faults: lists of too many entries or of unequal lengths come before any entry's fault.
 fn faults(vectors: &mut Vectors) {
-    let rising = |width, entries, length| Rising { width, entries, length };
     for rising in [rising(16, 65537, 16), rising(32, 65536, 15), rising(33, 65537, 16), rising(16, PLACES, 16)] {
         let made = risen(vectors, rising);
         for kind in KINDS {
@@ -290,7 +288,7 @@ fn faults(vectors: &mut Vectors) {
     }
     for lists in [[65536; 3], [65537, 65536, 65536], [65536, 65537, 65536], [65536, 65536, 65537], [65537; 3]] {
         let made = with_lengths(&rising(16, PLACES, 16).table(), lists);
-        vectors.case(lengths_line(16, lists), "table".to_string());
+        vectors.case(lengths_line(&made), "table".to_string());
         for kind in KINDS {
             choose(vectors, &made, kind, 32, 0);
         }
@@ -300,9 +298,10 @@ fn faults(vectors: &mut Vectors) {
         let (first, second) = (rising(32, 65536, length), rising(32, 65535, 16));
         risen(vectors, first);
         risen(vectors, second);
-        vectors.case(lengths_line(32, [65536; 3]), "table".to_string());
+        let made = over(first, second);
+        vectors.case(lengths_line(&made), "table".to_string());
         for kind in KINDS {
-            choose(vectors, &over(first, second), kind, 32, SCRATCH);
+            choose(vectors, &made, kind, 32, SCRATCH);
         }
     }
 }

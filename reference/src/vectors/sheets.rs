@@ -3,7 +3,7 @@
 
 use super::{any_levels, discards, Vectors};
 use crate::random::Random;
-use crate::table::{bits, DISCARD};
+use crate::table::{bits, DISCARD, LINKS};
 use crate::tablet::{self, SCRATCH_ROWS};
 use std::collections::BTreeSet;
 
@@ -52,7 +52,7 @@ fn values<'a>(report: &'a str, key: &str) -> Vec<&'a str> {
     report.lines().filter_map(|line| line.strip_prefix(key)?.strip_prefix('=')).collect()
 }
 
-const WHOLE: &str = "width=3\nkind=vst\nlevels=2\nentries=2\nbits=1\nhop=1\nbits=101\nhop=2\nqueries=3\naddress=101\naddress=111\naddress=011\n";
+const WHOLE: &str = "width=3\nkind=vst\nlevels=2\nlinks=2\nentries=2\nbits=1\nhop=1\nbits=101\nhop=2\nqueries=3\naddress=101\naddress=111\naddress=011\n";
 
 /// A text as its lines, so that one of them can be changed.
 #[derive(Clone)]
@@ -97,6 +97,7 @@ fn draft(random: &mut Random, sizes: Sizes) -> Draft {
         format!("width={}", sizes.width),
         format!("kind={kind}"),
         format!("levels={}", sizes.levels),
+        format!("links={}", table.links),
         format!("entries={}", table.value.len()),
     ];
     for i in 0..table.value.len() {
@@ -280,7 +281,7 @@ fn faults(vectors: &mut Vectors, random: &mut Random) {
         for kind in ["fst", "vst"] {
             let text_of = |levels| {
                 let ones = "1".repeat(width);
-                format!("width={width}\nkind={kind}\nlevels={levels}\nentries=1\nbits={ones}\nhop=9\nqueries=2\naddress={ones}\naddress=0\n")
+                format!("width={width}\nkind={kind}\nlevels={levels}\nlinks=9\nentries=1\nbits={ones}\nhop=9\nqueries=2\naddress={ones}\naddress=0\n")
             };
             for levels in [1, 8, 32, 33] {
                 text(vectors, text_of(levels).as_bytes());
@@ -327,10 +328,11 @@ fn fault(random: &mut Random, made: &mut Draft, kind: u64) {
     }
 }
 
-/// A text of these entries' bits, each with a hop of five digits, the first that of a discard, and these addresses.
+/// A text of these entries' bits, each with a hop of five digits, the first that of a discard, with the most links, and these
+/// addresses.
 fn text_of(head: [&str; 3], bits: &[String], addresses: &[String]) -> String {
     let [width, kind, levels] = head;
-    let mut lines = format!("width={width}\nkind={kind}\nlevels={levels}\nentries={}\n", bits.len());
+    let mut lines = format!("width={width}\nkind={kind}\nlevels={levels}\nlinks={LINKS}\nentries={}\n", bits.len());
     for (i, b) in bits.iter().enumerate() {
         lines += &format!("bits={b}\nhop={}\n", 65535 - i);
     }
@@ -416,7 +418,8 @@ fn discarding(vectors: &mut Vectors) {
         let matched: Vec<String> = all.map(|address| made.answer(address).1.to_string()).collect();
         for (kind, levels) in (1..=made.width + 1).chain([31, 32]).flat_map(|levels| [("fst", levels), ("vst", levels)])
         {
-            let report = lent_case(vectors, &format!("width={}\nkind={kind}\nlevels={levels}\n{tail}", made.width));
+            let head = format!("width={}\nkind={kind}\nlevels={levels}\nlinks={}\n", made.width, made.links);
+            let report = lent_case(vectors, &format!("{head}{tail}"));
             assert!(discarded > 0 && report.matches("hop=65535\n").count() == discarded, "{report}");
             assert!(values(&report, "length") == matched, "{report}");
             vectors.hit("hop=65535 printed");
@@ -442,7 +445,7 @@ fn longest(head: [&str; 3]) -> String {
 /// level limit have two digits.
 fn shown(vectors: &mut Vectors, top: &str) {
     let accepted = longest(["32", "vst", "32"]);
-    assert!(accepted.len() == 5746 && tablet::run(accepted.as_bytes()).starts_with("refusal=0\n"));
+    assert!(accepted.len() == 5758 && tablet::run(accepted.as_bytes()).starts_with("refusal=0\n"));
     let there = std::fs::read(format!("{top}/examples/longest-accepted.txt")).expect("an example can be read");
     assert!(there == accepted.as_bytes(), "longest-accepted.txt is another text");
     let folder = std::fs::read_dir(format!("{top}/examples")).expect("examples/ can be read");
@@ -461,7 +464,7 @@ fn shown(vectors: &mut Vectors, top: &str) {
 fn write_tablet(top: &str) {
     let given = longest(["99999", "vst", "99999"]);
     let report = tablet::run(given.as_bytes());
-    assert!(given.len() == 5752 && report == "refusal=1\ndetail=0\n", "{report}");
+    assert!(given.len() == 5764 && report == "refusal=1\ndetail=0\n", "{report}");
     std::fs::write(format!("{top}/crates/tablet/stdin"), &given).expect("stdin can be written");
     std::fs::write(format!("{top}/crates/tablet/stdout"), &report).expect("stdout can be written");
 }

@@ -2,10 +2,11 @@
 //! the `zone` lines below it.
 
 use super::{
-    discards, eight, full, lengths_line, of, outcome, over, refused, table_line, with_lengths, Rising, Vectors, PLACES,
+    discards, eight, full, lengths_line, of, outcome, over, refused, rising, table_line, with_lengths, Rising, Vectors,
+    PLACES,
 };
 use crate::random::{cut, Random};
-use crate::table::{shared_length, Table};
+use crate::table::{shared_length, Table, LINKS};
 
 const WANTED: &[&str] = &[
     "check accepted",
@@ -200,13 +201,13 @@ fn relisted(vectors: &mut Vectors, made: &Table, lists: [usize; 3]) -> Table {
     let made = with_lengths(made, lists);
     let answer = made.check();
     vectors.outcome("check", &answer);
-    vectors.case(lengths_line(made.width, lists), outcome(answer));
+    vectors.case(lengths_line(&made), outcome(answer));
     made
 }
 
 /// n at its limit: 65,536 entries are accepted, 65,537 are refused by 3, before any entry is looked at.
 fn most(vectors: &mut Vectors) {
-    let of_16 = |width, entries| Rising { width, entries, length: 16 };
+    let of_16 = |width, entries| rising(width, entries, 16);
     for entries in [4096, 4097, 65535, 65536, 65537, PLACES + 1, PLACES] {
         risen(vectors, of_16(16, entries));
     }
@@ -226,7 +227,7 @@ fn most(vectors: &mut Vectors) {
         zone(vectors, &all, prefix, length);
     }
     // The first half of the addresses of 17 bits: zones behind the last entry.
-    let half = risen(vectors, Rising { width: 17, entries: 65536, length: 17 });
+    let half = risen(vectors, rising(17, 65536, 17));
     for (prefix, length) in [(65535, 17), (65536, 17), (131071, 17), (65536, 1), (65534, 16)] {
         zone(vectors, &half, prefix, length);
     }
@@ -239,13 +240,13 @@ fn most(vectors: &mut Vectors) {
 
 /// Faults of one entry among the most: at the last index, at a middle one, at the first ones, and with an entry too many.
 fn faults(vectors: &mut Vectors) {
-    let rising = |entries, length| Rising { width: 32, entries, length };
+    let of_32 = |entries, length| rising(32, entries, length);
     // Values of 15 bits are too large from index 32,768 on; those of 17 or 20 bits lie below those of 16 that come before them.
     for (first, second) in [
-        (rising(65537, 15), rising(65535, 16)),
-        (rising(65537, 17), rising(65535, 16)),
-        (rising(65537, 20), rising(40000, 16)),
-        (rising(65537, 15), rising(40000, 16)),
+        (of_32(65537, 15), of_32(65535, 16)),
+        (of_32(65537, 17), of_32(65535, 16)),
+        (of_32(65537, 20), of_32(40000, 16)),
+        (of_32(65537, 15), of_32(40000, 16)),
     ] {
         risen(vectors, first);
         risen(vectors, second);
@@ -257,21 +258,21 @@ fn faults(vectors: &mut Vectors) {
     }
     for entries in [&[(1, 16, 1)][..], &[(0, 33, 1)], &[(0, 16, 0)], &[(0, 16, 65535)], &[(0, 16, 1), (0, 16, 2)]] {
         for n in [65536, 65537] {
-            let mut made = risen(vectors, rising(n, 16));
+            let mut made = risen(vectors, of_32(n, 16));
             let given: String = entries.iter().map(|(value, length, hop)| format!(" {value}/{length}>{hop}")).collect();
             for (i, (value, length, hop)) in entries.iter().enumerate() {
                 (made.value[i], made.length[i], made.hop[i]) = (*value, *length, *hop);
             }
             let answer = made.check();
             vectors.outcome("check", &answer);
-            let line = format!("table width 32 lists {n} {n} {n} entries {}:{given}", entries.len());
+            let line = format!("table width 32 links {LINKS} lists {n} {n} {n} entries {}:{given}", entries.len());
             vectors.case(line, outcome(answer));
         }
     }
     for (width, length) in
         [(0, 0), (33, 16), (4294967295, 0), (4294967295, 255), (16, 17), (15, 15), (32, 0), (1, 1), (20, 255)]
     {
-        risen(vectors, Rising { width, entries: 65536, length });
+        risen(vectors, rising(width, 65536, length));
     }
 }
 
