@@ -2,7 +2,7 @@
 //! tables, rules and prefixes made with it.
 
 use crate::rules::{Rule, Rules};
-use crate::table::{Table, DISCARD, LINKS};
+use crate::table::{fewest_links, Table, DISCARD, LINKS};
 
 pub struct Random {
     state: u64,
@@ -56,6 +56,25 @@ impl Random {
             3 => self.within(1, 65535) as u16,
             _ => self.within(1, 9) as u16,
         }
+    }
+
+    /// A number of links for entries or rules with these hops: three times in four the most, else just enough, too few, or none.
+    pub fn links(&mut self, hops: &[u16]) -> u16 {
+        match self.within(0, 11) {
+            0 => fewest_links(hops),
+            1 => self.too_few_links(hops),
+            2 => 0,
+            _ => LINKS,
+        }
+    }
+
+    /// One less than some hop that is no discard, so that this one lacks its link; 0 where there is none.
+    pub fn too_few_links(&mut self, hops: &[u16]) -> u16 {
+        let linked: Vec<u16> = hops.iter().copied().filter(|hop| (1..DISCARD).contains(hop)).collect();
+        if linked.is_empty() {
+            return 0;
+        }
+        self.of(&linked) - 1
     }
 
     /// A well-formed table of at most n entries, half of them nested in others, with the most links.

@@ -5,6 +5,7 @@
 mod bitmaps;
 mod builds;
 mod choosers;
+mod links;
 mod rules;
 mod sheets;
 mod tables;
@@ -18,6 +19,8 @@ use std::path::Path;
 
 /// Everything that a vector file must hit is hit at least this often.
 const HITS: usize = 10;
+/// A program's page has so many bytes, and its input must not fill it.
+const MEBIBYTE: usize = 1 << 20;
 
 /// One program's cases: what it reads, what it must write, and how often each thing was hit.
 #[derive(Default)]
@@ -53,8 +56,9 @@ impl Vectors {
         }
     }
 
-    /// Writes `stdin` and `stdout` of a program, which must be there, and tells on standard error what was hit.
-    fn write(&self, top: &str, program: &str, wanted: &[&str]) {
+    /// Writes `stdin` and `stdout` of a program, which must be there, and tells on standard error what was hit. Of each of these
+    /// calls all is wanted that an answer can show of links.
+    fn write(&self, top: &str, program: &str, wanted: &[&str], calls: &[&str]) {
         let folder = format!("{top}/crates/{program}");
         let mut input = format!("cases {}\n", self.cases).into_bytes();
         input.extend(&self.input);
@@ -62,10 +66,12 @@ impl Vectors {
         for (what, times) in &self.hits {
             eprintln!("  {what}: {times}");
         }
-        for what in wanted {
-            let times = self.hits.get(*what).copied().unwrap_or(0);
+        let of_links = calls.iter().flat_map(|call| links::SHOWN.map(|what| format!("{call} {what}")));
+        for what in wanted.iter().map(|what| what.to_string()).chain(of_links) {
+            let times = self.hits.get(&what).copied().unwrap_or(0);
             assert!(times >= HITS, "{program}: {what} is hit only {times} times");
         }
+        assert!(input.len() < MEBIBYTE, "{program}: its input is too long");
         assert!(Path::new(&folder).is_dir(), "there is no {folder}");
         std::fs::write(format!("{folder}/stdin"), &input).expect("stdin can be written");
         std::fs::write(format!("{folder}/stdout"), &self.output).expect("stdout can be written");

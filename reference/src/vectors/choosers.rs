@@ -3,10 +3,12 @@
 //! the program fills with sevens. The answer is the outcome, cost and strides, and how many zeros and how
 //! many sevens scratch then holds. Where the trie is small, the answer is that of brute force.
 
+mod linked;
+
 use super::tables::{damaged, width, FAULTS};
 use super::{
-    any_levels, chain, deep, discards, eight, full, lengths_line, of, outcome, over, rising, table_line, with_lengths,
-    Rising, Vectors, PLACES,
+    any_levels, chain, deep, discards, eight, full, lengths_line, links, of, outcome, over, rising, table_line,
+    with_lengths, Rising, Vectors, PLACES,
 };
 use crate::build::{chosen, SCRATCH_ROW};
 use crate::choices::{
@@ -93,6 +95,7 @@ fn choose(vectors: &mut Vectors, table: &Table, kind: Kind, levels: u32, places:
     let mut scratch = vec![7; places];
     let (answer, cost, strides) = chosen(kind, levels, table, &mut scratch);
     vectors.outcome(name(kind), &answer);
+    links::count_table(vectors, name(kind), table, answer);
     if answer.is_ok() {
         let trie = Trie::of(table);
         if is_small(kind, &trie, levels) {
@@ -215,6 +218,8 @@ fn small(vectors: &mut Vectors, random: &mut Random) {
                 break (made, levels);
             }
         };
+        let drawn = random.links(&made.hop);
+        let made = made.with_links(drawn);
         table(vectors, &made);
         for kind in KINDS {
             choose(vectors, &made, kind, levels, enough(&made));
@@ -229,7 +234,7 @@ fn large(vectors: &mut Vectors, random: &mut Random) {
     for _ in 0..60 {
         let width = random.within(8, 32) as u32;
         let n = random.within(1, 40) as usize;
-        let made = random.table(width, n);
+        let made = links::any(random, width, n);
         table(vectors, &made);
         for kind in KINDS {
             choose(vectors, &made, kind, random.within(1, 8) as u32, enough(&made));
@@ -348,6 +353,8 @@ pub fn write(top: &str) {
     large(&mut vectors, &mut random);
     most(&mut vectors);
     faults(&mut vectors);
+    linked::hops(&mut vectors);
+    linked::most(&mut vectors);
     broken(&mut vectors, &mut random);
-    vectors.write(top, "choose_cases", WANTED);
+    vectors.write(top, "choose_cases", WANTED, &KINDS.map(name));
 }

@@ -26,11 +26,12 @@
 //! of the list of tries. Before the first line there are no rules, a record of zeros and empty lists.
 
 mod harmed;
+mod linked;
 mod made;
 mod refused;
 
-use super::choosers::{name, SCRATCH};
-use super::{marks, outcome, Vectors, PLACES};
+use super::choosers::{name, KINDS, SCRATCH};
+use super::{links, marks, outcome, Vectors, PLACES};
 use crate::build::{Elements, Record, SCRATCH_ROW};
 use crate::choices::{choose, Kind};
 use crate::lookup::{self, walk};
@@ -38,7 +39,7 @@ use crate::random::Random;
 use crate::rules::{
     build_rules, classify, visit, visit_calling, Damage, Rule, RuleRecord, Rules, Verdict, TRIE_ROW, VISITS,
 };
-use crate::table::Refusal;
+use crate::table::{Refusal, LINKS};
 use crate::trie::Trie;
 
 /// The program's element lists have no more places.
@@ -182,6 +183,7 @@ fn count_build(
 ) {
     let name = name(kind);
     vectors.outcome(name, &answer);
+    links::count(vectors, name, (&rules.action, rules.links), answer, || rules.with_links(LINKS).check());
     match answer {
         Err(Refusal { number: 3, .. }) => {
             let lists = rules.lengths();
@@ -438,10 +440,12 @@ pub fn write(top: &str) {
     refused::faults(&mut vectors, &mut random);
     refused::rooms(&mut vectors, &mut random);
     refused::large(&mut vectors);
+    linked::actions(&mut vectors);
+    linked::many(&mut vectors);
     harmed::examples(&mut vectors);
     harmed::chains(&mut vectors);
     harmed::harmed(&mut vectors, &mut random);
     harmed::noise(&mut vectors, &mut random);
     refused::bad(&mut vectors);
-    vectors.write(top, "rule_cases", WANTED);
+    vectors.write(top, "rule_cases", WANTED, &KINDS.map(name));
 }

@@ -1,9 +1,11 @@
 //! The cases of the tablet's text. A case is the word `text` with the number of bytes, a line end, the bytes
 //! themselves and a line end; its answer is the whole report and a line `end`.
 
-use super::{any_levels, discards, Vectors};
+mod linked;
+
+use super::{any_levels, discards, links, Vectors};
 use crate::random::Random;
-use crate::table::{bits, DISCARD, LINKS};
+use crate::table::{bits, Table, DISCARD, LINKS};
 use crate::tablet::{self, SCRATCH_ROWS};
 use std::collections::BTreeSet;
 
@@ -20,6 +22,7 @@ const WANTED: &[&str] = &[
     "bad width line",
     "bad kind line",
     "bad levels line",
+    "bad links line",
     "bad entries line",
     "bad bits line",
     "bad hop line",
@@ -29,12 +32,19 @@ const WANTED: &[&str] = &[
     "hop=65535 printed",
     "length=0 of the floor printed",
     "length=32 printed",
+    "no line of links",
+    "two lines of links",
+    "links before levels",
+    "links behind entries",
+    "end in the line of links",
+    "end behind the line of links",
 ];
 
 fn text(vectors: &mut Vectors, text: &[u8]) {
     let report = tablet::run(text);
     let refusal = report.lines().next().and_then(|l| l.strip_prefix("refusal=")).expect("a report begins so");
     vectors.hit(&format!("refusal {refusal}"));
+    linked::count(vectors, text, &report);
     let (hops, lengths) = (values(&report, "hop"), values(&report, "length"));
     if hops.iter().zip(&lengths).any(|(hop, length)| *hop != "0" && *length == "0") {
         vectors.hit("length=0 of the floor printed");
@@ -89,9 +99,9 @@ struct Sizes {
     queries: usize,
 }
 
-/// A text of a sorted table, with addresses of the right number of digits.
+/// A text of a sorted table, one in four with a number of links from its own hops, and addresses of the right number of digits.
 fn draft(random: &mut Random, sizes: Sizes) -> Draft {
-    let table = random.table(sizes.width, sizes.entries);
+    let table = links::any(random, sizes.width, sizes.entries);
     let kind = if random.one_in(2) { "fst" } else { "vst" };
     let mut lines = vec![
         format!("width={}", sizes.width),
@@ -201,7 +211,7 @@ fn bad_values(key: &str) -> Vec<String> {
     };
     match key {
         "entries" | "queries" => values.extend(["65", "64000", "99999"].map(String::from)),
-        "hop" => values.extend(["65536", "65537", "99999"].map(String::from)),
+        "hop" | "links" => values.extend(["65536", "65537", "99999"].map(String::from)),
         _ => (),
     }
     values.push("1".repeat(1000));
@@ -209,7 +219,7 @@ fn bad_values(key: &str) -> Vec<String> {
 }
 
 fn malformed(vectors: &mut Vectors, random: &mut Random) {
-    for key in ["width", "kind", "levels", "entries", "bits", "hop", "queries", "address"] {
+    for key in ["width", "kind", "levels", "links", "entries", "bits", "hop", "queries", "address"] {
         for value in bad_values(key) {
             let mut made = any_draft(random);
             let at = made.with(key);
@@ -270,9 +280,9 @@ fn order(vectors: &mut Vectors, random: &mut Random) {
 fn faults(vectors: &mut Vectors, random: &mut Random) {
     for turn in 0..220 {
         let mut made = any_draft(random);
-        fault(random, &mut made, turn % 10);
+        fault(random, &mut made, turn % FAULTS);
         if random.one_in(3) {
-            let other = random.within(0, 9);
+            let other = random.within(0, FAULTS - 1);
             fault(random, &mut made, other);
         }
         text(vectors, &made.text());
@@ -293,6 +303,9 @@ fn faults(vectors: &mut Vectors, random: &mut Random) {
         text(vectors, &made.text());
     }
 }
+
+/// How many kinds of fault `fault` knows.
+const FAULTS: u64 = 11;
 
 fn fault(random: &mut Random, made: &mut Draft, kind: u64) {
     let one_of = |random: &mut Random, lines: &[usize]| lines[random.within(0, lines.len() as u64 - 1) as usize];
@@ -324,6 +337,10 @@ fn fault(random: &mut Random, made: &mut Draft, kind: u64) {
             made.lines[at] = format!("address={}", "1".repeat(random.within(1, 32) as usize));
         }
         8 => made.lines[0] = format!("width={}", random.within(1, 32)),
+        9 => {
+            let numbers: Vec<u16> = hops.iter().map(|at| made.lines[*at]["hop=".len()..].parse().unwrap()).collect();
+            made.lines[3] = format!("links={}", random.too_few_links(&numbers));
+        }
         _ => made.lines[2] = "levels=1".to_string(),
     }
 }
@@ -405,21 +422,30 @@ fn levels(vectors: &mut Vectors) {
     }
 }
 
+/// The text of a table, an entry longer than the width included, and of these addresses.
+fn table_text(made: &Table, kind: &str, levels: u32, addresses: &[u32]) -> String {
+    let Table { width, links, .. } = made;
+    let mut lines = format!("width={width}\nkind={kind}\nlevels={levels}\nlinks={links}\nentries={}\n", made.hop.len());
+    for i in 0..made.hop.len() {
+        let length = made.length[i] as usize;
+        let entry = bits(*width, made.value[i], (length as u32).min(*width));
+        lines += &format!("bits={entry:0<length$}\nhop={}\n", made.hop[i]);
+    }
+    lines += &format!("queries={}\n", addresses.len());
+    addresses.iter().for_each(|address| lines += &format!("address={}\n", bits(*width, *address, *width)));
+    lines
+}
+
 /// Tables with discards, by both kinds, with 1 to W + 1 levels and the most, asked at all addresses: hop=65535 is
 /// printed where the longest entry discards, and nowhere else, and behind each hop the length of that entry.
 fn discarding(vectors: &mut Vectors) {
     for made in discards() {
-        let entries: String =
-            (0..made.hop.len()).map(|i| format!("bits={}\nhop={}\n", made.entry(i), made.hop[i])).collect();
-        let all = 0..1u32 << made.width;
-        let asked: String = all.clone().map(|a| format!("address={}\n", bits(made.width, a, made.width))).collect();
-        let tail = format!("entries={}\n{entries}queries={}\n{asked}", made.hop.len(), all.len());
-        let discarded = all.clone().filter(|address| made.answer(*address).0 == DISCARD).count();
-        let matched: Vec<String> = all.map(|address| made.answer(address).1.to_string()).collect();
+        let all: Vec<u32> = (0..1 << made.width).collect();
+        let discarded = all.iter().filter(|address| made.answer(**address).0 == DISCARD).count();
+        let matched: Vec<String> = all.iter().map(|address| made.answer(*address).1.to_string()).collect();
         for (kind, levels) in (1..=made.width + 1).chain([31, 32]).flat_map(|levels| [("fst", levels), ("vst", levels)])
         {
-            let head = format!("width={}\nkind={kind}\nlevels={levels}\nlinks={}\n", made.width, made.links);
-            let report = lent_case(vectors, &format!("{head}{tail}"));
+            let report = lent_case(vectors, &table_text(&made, kind, levels, &all));
             assert!(discarded > 0 && report.matches("hop=65535\n").count() == discarded, "{report}");
             assert!(values(&report, "length") == matched, "{report}");
             vectors.hit("hop=65535 printed");
@@ -480,11 +506,13 @@ pub fn write(top: &str) {
     order(&mut vectors, &mut random);
     faults(&mut vectors, &mut random);
     discarding(&mut vectors);
+    linked::hops(&mut vectors);
+    linked::places(&mut vectors, &mut random);
     lent(&mut vectors);
     levels(&mut vectors);
     shown(&mut vectors, top);
     text(&mut vectors, longest(["99999", "fst", "99999"]).as_bytes());
     text(&mut vectors, longest(["32", "fst", "32"]).as_bytes());
     write_tablet(top);
-    vectors.write(top, "sheet_cases", WANTED);
+    vectors.write(top, "sheet_cases", WANTED, &["text"]);
 }

@@ -1,9 +1,11 @@
 //! The cases of the crate `table`: its check, zones and shared lengths. A `table` line sets the table of
 //! the `zone` lines below it.
 
+mod linked;
+
 use super::{
-    discards, eight, full, lengths_line, of, outcome, over, refused, rising, table_line, with_lengths, Rising, Vectors,
-    PLACES,
+    discards, eight, full, lengths_line, links, of, outcome, over, refused, rising, table_line, with_lengths, Rising,
+    Vectors, PLACES,
 };
 use crate::random::{cut, Random};
 use crate::table::{shared_length, Table, LINKS};
@@ -38,12 +40,19 @@ const WANTED: &[&str] = &[
     "damage hop 0",
     "damage entry twice",
     "damage entries exchanged",
+    "damage too few links",
 ];
 
-fn table(vectors: &mut Vectors, table: &Table) {
-    let answer = table.check();
+/// The check of the table that a line gives.
+fn checked(vectors: &mut Vectors, line: String, made: &Table) {
+    let answer = made.check();
     vectors.outcome("check", &answer);
-    vectors.case(table_line(table), outcome(answer));
+    links::count_table(vectors, "check", made, answer);
+    vectors.case(line, outcome(answer));
+}
+
+fn table(vectors: &mut Vectors, table: &Table) {
+    checked(vectors, table_line(table), table);
 }
 
 /// A zone of the table that the last `table` line gave: index and count or the refusal, then the part
@@ -51,6 +60,7 @@ fn table(vectors: &mut Vectors, table: &Table) {
 fn zone(vectors: &mut Vectors, table: &Table, prefix: u32, length: u8) {
     let answer = table.zone(prefix, length);
     vectors.outcome("zone", &answer);
+    links::count_table(vectors, "zone", table, answer.map(|_| ()));
     let (span, part) = match answer {
         Ok((index, count)) => (format!("part {index} {count}"), &table.value[index..index + count]),
         Err(refusal) => (refused(refusal), &table.value[0..0]),
@@ -190,18 +200,14 @@ fn large(vectors: &mut Vectors, random: &mut Random) {
 /// The check of a table that its line makes.
 fn risen(vectors: &mut Vectors, rising: Rising) -> Table {
     let made = rising.table();
-    let answer = made.check();
-    vectors.outcome("check", &answer);
-    vectors.case(rising.line(), outcome(answer));
+    checked(vectors, rising.line(), &made);
     made
 }
 
 /// The check of the entries of the lines before, with lists of these lengths.
 fn relisted(vectors: &mut Vectors, made: &Table, lists: [usize; 3]) -> Table {
     let made = with_lengths(made, lists);
-    let answer = made.check();
-    vectors.outcome("check", &answer);
-    vectors.case(lengths_line(&made), outcome(answer));
+    checked(vectors, lengths_line(&made), &made);
     made
 }
 
@@ -263,10 +269,8 @@ fn faults(vectors: &mut Vectors) {
             for (i, (value, length, hop)) in entries.iter().enumerate() {
                 (made.value[i], made.length[i], made.hop[i]) = (*value, *length, *hop);
             }
-            let answer = made.check();
-            vectors.outcome("check", &answer);
             let line = format!("table width 32 links {LINKS} lists {n} {n} {n} entries {}:{given}", entries.len());
-            vectors.case(line, outcome(answer));
+            checked(vectors, line, &made);
         }
     }
     for (width, length) in
@@ -309,7 +313,7 @@ fn sound(vectors: &mut Vectors, random: &mut Random) {
     for _ in 0..330 {
         let width = width(random);
         let n = random.within(0, 14) as usize;
-        let made = random.table(width, n);
+        let made = links::any(random, width, n);
         table(vectors, &made);
         for _ in 0..3 {
             let (prefix, length) = asked(random, &made, width);
@@ -322,11 +326,23 @@ fn sound(vectors: &mut Vectors, random: &mut Random) {
 }
 
 /// How many kinds of fault `damaged` knows.
-pub(super) const FAULTS: u64 = 8;
+pub(super) const FAULTS: u64 = 9;
+
+/// One of the three lists made shorter or longer.
+fn unequal(random: &mut Random, made: &mut Table) {
+    match random.within(0, 5) {
+        0 => drop(made.value.pop()),
+        1 => drop(made.length.pop()),
+        2 => drop(made.hop.pop()),
+        3 => made.value.push(4294967295),
+        4 => made.length.push(0),
+        _ => made.hop.push(1),
+    }
+}
 
 /// One thing wrong with a good table of at least two entries, and its name.
 pub(super) fn damaged(random: &mut Random, made: &mut Table, kind: u64) -> &'static str {
-    let (width, n) = (made.width as u64, made.value.len() as u64);
+    let n = made.value.len() as u64;
     let i = random.within(0, n - 1) as usize;
     match kind {
         0 => {
@@ -334,31 +350,10 @@ pub(super) fn damaged(random: &mut Random, made: &mut Table, kind: u64) -> &'sta
             "damage width"
         }
         1 => {
-            match random.within(0, 5) {
-                0 => drop(made.value.pop()),
-                1 => drop(made.length.pop()),
-                2 => drop(made.hop.pop()),
-                3 => made.value.push(4294967295),
-                4 => made.length.push(0),
-                _ => made.hop.push(1),
-            }
+            unequal(random, made);
             "damage lists unequal"
         }
-        2 => {
-            made.length[i] = random.within(width + 1, 255) as u8;
-            "damage length above the width"
-        }
-        3 => {
-            made.value[i] |= 1 << random.within(width, 31);
-            "damage value too large"
-        }
-        4 => {
-            made.length[i] = random.within(0, width - 1) as u8;
-            let past = width - made.length[i] as u64;
-            made.value[i] =
-                cut(width as u32, made.value[i] as u64, made.length[i] as u32) | 1 << random.within(0, past - 1);
-            "damage bit past the length"
-        }
+        2..=4 => damaged_prefix(random, made, i, kind),
         5 => {
             made.hop[i] = 0;
             "damage hop 0"
@@ -369,11 +364,37 @@ pub(super) fn damaged(random: &mut Random, made: &mut Table, kind: u64) -> &'sta
             made.hop.insert(i, 7);
             "damage entry twice"
         }
-        _ => {
+        7 => {
             let i = i.max(1);
             made.value.swap(i - 1, i);
             made.length.swap(i - 1, i);
             "damage entries exchanged"
+        }
+        _ => {
+            made.hop[i] = made.hop[i].min(65534);
+            made.links = made.hop[i].saturating_sub(1);
+            "damage too few links"
+        }
+    }
+}
+
+fn damaged_prefix(random: &mut Random, made: &mut Table, i: usize, kind: u64) -> &'static str {
+    let width = made.width as u64;
+    match kind {
+        2 => {
+            made.length[i] = random.within(width + 1, 255) as u8;
+            "damage length above the width"
+        }
+        3 => {
+            made.value[i] |= 1 << random.within(width, 31);
+            "damage value too large"
+        }
+        _ => {
+            made.length[i] = random.within(0, width - 1) as u8;
+            let past = width - made.length[i] as u64;
+            made.value[i] =
+                cut(width as u32, made.value[i] as u64, made.length[i] as u32) | 1 << random.within(0, past - 1);
+            "damage bit past the length"
         }
     }
 }
@@ -386,7 +407,7 @@ fn broken(vectors: &mut Vectors, random: &mut Random) {
             width = width.min(31);
         }
         let n = random.within(6, 14) as usize;
-        let mut made = random.table(width, n);
+        let mut made = links::any(random, width, n);
         if made.value.len() < 2 {
             continue;
         }
@@ -451,9 +472,11 @@ pub fn write(top: &str) {
     large(&mut vectors, &mut random);
     most(&mut vectors);
     faults(&mut vectors);
+    linked::hops(&mut vectors);
+    linked::most(&mut vectors);
     sound(&mut vectors, &mut random);
     broken(&mut vectors, &mut random);
     pairs(&mut vectors, &mut random);
     one_bit(&mut vectors, &mut random);
-    vectors.write(top, "table_cases", WANTED);
+    vectors.write(top, "table_cases", WANTED, &["check", "zone"]);
 }

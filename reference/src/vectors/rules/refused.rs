@@ -48,7 +48,7 @@ pub fn ranges(vectors: &mut Vectors) {
 }
 
 /// How many kinds of fault `spoil` knows.
-const FAULTS: u64 = 14;
+const FAULTS: u64 = 15;
 
 /// One thing made wrong at a rule behind the first.
 fn spoil(random: &mut Random, rules: &mut Rules, fault: u64) {
@@ -69,6 +69,10 @@ fn spoil(random: &mut Random, rules: &mut Rules, fault: u64) {
         10 => exchange_dests(rules, i - 1, i),
         11 => exchange_sources(rules, i - 1, i),
         12 => exchange(rules, 0, i),
+        13 => {
+            rules.action[i] = rules.action[i].min(65534);
+            rules.links = rules.action[i] - 1;
+        }
         // Of two wrong rules the one with the lower index is reported, whatever its fault.
         _ => {
             let other = random.within(0, rules.count() as u64 - 1) as usize;
@@ -109,7 +113,7 @@ fn exchange(rules: &mut Rules, i: usize, j: usize) {
 
 /// Rules with one fault, or two. A list that is good in spite of it is built.
 pub fn faults(vectors: &mut Vectors, random: &mut Random) {
-    for turn in 0..140 {
+    for turn in 0..150 {
         let width = width(random);
         let mut made = random.rules(width, 12);
         if made.count() < 3 {
