@@ -1,20 +1,21 @@
-//! 01's own examples, line by line, 02's of a discard, matched lengths, and brute force against recurrence on random
-//! small tries.
+//! 01's own examples, line by line, 02's of a discard, matched lengths, links that the gateway hasn't got, and brute
+//! force against recurrence on random small tries.
 
 mod bitmaps;
+mod links;
 mod rules;
 
 use crate::build::{build, chosen, lay, Elements, Record, SCRATCH_ROW};
 use crate::choices::*;
 use crate::lookup::{lookup, walk, Found};
 use crate::random::Random;
-use crate::table::{shared_length, Refusal, Table};
+use crate::table::{shared_length, Refusal, Table, LINKS};
 use crate::tablet;
 use crate::trie::Trie;
 
-/// A table from bit strings and hops.
+/// A table from bit strings and hops, with the most links.
 fn table(width: u32, entries: &[(&str, u16)]) -> Table {
-    let mut table = Table { width, ..Table::default() };
+    let mut table = Table::empty(width, LINKS);
     for (bits, hop) in entries {
         let number = u64::from_str_radix(&format!("0{bits}"), 2).unwrap();
         table.value.push((number << (width - bits.len() as u32)) as u32);
@@ -55,7 +56,7 @@ fn number(bits: &str) -> u32 {
 
 #[test]
 fn whole_run() {
-    let input = "width=3\nkind=vst\nlevels=2\nentries=2\nbits=1\nhop=1\nbits=101\nhop=2\nqueries=3\naddress=101\naddress=111\naddress=011\n";
+    let input = "width=3\nkind=vst\nlevels=2\nlinks=2\nentries=2\nbits=1\nhop=1\nbits=101\nhop=2\nqueries=3\naddress=101\naddress=111\naddress=011\n";
     let output = concat!(
         "refusal=0\ndetail=0\nelements=6\nroot=1\naddress=101\nhop=2\nlength=3\nreads=2\n",
         "address=111\nhop=1\nlength=1\nreads=2\naddress=011\nhop=0\nlength=0\nreads=1\n"
@@ -142,7 +143,7 @@ fn chain_of_32_nodes() {
 /// 02: n to 65,536. All prefixes of 16 bits have 65,535 nodes in the 1-bit trie.
 #[test]
 fn most_entries() {
-    let mut most = Table { width: 17, value: vec![], length: vec![16; 65536], hop: vec![1; 65536] };
+    let mut most = Table { width: 17, links: LINKS, value: vec![], length: vec![16; 65536], hop: vec![1; 65536] };
     most.value = (0..65536).map(|i| 2 * i).collect();
     assert_eq!(most.check(), Ok(()));
     assert_eq!(chosen(Kind::Variable, 3, &most, &mut []).0, Err(Refusal { number: 6, detail: 65535 }));
@@ -170,7 +171,7 @@ fn discarded_corner() {
         );
         assert_eq!(lookup(&record, &rows, number("0010")), Ok(Found::NoRoute { reads: reads("0010") }));
     }
-    let text = "width=4\nkind=vst\nlevels=2\nentries=2\nbits=10\nhop=1\nbits=1010\nhop=65535\nqueries=2\naddress=1010\naddress=1011\n";
+    let text = "width=4\nkind=vst\nlevels=2\nlinks=1\nentries=2\nbits=10\nhop=1\nbits=1010\nhop=65535\nqueries=2\naddress=1010\naddress=1011\n";
     let report =
         "refusal=0\ndetail=0\nelements=8\nroot=2\naddress=1010\nhop=65535\nlength=4\nreads=2\naddress=1011\nhop=1\nlength=2\nreads=2\n";
     assert_eq!(tablet::run(text.as_bytes()), report);

@@ -2,7 +2,7 @@
 //! tables, rules and prefixes made with it.
 
 use crate::rules::{Rule, Rules};
-use crate::table::{Table, DISCARD};
+use crate::table::{fewest_links, Table, DISCARD, LINKS};
 
 pub struct Random {
     state: u64,
@@ -58,7 +58,26 @@ impl Random {
         }
     }
 
-    /// A well-formed table of at most n entries, half of them nested in others.
+    /// A number of links for entries or rules with these hops: three times in four the most, else just enough, too few, or none.
+    pub fn links(&mut self, hops: &[u16]) -> u16 {
+        match self.within(0, 11) {
+            0 => fewest_links(hops),
+            1 => self.too_few_links(hops),
+            2 => 0,
+            _ => LINKS,
+        }
+    }
+
+    /// One less than some hop that is no discard, so that this one lacks its link; 0 where there is none.
+    pub fn too_few_links(&mut self, hops: &[u16]) -> u16 {
+        let linked: Vec<u16> = hops.iter().copied().filter(|hop| (1..DISCARD).contains(hop)).collect();
+        if linked.is_empty() {
+            return 0;
+        }
+        self.of(&linked) - 1
+    }
+
+    /// A well-formed table of at most n entries, half of them nested in others, with the most links.
     pub fn table(&mut self, width: u32, n: usize) -> Table {
         let mut prefixes: Vec<(u32, u8)> = vec![];
         for _ in 0..n {
@@ -73,7 +92,7 @@ impl Random {
         }
         prefixes.sort();
         prefixes.dedup();
-        let mut table = Table { width, ..Table::default() };
+        let mut table = Table::empty(width, LINKS);
         for (value, length) in prefixes {
             table.value.push(value);
             table.length.push(length);

@@ -6,7 +6,7 @@
 use crate::build::{lay, test_levels, Elements, Record, ELEMENTS, SCRATCH_ROW};
 use crate::choices::{choose, Choice, Kind, LEVELS};
 use crate::lookup::{self, walk, walk_in, Path};
-use crate::table::{bits, malformed, refuse, test_width, Refusal, Table, DISCARD};
+use crate::table::{bits, lacks_link, malformed, refuse, test_width, Refusal, Table, DISCARD, LINKS};
 use crate::trie::Trie;
 use std::collections::BTreeMap;
 
@@ -17,10 +17,12 @@ pub const TRIE_ROW: usize = 5;
 /// No more source tries are visited: at most so many destinations begin one address.
 pub const VISITS: usize = 33;
 
-/// Five lists, of equal length where the rules are good, and the width of both fields.
-#[derive(Clone, PartialEq, Eq, Debug, Default)]
+/// Five lists, of equal length where the rules are good, the width of both fields, and the number of links that the caller
+/// states (02, [7]). There is no default, as there is none of a table.
+#[derive(Clone, PartialEq, Eq, Debug)]
 pub struct Rules {
     pub width: u32,
+    pub links: u16,
     pub dest_value: Vec<u32>,
     pub dest_length: Vec<u8>,
     pub source_value: Vec<u32>,
@@ -32,15 +34,22 @@ pub struct Rules {
 pub type Rule = (u32, u8, u32, u8, u16);
 
 impl Rules {
+    /// These rules in a gateway with the most links, where any action but 0 is accepted.
     pub fn of(width: u32, rules: &[Rule]) -> Rules {
         Rules {
             width,
+            links: LINKS,
             dest_value: rules.iter().map(|rule| rule.0).collect(),
             dest_length: rules.iter().map(|rule| rule.1).collect(),
             source_value: rules.iter().map(|rule| rule.2).collect(),
             source_length: rules.iter().map(|rule| rule.3).collect(),
             action: rules.iter().map(|rule| rule.4).collect(),
         }
+    }
+
+    /// The same rules in a gateway with another number of links.
+    pub fn with_links(&self, links: u16) -> Rules {
+        Rules { links, ..self.clone() }
     }
 
     pub fn count(&self) -> usize {
@@ -98,7 +107,8 @@ impl Rules {
         for i in 0..self.count() {
             let bad_dest = malformed(self.width, self.dest_value[i], self.dest_length[i]);
             let bad_source = malformed(self.width, self.source_value[i], self.source_length[i]);
-            if bad_dest || bad_source || self.action[i] == 0 {
+            let bad_action = self.action[i] == 0 || lacks_link(self.action[i], self.links);
+            if bad_dest || bad_source || bad_action {
                 return refuse(4, i as u64);
             }
             if i > 0 && self.order(i) <= self.order(i - 1) {
@@ -123,11 +133,11 @@ impl Rules {
         groups
     }
 
-    /// The table of each trie: first the destinations, with the numbers of the source tries for hops, then the sources of each
-    /// destination with their actions.
+    /// The table of each trie: first the destinations, with the numbers of the source tries for hops, which are no hops of links
+    /// and need none (02, [7]), then the sources of each destination with their actions.
     pub fn tables(&self) -> Vec<Table> {
         let groups = self.groups();
-        let mut dests = Table { width: self.width, ..Table::default() };
+        let mut dests = Table::empty(self.width, LINKS);
         let mut tables = vec![];
         for ((value, length), rules) in groups {
             dests.value.push(value);
@@ -135,6 +145,7 @@ impl Rules {
             dests.hop.push(dests.value.len() as u16);
             tables.push(Table {
                 width: self.width,
+                links: self.links,
                 value: rules.iter().map(|i| self.source_value[*i]).collect(),
                 length: rules.iter().map(|i| self.source_length[*i]).collect(),
                 hop: rules.iter().map(|i| self.action[*i]).collect(),

@@ -9,6 +9,8 @@ pub const WIDTHS: u32 = 32;
 pub const ENTRIES: usize = 65536;
 /// Hop 65,535 means discard (02, [4]).
 pub const DISCARD: u16 = 65535;
+/// The number of links is 0 to 65,535 (02, [7]). With the most any hop but 0 is accepted.
+pub const LINKS: u16 = 65535;
 
 /// A refusal by number with its detail (01, "Refusals, in order of test").
 #[derive(Clone, Copy, PartialEq, Eq, Debug)]
@@ -21,10 +23,12 @@ pub fn refuse<T>(number: u32, detail: u64) -> Result<T, Refusal> {
     Err(Refusal { number, detail })
 }
 
-/// Three lists, of equal length in a good table, and the width.
-#[derive(Clone, PartialEq, Eq, Debug, Default)]
+/// Three lists, of equal length in a good table, the width, and the number of links that the caller states (02, [7]).
+/// There is no default: with 0 links nearly every table is refused.
+#[derive(Clone, PartialEq, Eq, Debug)]
 pub struct Table {
     pub width: u32,
+    pub links: u16,
     pub value: Vec<u32>,
     pub length: Vec<u8>,
     pub hop: Vec<u16>,
@@ -36,6 +40,16 @@ pub fn bits(width: u32, number: u32, count: u32) -> String {
 }
 
 impl Table {
+    /// A table without entries.
+    pub fn empty(width: u32, links: u16) -> Table {
+        Table { width, links, value: vec![], length: vec![], hop: vec![] }
+    }
+
+    /// The same entries in a gateway with another number of links.
+    pub fn with_links(&self, links: u16) -> Table {
+        Table { links, ..self.clone() }
+    }
+
     /// The entry's own bit string. Only for entries that passed test 4.
     pub fn entry(&self, i: usize) -> String {
         bits(self.width, self.value[i], self.length[i] as u32)
@@ -69,7 +83,8 @@ impl Table {
     /// Tests 4 and 5 go entry by entry, 4 first at each; the lowest index is reported.
     pub fn test_entries(&self) -> Result<(), Refusal> {
         for i in 0..self.value.len() {
-            if malformed(self.width, self.value[i], self.length[i]) || self.hop[i] == 0 {
+            let bad_hop = self.hop[i] == 0 || lacks_link(self.hop[i], self.links);
+            if malformed(self.width, self.value[i], self.length[i]) || bad_hop {
                 return refuse(4, i as u64);
             }
             if i > 0 && !self.above(i, self.value[i - 1], self.length[i - 1]) {
@@ -131,6 +146,17 @@ pub fn test_width(width: u32) -> Result<(), Refusal> {
 /// Test 4 but for the hop: length above W, value not below 2^W, or a bit set past the length.
 pub fn malformed(width: u32, value: u32, length: u8) -> bool {
     length as u32 > width || value as u64 >= 1 << width || bits(width, value, width)[length as usize..].contains('1')
+}
+
+/// Test 4's clause of 02, [7], for an entry or a rule: a hop above the number of links and below 65,535. A discard needs no
+/// link.
+pub fn lacks_link(hop: u16, links: u16) -> bool {
+    hop > links && hop < DISCARD
+}
+
+/// The fewest links with which none of these hops lacks its link: the largest that is no discard, else 0.
+pub fn fewest_links(hops: &[u16]) -> u16 {
+    hops.iter().copied().filter(|hop| *hop != DISCARD).max().unwrap_or(0)
 }
 
 /// The number of leading bits that two prefixes both have. Tests 1, then 10.

@@ -18,6 +18,7 @@ struct Sheet {
     width: u32,
     kind: Kind,
     levels: u32,
+    links: u16,
     bits: Vec<String>,
     hops: Vec<u16>,
     addresses: Vec<String>,
@@ -57,7 +58,8 @@ fn count(text: &str) -> Option<u32> {
     number(text).filter(|n| *n <= COUNT)
 }
 
-fn hop(text: &str) -> Option<u16> {
+/// A hop, or the number of links (02, [7]): above 65,535 is 11.
+fn at_most_65535(text: &str) -> Option<u16> {
     number(text).filter(|n| *n <= 65535).map(|n| n as u16)
 }
 
@@ -79,10 +81,11 @@ fn parse(text: &[u8]) -> Result<Sheet, Refusal> {
     let width = lines.value("width", number)?;
     let kind = lines.value("kind", kind)?;
     let levels = lines.value("levels", number)?;
+    let links = lines.value("links", at_most_65535)?;
     let (mut bits, mut hops, mut addresses) = (vec![], vec![], vec![]);
     for _ in 0..lines.value("entries", count)? {
         bits.push(lines.value("bits", |t| binary(t, 0))?);
-        hops.push(lines.value("hop", hop)?);
+        hops.push(lines.value("hop", at_most_65535)?);
     }
     for _ in 0..lines.value("queries", count)? {
         addresses.push(lines.value("address", |t| binary(t, 1))?);
@@ -90,7 +93,7 @@ fn parse(text: &[u8]) -> Result<Sheet, Refusal> {
     if !lines.rest.is_empty() {
         return refuse(11, lines.line);
     }
-    Ok(Sheet { width, kind, levels, bits, hops, addresses })
+    Ok(Sheet { width, kind, levels, links, bits, hops, addresses })
 }
 
 /// The number that a string of binary digits writes.
@@ -101,7 +104,7 @@ fn read_bits(bits: &str) -> u64 {
 /// The entries as a table. An entry longer than the width has no W-bit value: its length alone has
 /// test 4 refuse it. (A width that is no width is refused before any value is looked at.)
 fn table(sheet: &Sheet) -> Table {
-    let mut table = Table { width: sheet.width, ..Table::default() };
+    let mut table = Table::empty(sheet.width, sheet.links);
     for (bits, hop) in sheet.bits.iter().zip(&sheet.hops) {
         let short = bits.len() as u32 <= sheet.width && sheet.width <= 32;
         let value = if short { read_bits(bits) << (sheet.width - bits.len() as u32) } else { 0 };

@@ -5,6 +5,7 @@
 mod bitmaps;
 mod builds;
 mod choosers;
+mod links;
 mod rules;
 mod sheets;
 mod tables;
@@ -12,12 +13,14 @@ mod tables;
 use crate::choices::LEVELS;
 use crate::lookup::Found;
 use crate::random::{cut, Random};
-use crate::table::{Refusal, Table, DISCARD};
+use crate::table::{Refusal, Table, DISCARD, LINKS};
 use std::collections::BTreeMap;
 use std::path::Path;
 
 /// Everything that a vector file must hit is hit at least this often.
 const HITS: usize = 10;
+/// A program's page has so many bytes, and its input must not fill it.
+const MEBIBYTE: usize = 1 << 20;
 
 /// One program's cases: what it reads, what it must write, and how often each thing was hit.
 #[derive(Default)]
@@ -53,8 +56,9 @@ impl Vectors {
         }
     }
 
-    /// Writes `stdin` and `stdout` of a program, which must be there, and tells on standard error what was hit.
-    fn write(&self, top: &str, program: &str, wanted: &[&str]) {
+    /// Writes `stdin` and `stdout` of a program, which must be there, and tells on standard error what was hit. Of each of these
+    /// calls all is wanted that an answer can show of links.
+    fn write(&self, top: &str, program: &str, wanted: &[&str], calls: &[&str]) {
         let folder = format!("{top}/crates/{program}");
         let mut input = format!("cases {}\n", self.cases).into_bytes();
         input.extend(&self.input);
@@ -62,22 +66,24 @@ impl Vectors {
         for (what, times) in &self.hits {
             eprintln!("  {what}: {times}");
         }
-        for what in wanted {
-            let times = self.hits.get(*what).copied().unwrap_or(0);
+        let of_links = calls.iter().flat_map(|call| links::SHOWN.map(|what| format!("{call} {what}")));
+        for what in wanted.iter().map(|what| what.to_string()).chain(of_links) {
+            let times = self.hits.get(&what).copied().unwrap_or(0);
             assert!(times >= HITS, "{program}: {what} is hit only {times} times");
         }
+        assert!(input.len() < MEBIBYTE, "{program}: its input is too long");
         assert!(Path::new(&folder).is_dir(), "there is no {folder}");
         std::fs::write(format!("{folder}/stdin"), &input).expect("stdin can be written");
         std::fs::write(format!("{folder}/stdout"), &self.output).expect("stdout can be written");
     }
 }
 
-/// A table's line: its width, the lengths of its lists, and its entries as value/length>hop, as many as
+/// A table's line: its width and number of links, the lengths of its lists, and its entries as value/length>hop, as many as
 /// the longest list has; past a list's end 0 is written.
 fn table_line(table: &Table) -> String {
     let (v, l, h) = (table.value.len(), table.length.len(), table.hop.len());
     let n = v.max(l).max(h);
-    let mut line = format!("table width {} lists {v} {l} {h} entries {n}:", table.width);
+    let mut line = format!("table width {} links {} lists {v} {l} {h} entries {n}:", table.width, table.links);
     for i in 0..n {
         let value = table.value.get(i).copied().unwrap_or(0);
         let length = table.length.get(i).copied().unwrap_or(0);
@@ -95,17 +101,24 @@ fn marks<T: Copy + Into<u32>>(list: &[T], from: u32, mark: u32) -> usize {
 /// The programs' table lists have no more places.
 const PLACES: usize = 65_600;
 
-/// A `rising` line has its program make the table: a width, a number of entries and the length of each.
+/// A `rising` line has its program make the table: a width, a number of links, a number of entries and the length of each.
 #[derive(Clone, Copy)]
 struct Rising {
     width: u32,
+    links: u16,
     entries: usize,
     length: u8,
 }
 
+/// A table that its line makes, with the most links.
+fn rising(width: u32, entries: usize, length: u8) -> Rising {
+    Rising { width, links: LINKS, entries, length }
+}
+
 impl Rising {
     fn line(self) -> String {
-        format!("rising width {} entries {} length {}", self.width, self.entries, self.length)
+        let Rising { width, links, entries, length } = self;
+        format!("rising width {width} links {links} entries {entries} length {length}")
     }
 
     /// Entry i has value i × 2^(W - length), held at the largest of 32 bits, that length, and hop 1 + i mod 65,535.
@@ -114,6 +127,7 @@ impl Rising {
         let indices = 0..self.entries as u64;
         Table {
             width: self.width,
+            links: self.links,
             value: indices.clone().map(|i| (i * step).min(u32::MAX as u64) as u32).collect(),
             length: vec![self.length; self.entries],
             hop: indices.map(|i| (1 + i % 65535) as u16).collect(),
@@ -122,14 +136,16 @@ impl Rising {
 }
 
 /// A `table` line that gives no entry: those of the lines before stay, and the lists have these lengths.
-fn lengths_line(width: u32, [values, lengths, hops]: [usize; 3]) -> String {
-    format!("table width {width} lists {values} {lengths} {hops} entries 0:")
+fn lengths_line(table: &Table) -> String {
+    let (values, lengths, hops) = (table.value.len(), table.length.len(), table.hop.len());
+    format!("table width {} links {} lists {values} {lengths} {hops} entries 0:", table.width, table.links)
 }
 
 /// The table of such a line. The entries before were more than the longest list has.
 fn with_lengths(table: &Table, [values, lengths, hops]: [usize; 3]) -> Table {
     Table {
         width: table.width,
+        links: table.links,
         value: table.value[..values].to_vec(),
         length: table.length[..lengths].to_vec(),
         hop: table.hop[..hops].to_vec(),
@@ -139,7 +155,7 @@ fn with_lengths(table: &Table, [values, lengths, hops]: [usize; 3]) -> Table {
 /// What two `rising` lines leave: the entries of the second, and behind them those of the first.
 fn over(first: Rising, second: Rising) -> Table {
     let (mut table, front) = (first.table(), second.table());
-    table.width = front.width;
+    (table.width, table.links) = (front.width, front.links);
     table.value[..front.value.len()].copy_from_slice(&front.value);
     table.length[..front.length.len()].copy_from_slice(&front.length);
     table.hop[..front.hop.len()].copy_from_slice(&front.hop);
@@ -206,10 +222,11 @@ fn outcome(answer: Result<(), Refusal>) -> String {
     answer.map_or_else(refused, |()| "accepted".to_string())
 }
 
-/// A table from its entries (value, length, hop).
+/// A table from its entries (value, length, hop), with the most links.
 fn of(width: u32, entries: &[(u32, u8, u16)]) -> Table {
     Table {
         width,
+        links: LINKS,
         value: entries.iter().map(|e| e.0).collect(),
         length: entries.iter().map(|e| e.1).collect(),
         hop: entries.iter().map(|e| e.2).collect(),

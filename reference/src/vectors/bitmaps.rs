@@ -8,10 +8,11 @@
 //! a list longer than the program's room or than the rows or hops that it gives, is a bad line and changes nothing.
 
 mod harmed;
+mod linked;
 
 use super::choosers::SCRATCH;
 use super::tables::{damaged, width, FAULTS};
-use super::{answered, discards, eight, marks, of, outcome, swept, table_line, Rising, Vectors, PLACES};
+use super::{answered, discards, eight, links, marks, of, outcome, rising, swept, table_line, Rising, Vectors, PLACES};
 use crate::bitmap::{build, lookup, nodes, walk, Bitmap, Damage, Supernodes, NODE_ROW, STRIDE};
 use crate::lookup::Found;
 use crate::random::Random;
@@ -102,6 +103,7 @@ fn built(vectors: &mut Vectors, table: &Table, lent: Lent) -> Left {
     };
     let (answer, record) = build(table, &mut scratch, &mut rows);
     vectors.outcome("bitmap", &answer);
+    links::count_table(vectors, "bitmap", table, answer);
     if answer.is_err_and(|refusal| refusal.number == 7) {
         let short = needed(table).rows[0] > rows.shortest();
         vectors.hit(if short { "refused for supernode rows" } else { "refused for hop rows" });
@@ -380,12 +382,12 @@ fn dense(vectors: &mut Vectors) {
     }
 }
 
-/// Random small tables, with all addresses.
+/// Random small tables, with all addresses. With too few links they are refused.
 fn small(vectors: &mut Vectors, random: &mut Random) {
-    for turn in 0..640 {
+    for turn in 0..768 {
         let width = 1 + turn % 8;
         let n = random.within(0, 14) as usize;
-        let made = random.table(width, n);
+        let made = links::any(random, width, n);
         table(vectors, &made);
         let mut lent = needed(&made);
         for length in lent.rows.iter_mut().chain([&mut lent.words, &mut lent.hops]) {
@@ -393,18 +395,23 @@ fn small(vectors: &mut Vectors, random: &mut Random) {
         }
         let left = built(vectors, &made, lent);
         print(vectors, &left);
-        sweep_all(vectors, &made, &left);
+        if left.record.width > 0 {
+            sweep_all(vectors, &made, &left);
+        }
     }
 }
 
 /// Wider tables: addresses at and around the entries.
 fn wide(vectors: &mut Vectors, random: &mut Random) {
-    for _ in 0..110 {
+    for _ in 0..132 {
         let width = random.within(9, 32) as u32;
         let n = random.within(1, 14) as usize;
-        let made = random.table(width, n);
+        let made = links::any(random, width, n);
         table(vectors, &made);
         let left = built(vectors, &made, needed(&made));
+        if left.record.width == 0 {
+            continue;
+        }
         if random.one_in(4) {
             print(vectors, &left);
         }
@@ -435,7 +442,7 @@ fn large(vectors: &mut Vectors, random: &mut Random) {
         built(vectors, &made, Lent { hops: 4095, ..need });
         built(vectors, &made, need);
     }
-    let many = risen(vectors, Rising { width: 13, entries: 4097, length: 13 });
+    let many = risen(vectors, rising(13, 4097, 13));
     let left = built(vectors, &many, needed(&many));
     for address in [0, 4095, 4096, 4097, 8191, 8192] {
         look(vectors, &left, address);
@@ -445,7 +452,6 @@ fn large(vectors: &mut Vectors, random: &mut Random) {
 /// The most entries that a table has, and one more. Those of 19 bits that share their first 3 have few enough supernodes for the
 /// program's lists, those of 16 bits too many.
 fn most(vectors: &mut Vectors) {
-    let rising = |width, entries, length| Rising { width, entries, length };
     let made = risen(vectors, rising(32, 65536, 19));
     let need = needed(&made);
     let [a, b, c, d] = need.rows;
@@ -531,12 +537,12 @@ fn bad(vectors: &mut Vectors) {
         format!("bitmap scratch 56 rows 3 3 {} 3 hops 8", ROWS + 1),
         format!("bitmap scratch 56 rows 3 3 3 {} hops 8", ROWS + 1),
         format!("bitmap scratch 56 rows 3 3 3 3 hops {}", HOPS + 1),
-        format!("table width 7 lists 0 0 0 entries {}: 0/1>1", PLACES + 1),
-        format!("rising width 7 entries {} length 7", PLACES + 1),
-        "rising width 7 entries 99999999999999999999 length 7".to_string(),
-        "risings width 7 entries 8 length 7".to_string(),
-        "table width 7 lists 2 1 1 entries 1: 0/1>1".to_string(),
-        "table width 7 lists 1 1 2 entries 1: 0/1>1".to_string(),
+        format!("table width 7 links 0 lists 0 0 0 entries {}: 0/1>1", PLACES + 1),
+        format!("rising width 7 links 0 entries {} length 7", PLACES + 1),
+        "rising width 7 links 0 entries 99999999999999999999 length 7".to_string(),
+        "risings width 7 links 0 entries 8 length 7".to_string(),
+        "table width 7 links 0 lists 2 1 1 entries 1: 0/1>1".to_string(),
+        "table width 7 links 0 lists 1 1 2 entries 1: 0/1>1".to_string(),
         format!("{record} 2 1 1 1 1 rows 1: 1/0/0/0 hops 1: 5"),
         format!("{record} 1 2 1 1 1 rows 1: 1/0/0/0 hops 1: 5"),
         format!("{record} 1 1 2 1 1 rows 1: 1/0/0/0 hops 1: 5"),
@@ -569,10 +575,12 @@ pub fn write(top: &str) {
     wide(&mut vectors, &mut random);
     large(&mut vectors, &mut random);
     most(&mut vectors);
+    linked::hops(&mut vectors);
+    linked::most(&mut vectors);
     refusals(&mut vectors, &mut random);
     harmed::examples(&mut vectors);
     harmed::harmed(&mut vectors, &mut random);
     harmed::noise(&mut vectors, &mut random);
     bad(&mut vectors);
-    vectors.write(top, "bitmap_cases", WANTED);
+    vectors.write(top, "bitmap_cases", WANTED, &["bitmap"]);
 }

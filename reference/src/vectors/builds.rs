@@ -9,11 +9,13 @@
 //! program's room or than the rows that it gives, is a bad line and changes nothing.
 
 mod lengths;
+mod linked;
 
 use super::choosers::{name, KINDS, SCRATCH};
 use super::tables::{damaged, width, FAULTS};
 use super::{
-    answered, any_levels, chain, deep, discards, eight, marks, of, outcome, swept, table_line, Rising, Vectors, PLACES,
+    answered, any_levels, chain, deep, discards, eight, links, marks, of, outcome, rising, swept, table_line, Rising,
+    Vectors, PLACES,
 };
 use crate::build::{build, Elements, Record, SCRATCH_ROW};
 use crate::choices::{Kind, LEVELS};
@@ -97,6 +99,7 @@ fn built(vectors: &mut Vectors, table: &Table, kind: Kind, levels: u32, lent: Le
         Elements { hop: vec![9; hop], length: vec![5; length], link: vec![9; link], stride: vec![9; stride] };
     let (answer, record) = build(kind, levels, table, &mut scratch, &mut rows);
     vectors.outcome(name(kind), &answer);
+    links::count_table(vectors, name(kind), table, answer);
     lengths::count_build(vectors, kind, answer, &rows);
     let zeros = scratch.iter().filter(|x| **x == 0).count();
     let strides: String = record.strides.iter().map(|s| format!(" {s}")).collect();
@@ -331,13 +334,18 @@ fn loops(vectors: &mut Vectors) {
     }
 }
 
-/// Small tables with every k to 8 and one above, and all addresses; the rows of one k of each kind.
+/// Small tables with every k to 8 and one above, and all addresses; the rows of one k of each kind. With too few links one
+/// build of each kind is refused.
 fn small(vectors: &mut Vectors, random: &mut Random) {
-    for _ in 0..320 {
+    for _ in 0..384 {
         let width = if random.one_in(6) { random.within(5, 6) } else { random.within(1, 4) } as u32;
         let n = random.within(0, 8) as usize;
-        let made = random.table(width, n);
+        let made = links::any(random, width, n);
         table(vectors, &made);
+        if made.check().is_err() {
+            KINDS.into_iter().for_each(|kind| drop(built(vectors, &made, kind, 3, (nodes(&made), [64; 4]))));
+            continue;
+        }
         for kind in KINDS {
             let shown = random.within(1, width as u64) as u32;
             for levels in (1..=8).chain([random.within(9, 32) as u32]) {
@@ -356,10 +364,10 @@ fn small(vectors: &mut Vectors, random: &mut Random) {
 
 /// Wider tables: addresses at and around the entries.
 fn wide(vectors: &mut Vectors, random: &mut Random) {
-    for _ in 0..60 {
+    for _ in 0..72 {
         let width = random.within(7, 32) as u32;
         let n = random.within(1, 12) as usize;
-        let made = random.table(width, n);
+        let made = links::any(random, width, n);
         table(vectors, &made);
         for kind in KINDS {
             let levels = if random.one_in(2) { random.within(3, 8) } else { random.within(3, 32) } as u32;
@@ -392,7 +400,6 @@ fn wide(vectors: &mut Vectors, random: &mut Random) {
 
 /// Tables that their lines make: as many entries as scratch has rows for, and the most that a table has.
 fn most(vectors: &mut Vectors) {
-    let rising = |width, entries, length| Rising { width, entries, length };
     let made = risen(vectors, rising(14, 8192, 13));
     for kind in KINDS {
         for levels in [1, 4, 32] {
@@ -488,7 +495,8 @@ fn harm(random: &mut Random, left: &mut Left, kind: u64) {
             left.rows.link[i] = random.within(1, n) as u32;
             left.rows.stride[i] = random.within(1, 3) as u8;
         }
-        11 => left.rows.link[row] = random.within(0, row as u64) as u32,
+        // Backwards, and by one bit, so that often enough are left.
+        11 => (left.rows.link[row], left.rows.stride[row]) = (random.within(row.min(1) as u64, row as u64) as u32, 1),
         12 => left.rows.hop[i] = [0, 1, 65535][random.within(0, 2) as usize],
         13 => left.record.floor = [0, 65535, 77][random.within(0, 2) as usize],
         14 => left.record.width = [0, 33, 256, 4294967295, left.record.width + 1][random.within(0, 4) as usize],
@@ -605,12 +613,12 @@ fn bad(vectors: &mut Vectors) {
         format!("variable levels 2 scratch 720 lists 26 {} 26 26", ROOM + 1),
         format!("variable levels 2 scratch 720 lists 26 26 {} 26", ROOM + 1),
         format!("variable levels 2 scratch 720 lists 26 26 26 {}", ROOM + 1),
-        format!("table width 7 lists 0 0 0 entries {}: 0/1>1", PLACES + 1),
-        format!("rising width 7 entries {} length 7", PLACES + 1),
-        "rising width 7 entries 99999999999999999999 length 7".to_string(),
-        "risings width 7 entries 8 length 7".to_string(),
-        "table width 7 lists 2 1 1 entries 1: 0/1>1".to_string(),
-        "table width 7 lists 1 1 2 entries 1: 0/1>1".to_string(),
+        format!("table width 7 links 0 lists 0 0 0 entries {}: 0/1>1", PLACES + 1),
+        format!("rising width 7 links 0 entries {} length 7", PLACES + 1),
+        "rising width 7 links 0 entries 99999999999999999999 length 7".to_string(),
+        "risings width 7 links 0 entries 8 length 7".to_string(),
+        "table width 7 links 0 lists 2 1 1 entries 1: 0/1>1".to_string(),
+        "table width 7 links 0 lists 1 1 2 entries 1: 0/1>1".to_string(),
         format!("{record} 0 0 0 0 rows {}:", ROOM + 1),
         format!("{record} 1 0 0 0 rows 0:"),
         format!("{record} 0 1 0 0 rows 0:"),
@@ -642,10 +650,12 @@ pub fn write(top: &str) {
     small(&mut vectors, &mut random);
     wide(&mut vectors, &mut random);
     most(&mut vectors);
+    linked::hops(&mut vectors);
+    linked::most(&mut vectors);
     refusals(&mut vectors, &mut random);
     rooms(&mut vectors, &mut random);
     harmed(&mut vectors, &mut random);
     noise(&mut vectors, &mut random);
     bad(&mut vectors);
-    vectors.write(top, "build_cases", WANTED);
+    vectors.write(top, "build_cases", WANTED, &KINDS.map(name));
 }

@@ -3,10 +3,12 @@
 //! the program fills with sevens. The answer is the outcome, cost and strides, and how many zeros and how
 //! many sevens scratch then holds. Where the trie is small, the answer is that of brute force.
 
+mod linked;
+
 use super::tables::{damaged, width, FAULTS};
 use super::{
-    any_levels, chain, deep, discards, eight, full, lengths_line, of, outcome, over, table_line, with_lengths, Rising,
-    Vectors, PLACES,
+    any_levels, chain, deep, discards, eight, full, lengths_line, links, of, outcome, over, rising, table_line,
+    with_lengths, Rising, Vectors, PLACES,
 };
 use crate::build::{chosen, SCRATCH_ROW};
 use crate::choices::{
@@ -93,6 +95,7 @@ fn choose(vectors: &mut Vectors, table: &Table, kind: Kind, levels: u32, places:
     let mut scratch = vec![7; places];
     let (answer, cost, strides) = chosen(kind, levels, table, &mut scratch);
     vectors.outcome(name(kind), &answer);
+    links::count_table(vectors, name(kind), table, answer);
     if answer.is_ok() {
         let trie = Trie::of(table);
         if is_small(kind, &trie, levels) {
@@ -215,6 +218,8 @@ fn small(vectors: &mut Vectors, random: &mut Random) {
                 break (made, levels);
             }
         };
+        let drawn = random.links(&made.hop);
+        let made = made.with_links(drawn);
         table(vectors, &made);
         for kind in KINDS {
             choose(vectors, &made, kind, levels, enough(&made));
@@ -229,7 +234,7 @@ fn large(vectors: &mut Vectors, random: &mut Random) {
     for _ in 0..60 {
         let width = random.within(8, 32) as u32;
         let n = random.within(1, 40) as usize;
-        let made = random.table(width, n);
+        let made = links::any(random, width, n);
         table(vectors, &made);
         for kind in KINDS {
             choose(vectors, &made, kind, random.within(1, 8) as u32, enough(&made));
@@ -256,7 +261,6 @@ fn large(vectors: &mut Vectors, random: &mut Random) {
 /// Tables that their lines make: as many entries as scratch has rows for, all of 13 bits and below a chain of 19 nodes; one more than
 /// 01's limit before 02; and the most that a table has, whose nodes are counted before any scratch is asked for.
 fn most(vectors: &mut Vectors) {
-    let rising = |width, entries, length| Rising { width, entries, length };
     for (rising, levels) in [(rising(13, 8192, 13), 12), (rising(32, 8192, 32), 20), (rising(17, 4097, 15), 9)] {
         let made = risen(vectors, rising);
         for kind in KINDS {
@@ -279,7 +283,6 @@ fn most(vectors: &mut Vectors) {
 
 /// The most entries and more, with faults: lists of too many entries or of unequal lengths come before any entry's fault.
 fn faults(vectors: &mut Vectors) {
-    let rising = |width, entries, length| Rising { width, entries, length };
     for rising in [rising(16, 65537, 16), rising(32, 65536, 15), rising(33, 65537, 16), rising(16, PLACES, 16)] {
         let made = risen(vectors, rising);
         for kind in KINDS {
@@ -290,7 +293,7 @@ fn faults(vectors: &mut Vectors) {
     }
     for lists in [[65536; 3], [65537, 65536, 65536], [65536, 65537, 65536], [65536, 65536, 65537], [65537; 3]] {
         let made = with_lengths(&rising(16, PLACES, 16).table(), lists);
-        vectors.case(lengths_line(16, lists), "table".to_string());
+        vectors.case(lengths_line(&made), "table".to_string());
         for kind in KINDS {
             choose(vectors, &made, kind, 32, 0);
         }
@@ -300,9 +303,10 @@ fn faults(vectors: &mut Vectors) {
         let (first, second) = (rising(32, 65536, length), rising(32, 65535, 16));
         risen(vectors, first);
         risen(vectors, second);
-        vectors.case(lengths_line(32, [65536; 3]), "table".to_string());
+        let made = over(first, second);
+        vectors.case(lengths_line(&made), "table".to_string());
         for kind in KINDS {
-            choose(vectors, &over(first, second), kind, 32, SCRATCH);
+            choose(vectors, &made, kind, 32, SCRATCH);
         }
     }
 }
@@ -349,6 +353,8 @@ pub fn write(top: &str) {
     large(&mut vectors, &mut random);
     most(&mut vectors);
     faults(&mut vectors);
+    linked::hops(&mut vectors);
+    linked::most(&mut vectors);
     broken(&mut vectors, &mut random);
-    vectors.write(top, "choose_cases", WANTED);
+    vectors.write(top, "choose_cases", WANTED, &KINDS.map(name));
 }

@@ -1,9 +1,9 @@
 //! The cases of rules of two fields (02, [6]): builds and classifications. A line of the input is a case, and its first word
 //! says which; what stands between two numbers does not count.
 //!
-//! - `rules width W lists A B C D E rules N: d/l,s/m>a ..` sets the rules of the builds below it: the width, the lengths of the
-//!   five lists (destination values, their lengths, source values, their lengths, actions), how many rules follow, and of each its
-//!   five numbers in that order; past a list's end 0 is written. Its answer is `rules`.
+//! - `rules width W links G lists A B C D E rules N: d/l,s/m>a ..` sets the rules of the builds below it: the width, the number of
+//!   links, the lengths of the five lists (destination values, their lengths, source values, their lengths, actions), how many rules
+//!   follow, and of each its five numbers in that order; past a list's end 0 is written. Its answer is `rules`.
 //! - `fixed levels K scratch S lists H L N T list X`, or `variable ..`, builds: the level limit, the length of scratch (filled
 //!   with sevens), of the element lists hop, length, link and stride (the lengths filled with fives, the others with nines), and of
 //!   the list of tries, in numbers (filled with nines). The answer is the outcome; the destination's record: `width`, `levels`,
@@ -26,11 +26,12 @@
 //! of the list of tries. Before the first line there are no rules, a record of zeros and empty lists.
 
 mod harmed;
+mod linked;
 mod made;
 mod refused;
 
-use super::choosers::{name, SCRATCH};
-use super::{marks, outcome, Vectors, PLACES};
+use super::choosers::{name, KINDS, SCRATCH};
+use super::{links, marks, outcome, Vectors, PLACES};
 use crate::build::{Elements, Record, SCRATCH_ROW};
 use crate::choices::{choose, Kind};
 use crate::lookup::{self, walk};
@@ -38,7 +39,7 @@ use crate::random::Random;
 use crate::rules::{
     build_rules, classify, visit, visit_calling, Damage, Rule, RuleRecord, Rules, Verdict, TRIE_ROW, VISITS,
 };
-use crate::table::Refusal;
+use crate::table::{Refusal, LINKS};
 use crate::trie::Trie;
 
 /// The program's element lists have no more places.
@@ -141,7 +142,7 @@ fn rules_line(rules: &Rules) -> String {
     let lists = rules.lengths();
     let n = lists.into_iter().max().unwrap_or(0);
     let listed: String = lists.iter().map(|list| format!(" {list}")).collect();
-    let mut line = format!("rules width {} lists{listed} rules {n}:", rules.width);
+    let mut line = format!("rules width {} links {} lists{listed} rules {n}:", rules.width, rules.links);
     for i in 0..n {
         let value = |list: &[u32]| list.get(i).copied().unwrap_or(0);
         let length = |list: &[u8]| list.get(i).copied().unwrap_or(0);
@@ -182,6 +183,7 @@ fn count_build(
 ) {
     let name = name(kind);
     vectors.outcome(name, &answer);
+    links::count(vectors, name, (&rules.action, rules.links), answer, || rules.with_links(LINKS).check());
     match answer {
         Err(Refusal { number: 3, .. }) => {
             let lists = rules.lengths();
@@ -438,10 +440,12 @@ pub fn write(top: &str) {
     refused::faults(&mut vectors, &mut random);
     refused::rooms(&mut vectors, &mut random);
     refused::large(&mut vectors);
+    linked::actions(&mut vectors);
+    linked::many(&mut vectors);
     harmed::examples(&mut vectors);
     harmed::chains(&mut vectors);
     harmed::harmed(&mut vectors, &mut random);
     harmed::noise(&mut vectors, &mut random);
     refused::bad(&mut vectors);
-    vectors.write(top, "rule_cases", WANTED);
+    vectors.write(top, "rule_cases", WANTED, &KINDS.map(name));
 }

@@ -1,9 +1,11 @@
 //! The cases of the tablet's text. A case is the word `text` with the number of bytes, a line end, the bytes
 //! themselves and a line end; its answer is the whole report and a line `end`.
 
-use super::{any_levels, discards, Vectors};
+mod linked;
+
+use super::{any_levels, discards, links, Vectors};
 use crate::random::Random;
-use crate::table::{bits, DISCARD};
+use crate::table::{bits, Table, DISCARD, LINKS};
 use crate::tablet::{self, SCRATCH_ROWS};
 use std::collections::BTreeSet;
 
@@ -20,6 +22,7 @@ const WANTED: &[&str] = &[
     "bad width line",
     "bad kind line",
     "bad levels line",
+    "bad links line",
     "bad entries line",
     "bad bits line",
     "bad hop line",
@@ -29,12 +32,19 @@ const WANTED: &[&str] = &[
     "hop=65535 printed",
     "length=0 of the floor printed",
     "length=32 printed",
+    "no line of links",
+    "two lines of links",
+    "links before levels",
+    "links behind entries",
+    "end in the line of links",
+    "end behind the line of links",
 ];
 
 fn text(vectors: &mut Vectors, text: &[u8]) {
     let report = tablet::run(text);
     let refusal = report.lines().next().and_then(|l| l.strip_prefix("refusal=")).expect("a report begins so");
     vectors.hit(&format!("refusal {refusal}"));
+    linked::count(vectors, text, &report);
     let (hops, lengths) = (values(&report, "hop"), values(&report, "length"));
     if hops.iter().zip(&lengths).any(|(hop, length)| *hop != "0" && *length == "0") {
         vectors.hit("length=0 of the floor printed");
@@ -52,7 +62,7 @@ fn values<'a>(report: &'a str, key: &str) -> Vec<&'a str> {
     report.lines().filter_map(|line| line.strip_prefix(key)?.strip_prefix('=')).collect()
 }
 
-const WHOLE: &str = "width=3\nkind=vst\nlevels=2\nentries=2\nbits=1\nhop=1\nbits=101\nhop=2\nqueries=3\naddress=101\naddress=111\naddress=011\n";
+const WHOLE: &str = "width=3\nkind=vst\nlevels=2\nlinks=2\nentries=2\nbits=1\nhop=1\nbits=101\nhop=2\nqueries=3\naddress=101\naddress=111\naddress=011\n";
 
 /// A text as its lines, so that one of them can be changed.
 #[derive(Clone)]
@@ -89,14 +99,15 @@ struct Sizes {
     queries: usize,
 }
 
-/// A text of a sorted table, with addresses of the right number of digits.
+/// A text of a sorted table, one in four with a number of links from its own hops, and addresses of the right number of digits.
 fn draft(random: &mut Random, sizes: Sizes) -> Draft {
-    let table = random.table(sizes.width, sizes.entries);
+    let table = links::any(random, sizes.width, sizes.entries);
     let kind = if random.one_in(2) { "fst" } else { "vst" };
     let mut lines = vec![
         format!("width={}", sizes.width),
         format!("kind={kind}"),
         format!("levels={}", sizes.levels),
+        format!("links={}", table.links),
         format!("entries={}", table.value.len()),
     ];
     for i in 0..table.value.len() {
@@ -200,7 +211,7 @@ fn bad_values(key: &str) -> Vec<String> {
     };
     match key {
         "entries" | "queries" => values.extend(["65", "64000", "99999"].map(String::from)),
-        "hop" => values.extend(["65536", "65537", "99999"].map(String::from)),
+        "hop" | "links" => values.extend(["65536", "65537", "99999"].map(String::from)),
         _ => (),
     }
     values.push("1".repeat(1000));
@@ -208,7 +219,7 @@ fn bad_values(key: &str) -> Vec<String> {
 }
 
 fn malformed(vectors: &mut Vectors, random: &mut Random) {
-    for key in ["width", "kind", "levels", "entries", "bits", "hop", "queries", "address"] {
+    for key in ["width", "kind", "levels", "links", "entries", "bits", "hop", "queries", "address"] {
         for value in bad_values(key) {
             let mut made = any_draft(random);
             let at = made.with(key);
@@ -269,9 +280,9 @@ fn order(vectors: &mut Vectors, random: &mut Random) {
 fn faults(vectors: &mut Vectors, random: &mut Random) {
     for turn in 0..220 {
         let mut made = any_draft(random);
-        fault(random, &mut made, turn % 10);
+        fault(random, &mut made, turn % FAULTS);
         if random.one_in(3) {
-            let other = random.within(0, 9);
+            let other = random.within(0, FAULTS - 1);
             fault(random, &mut made, other);
         }
         text(vectors, &made.text());
@@ -280,7 +291,7 @@ fn faults(vectors: &mut Vectors, random: &mut Random) {
         for kind in ["fst", "vst"] {
             let text_of = |levels| {
                 let ones = "1".repeat(width);
-                format!("width={width}\nkind={kind}\nlevels={levels}\nentries=1\nbits={ones}\nhop=9\nqueries=2\naddress={ones}\naddress=0\n")
+                format!("width={width}\nkind={kind}\nlevels={levels}\nlinks=9\nentries=1\nbits={ones}\nhop=9\nqueries=2\naddress={ones}\naddress=0\n")
             };
             for levels in [1, 8, 32, 33] {
                 text(vectors, text_of(levels).as_bytes());
@@ -292,6 +303,9 @@ fn faults(vectors: &mut Vectors, random: &mut Random) {
         text(vectors, &made.text());
     }
 }
+
+/// How many kinds of fault `fault` knows.
+const FAULTS: u64 = 11;
 
 fn fault(random: &mut Random, made: &mut Draft, kind: u64) {
     let one_of = |random: &mut Random, lines: &[usize]| lines[random.within(0, lines.len() as u64 - 1) as usize];
@@ -323,14 +337,19 @@ fn fault(random: &mut Random, made: &mut Draft, kind: u64) {
             made.lines[at] = format!("address={}", "1".repeat(random.within(1, 32) as usize));
         }
         8 => made.lines[0] = format!("width={}", random.within(1, 32)),
+        9 => {
+            let numbers: Vec<u16> = hops.iter().map(|at| made.lines[*at]["hop=".len()..].parse().unwrap()).collect();
+            made.lines[3] = format!("links={}", random.too_few_links(&numbers));
+        }
         _ => made.lines[2] = "levels=1".to_string(),
     }
 }
 
-/// A text of these entries' bits, each with a hop of five digits, the first that of a discard, and these addresses.
+/// A text of these entries' bits, each with a hop of five digits, the first that of a discard, with the most links, and these
+/// addresses.
 fn text_of(head: [&str; 3], bits: &[String], addresses: &[String]) -> String {
     let [width, kind, levels] = head;
-    let mut lines = format!("width={width}\nkind={kind}\nlevels={levels}\nentries={}\n", bits.len());
+    let mut lines = format!("width={width}\nkind={kind}\nlevels={levels}\nlinks={LINKS}\nentries={}\n", bits.len());
     for (i, b) in bits.iter().enumerate() {
         lines += &format!("bits={b}\nhop={}\n", 65535 - i);
     }
@@ -403,20 +422,30 @@ fn levels(vectors: &mut Vectors) {
     }
 }
 
+/// The text of a table, an entry longer than the width included, and of these addresses.
+fn table_text(made: &Table, kind: &str, levels: u32, addresses: &[u32]) -> String {
+    let Table { width, links, .. } = made;
+    let mut lines = format!("width={width}\nkind={kind}\nlevels={levels}\nlinks={links}\nentries={}\n", made.hop.len());
+    for i in 0..made.hop.len() {
+        let length = made.length[i] as usize;
+        let entry = bits(*width, made.value[i], (length as u32).min(*width));
+        lines += &format!("bits={entry:0<length$}\nhop={}\n", made.hop[i]);
+    }
+    lines += &format!("queries={}\n", addresses.len());
+    addresses.iter().for_each(|address| lines += &format!("address={}\n", bits(*width, *address, *width)));
+    lines
+}
+
 /// Tables with discards, by both kinds, with 1 to W + 1 levels and the most, asked at all addresses: hop=65535 is
 /// printed where the longest entry discards, and nowhere else, and behind each hop the length of that entry.
 fn discarding(vectors: &mut Vectors) {
     for made in discards() {
-        let entries: String =
-            (0..made.hop.len()).map(|i| format!("bits={}\nhop={}\n", made.entry(i), made.hop[i])).collect();
-        let all = 0..1u32 << made.width;
-        let asked: String = all.clone().map(|a| format!("address={}\n", bits(made.width, a, made.width))).collect();
-        let tail = format!("entries={}\n{entries}queries={}\n{asked}", made.hop.len(), all.len());
-        let discarded = all.clone().filter(|address| made.answer(*address).0 == DISCARD).count();
-        let matched: Vec<String> = all.map(|address| made.answer(address).1.to_string()).collect();
+        let all: Vec<u32> = (0..1 << made.width).collect();
+        let discarded = all.iter().filter(|address| made.answer(**address).0 == DISCARD).count();
+        let matched: Vec<String> = all.iter().map(|address| made.answer(*address).1.to_string()).collect();
         for (kind, levels) in (1..=made.width + 1).chain([31, 32]).flat_map(|levels| [("fst", levels), ("vst", levels)])
         {
-            let report = lent_case(vectors, &format!("width={}\nkind={kind}\nlevels={levels}\n{tail}", made.width));
+            let report = lent_case(vectors, &table_text(&made, kind, levels, &all));
             assert!(discarded > 0 && report.matches("hop=65535\n").count() == discarded, "{report}");
             assert!(values(&report, "length") == matched, "{report}");
             vectors.hit("hop=65535 printed");
@@ -442,7 +471,7 @@ fn longest(head: [&str; 3]) -> String {
 /// level limit have two digits.
 fn shown(vectors: &mut Vectors, top: &str) {
     let accepted = longest(["32", "vst", "32"]);
-    assert!(accepted.len() == 5746 && tablet::run(accepted.as_bytes()).starts_with("refusal=0\n"));
+    assert!(accepted.len() == 5758 && tablet::run(accepted.as_bytes()).starts_with("refusal=0\n"));
     let there = std::fs::read(format!("{top}/examples/longest-accepted.txt")).expect("an example can be read");
     assert!(there == accepted.as_bytes(), "longest-accepted.txt is another text");
     let folder = std::fs::read_dir(format!("{top}/examples")).expect("examples/ can be read");
@@ -461,7 +490,7 @@ fn shown(vectors: &mut Vectors, top: &str) {
 fn write_tablet(top: &str) {
     let given = longest(["99999", "vst", "99999"]);
     let report = tablet::run(given.as_bytes());
-    assert!(given.len() == 5752 && report == "refusal=1\ndetail=0\n", "{report}");
+    assert!(given.len() == 5764 && report == "refusal=1\ndetail=0\n", "{report}");
     std::fs::write(format!("{top}/crates/tablet/stdin"), &given).expect("stdin can be written");
     std::fs::write(format!("{top}/crates/tablet/stdout"), &report).expect("stdout can be written");
 }
@@ -477,11 +506,13 @@ pub fn write(top: &str) {
     order(&mut vectors, &mut random);
     faults(&mut vectors, &mut random);
     discarding(&mut vectors);
+    linked::hops(&mut vectors);
+    linked::places(&mut vectors, &mut random);
     lent(&mut vectors);
     levels(&mut vectors);
     shown(&mut vectors, top);
     text(&mut vectors, longest(["99999", "fst", "99999"]).as_bytes());
     text(&mut vectors, longest(["32", "fst", "32"]).as_bytes());
     write_tablet(top);
-    vectors.write(top, "sheet_cases", WANTED);
+    vectors.write(top, "sheet_cases", WANTED, &["text"]);
 }

@@ -1,11 +1,14 @@
 //! The cases of the crate `table`: its check, zones and shared lengths. A `table` line sets the table of
 //! the `zone` lines below it.
 
+mod linked;
+
 use super::{
-    discards, eight, full, lengths_line, of, outcome, over, refused, table_line, with_lengths, Rising, Vectors, PLACES,
+    discards, eight, full, lengths_line, links, of, outcome, over, refused, rising, table_line, with_lengths, Rising,
+    Vectors, PLACES,
 };
 use crate::random::{cut, Random};
-use crate::table::{shared_length, Table};
+use crate::table::{shared_length, Table, LINKS};
 
 const WANTED: &[&str] = &[
     "check accepted",
@@ -37,12 +40,19 @@ const WANTED: &[&str] = &[
     "damage hop 0",
     "damage entry twice",
     "damage entries exchanged",
+    "damage too few links",
 ];
 
-fn table(vectors: &mut Vectors, table: &Table) {
-    let answer = table.check();
+/// The check of the table that a line gives.
+fn checked(vectors: &mut Vectors, line: String, made: &Table) {
+    let answer = made.check();
     vectors.outcome("check", &answer);
-    vectors.case(table_line(table), outcome(answer));
+    links::count_table(vectors, "check", made, answer);
+    vectors.case(line, outcome(answer));
+}
+
+fn table(vectors: &mut Vectors, table: &Table) {
+    checked(vectors, table_line(table), table);
 }
 
 /// A zone of the table that the last `table` line gave: index and count or the refusal, then the part
@@ -50,6 +60,7 @@ fn table(vectors: &mut Vectors, table: &Table) {
 fn zone(vectors: &mut Vectors, table: &Table, prefix: u32, length: u8) {
     let answer = table.zone(prefix, length);
     vectors.outcome("zone", &answer);
+    links::count_table(vectors, "zone", table, answer.map(|_| ()));
     let (span, part) = match answer {
         Ok((index, count)) => (format!("part {index} {count}"), &table.value[index..index + count]),
         Err(refusal) => (refused(refusal), &table.value[0..0]),
@@ -189,24 +200,20 @@ fn large(vectors: &mut Vectors, random: &mut Random) {
 /// The check of a table that its line makes.
 fn risen(vectors: &mut Vectors, rising: Rising) -> Table {
     let made = rising.table();
-    let answer = made.check();
-    vectors.outcome("check", &answer);
-    vectors.case(rising.line(), outcome(answer));
+    checked(vectors, rising.line(), &made);
     made
 }
 
 /// The check of the entries of the lines before, with lists of these lengths.
 fn relisted(vectors: &mut Vectors, made: &Table, lists: [usize; 3]) -> Table {
     let made = with_lengths(made, lists);
-    let answer = made.check();
-    vectors.outcome("check", &answer);
-    vectors.case(lengths_line(made.width, lists), outcome(answer));
+    checked(vectors, lengths_line(&made), &made);
     made
 }
 
 /// n at its limit: 65,536 entries are accepted, 65,537 are refused by 3, before any entry is looked at.
 fn most(vectors: &mut Vectors) {
-    let of_16 = |width, entries| Rising { width, entries, length: 16 };
+    let of_16 = |width, entries| rising(width, entries, 16);
     for entries in [4096, 4097, 65535, 65536, 65537, PLACES + 1, PLACES] {
         risen(vectors, of_16(16, entries));
     }
@@ -226,7 +233,7 @@ fn most(vectors: &mut Vectors) {
         zone(vectors, &all, prefix, length);
     }
     // The first half of the addresses of 17 bits: zones behind the last entry.
-    let half = risen(vectors, Rising { width: 17, entries: 65536, length: 17 });
+    let half = risen(vectors, rising(17, 65536, 17));
     for (prefix, length) in [(65535, 17), (65536, 17), (131071, 17), (65536, 1), (65534, 16)] {
         zone(vectors, &half, prefix, length);
     }
@@ -239,13 +246,13 @@ fn most(vectors: &mut Vectors) {
 
 /// Faults of one entry among the most: at the last index, at a middle one, at the first ones, and with an entry too many.
 fn faults(vectors: &mut Vectors) {
-    let rising = |entries, length| Rising { width: 32, entries, length };
+    let of_32 = |entries, length| rising(32, entries, length);
     // Values of 15 bits are too large from index 32,768 on; those of 17 or 20 bits lie below those of 16 that come before them.
     for (first, second) in [
-        (rising(65537, 15), rising(65535, 16)),
-        (rising(65537, 17), rising(65535, 16)),
-        (rising(65537, 20), rising(40000, 16)),
-        (rising(65537, 15), rising(40000, 16)),
+        (of_32(65537, 15), of_32(65535, 16)),
+        (of_32(65537, 17), of_32(65535, 16)),
+        (of_32(65537, 20), of_32(40000, 16)),
+        (of_32(65537, 15), of_32(40000, 16)),
     ] {
         risen(vectors, first);
         risen(vectors, second);
@@ -257,21 +264,19 @@ fn faults(vectors: &mut Vectors) {
     }
     for entries in [&[(1, 16, 1)][..], &[(0, 33, 1)], &[(0, 16, 0)], &[(0, 16, 65535)], &[(0, 16, 1), (0, 16, 2)]] {
         for n in [65536, 65537] {
-            let mut made = risen(vectors, rising(n, 16));
+            let mut made = risen(vectors, of_32(n, 16));
             let given: String = entries.iter().map(|(value, length, hop)| format!(" {value}/{length}>{hop}")).collect();
             for (i, (value, length, hop)) in entries.iter().enumerate() {
                 (made.value[i], made.length[i], made.hop[i]) = (*value, *length, *hop);
             }
-            let answer = made.check();
-            vectors.outcome("check", &answer);
-            let line = format!("table width 32 lists {n} {n} {n} entries {}:{given}", entries.len());
-            vectors.case(line, outcome(answer));
+            let line = format!("table width 32 links {LINKS} lists {n} {n} {n} entries {}:{given}", entries.len());
+            checked(vectors, line, &made);
         }
     }
     for (width, length) in
         [(0, 0), (33, 16), (4294967295, 0), (4294967295, 255), (16, 17), (15, 15), (32, 0), (1, 1), (20, 255)]
     {
-        risen(vectors, Rising { width, entries: 65536, length });
+        risen(vectors, rising(width, 65536, length));
     }
 }
 
@@ -308,7 +313,7 @@ fn sound(vectors: &mut Vectors, random: &mut Random) {
     for _ in 0..330 {
         let width = width(random);
         let n = random.within(0, 14) as usize;
-        let made = random.table(width, n);
+        let made = links::any(random, width, n);
         table(vectors, &made);
         for _ in 0..3 {
             let (prefix, length) = asked(random, &made, width);
@@ -321,11 +326,23 @@ fn sound(vectors: &mut Vectors, random: &mut Random) {
 }
 
 /// How many kinds of fault `damaged` knows.
-pub(super) const FAULTS: u64 = 8;
+pub(super) const FAULTS: u64 = 9;
+
+/// One of the three lists made shorter or longer.
+fn unequal(random: &mut Random, made: &mut Table) {
+    match random.within(0, 5) {
+        0 => drop(made.value.pop()),
+        1 => drop(made.length.pop()),
+        2 => drop(made.hop.pop()),
+        3 => made.value.push(4294967295),
+        4 => made.length.push(0),
+        _ => made.hop.push(1),
+    }
+}
 
 /// One thing wrong with a good table of at least two entries, and its name.
 pub(super) fn damaged(random: &mut Random, made: &mut Table, kind: u64) -> &'static str {
-    let (width, n) = (made.width as u64, made.value.len() as u64);
+    let n = made.value.len() as u64;
     let i = random.within(0, n - 1) as usize;
     match kind {
         0 => {
@@ -333,31 +350,10 @@ pub(super) fn damaged(random: &mut Random, made: &mut Table, kind: u64) -> &'sta
             "damage width"
         }
         1 => {
-            match random.within(0, 5) {
-                0 => drop(made.value.pop()),
-                1 => drop(made.length.pop()),
-                2 => drop(made.hop.pop()),
-                3 => made.value.push(4294967295),
-                4 => made.length.push(0),
-                _ => made.hop.push(1),
-            }
+            unequal(random, made);
             "damage lists unequal"
         }
-        2 => {
-            made.length[i] = random.within(width + 1, 255) as u8;
-            "damage length above the width"
-        }
-        3 => {
-            made.value[i] |= 1 << random.within(width, 31);
-            "damage value too large"
-        }
-        4 => {
-            made.length[i] = random.within(0, width - 1) as u8;
-            let past = width - made.length[i] as u64;
-            made.value[i] =
-                cut(width as u32, made.value[i] as u64, made.length[i] as u32) | 1 << random.within(0, past - 1);
-            "damage bit past the length"
-        }
+        2..=4 => damaged_prefix(random, made, i, kind),
         5 => {
             made.hop[i] = 0;
             "damage hop 0"
@@ -368,11 +364,37 @@ pub(super) fn damaged(random: &mut Random, made: &mut Table, kind: u64) -> &'sta
             made.hop.insert(i, 7);
             "damage entry twice"
         }
-        _ => {
+        7 => {
             let i = i.max(1);
             made.value.swap(i - 1, i);
             made.length.swap(i - 1, i);
             "damage entries exchanged"
+        }
+        _ => {
+            made.hop[i] = made.hop[i].min(65534);
+            made.links = made.hop[i].saturating_sub(1);
+            "damage too few links"
+        }
+    }
+}
+
+fn damaged_prefix(random: &mut Random, made: &mut Table, i: usize, kind: u64) -> &'static str {
+    let width = made.width as u64;
+    match kind {
+        2 => {
+            made.length[i] = random.within(width + 1, 255) as u8;
+            "damage length above the width"
+        }
+        3 => {
+            made.value[i] |= 1 << random.within(width, 31);
+            "damage value too large"
+        }
+        _ => {
+            made.length[i] = random.within(0, width - 1) as u8;
+            let past = width - made.length[i] as u64;
+            made.value[i] =
+                cut(width as u32, made.value[i] as u64, made.length[i] as u32) | 1 << random.within(0, past - 1);
+            "damage bit past the length"
         }
     }
 }
@@ -385,7 +407,7 @@ fn broken(vectors: &mut Vectors, random: &mut Random) {
             width = width.min(31);
         }
         let n = random.within(6, 14) as usize;
-        let mut made = random.table(width, n);
+        let mut made = links::any(random, width, n);
         if made.value.len() < 2 {
             continue;
         }
@@ -450,9 +472,11 @@ pub fn write(top: &str) {
     large(&mut vectors, &mut random);
     most(&mut vectors);
     faults(&mut vectors);
+    linked::hops(&mut vectors);
+    linked::most(&mut vectors);
     sound(&mut vectors, &mut random);
     broken(&mut vectors, &mut random);
     pairs(&mut vectors, &mut random);
     one_bit(&mut vectors, &mut random);
-    vectors.write(top, "table_cases", WANTED);
+    vectors.write(top, "table_cases", WANTED, &["check", "zone"]);
 }

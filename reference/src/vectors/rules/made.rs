@@ -7,6 +7,7 @@ use crate::random::{cut, Random};
 use crate::rules::{Rule, Rules, RULES};
 use crate::table::DISCARD;
 use crate::vectors::choosers::KINDS;
+use crate::vectors::links::any_rules;
 use crate::vectors::{any_levels, Vectors};
 
 /// A build in lists just long enough, its rows and all pairs of addresses.
@@ -171,12 +172,12 @@ fn rule((dest, source, action): ((u32, u8), (u32, u8), u16)) -> Rule {
     (dest.0, dest.1, source.0, source.1, action)
 }
 
-/// Random rules of widths 2 to 4, both kinds, with all pairs of addresses.
+/// Random rules of widths 2 to 4, both kinds, with all pairs of addresses. With too few links they are refused.
 pub fn small(vectors: &mut Vectors, random: &mut Random) {
-    for turn in 0..120 {
+    for turn in 0..144 {
         let width = [2, 3, 4, 4][turn % 4];
         let n = random.within(1, 14) as usize;
-        let made = random.rules(width, n);
+        let made = any_rules(random, width, n);
         rules(vectors, &made);
         for kind in KINDS {
             let levels = if random.one_in(8) { any_levels(random) } else { random.within(1, width as u64) as u32 };
@@ -185,6 +186,9 @@ pub fn small(vectors: &mut Vectors, random: &mut Random) {
                 *length += random.within(0, 6) as usize;
             }
             let left = built(vectors, &made, kind, levels, lent);
+            if left.record.dest.width == 0 {
+                continue;
+            }
             if random.one_in(2) {
                 print(vectors, &left);
             }
@@ -208,10 +212,10 @@ fn near(random: &mut Random, width: u32, value: u32, length: u8) -> u32 {
 
 /// Wider rules: addresses at and around both fields of them.
 pub fn wide(vectors: &mut Vectors, random: &mut Random) {
-    for _ in 0..36 {
+    for _ in 0..42 {
         let width = if random.one_in(4) { 32 } else { random.within(5, 31) as u32 };
         let n = random.within(1, 16) as usize;
-        let made = random.rules(width, n);
+        let made = any_rules(random, width, n);
         rules(vectors, &made);
         for kind in KINDS {
             let levels = random.within(6, 32) as u32;

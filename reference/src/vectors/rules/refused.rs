@@ -48,7 +48,7 @@ pub fn ranges(vectors: &mut Vectors) {
 }
 
 /// How many kinds of fault `spoil` knows.
-const FAULTS: u64 = 14;
+const FAULTS: u64 = 15;
 
 /// One thing made wrong at a rule behind the first.
 fn spoil(random: &mut Random, rules: &mut Rules, fault: u64) {
@@ -69,6 +69,10 @@ fn spoil(random: &mut Random, rules: &mut Rules, fault: u64) {
         10 => exchange_dests(rules, i - 1, i),
         11 => exchange_sources(rules, i - 1, i),
         12 => exchange(rules, 0, i),
+        13 => {
+            rules.action[i] = rules.action[i].min(65534);
+            rules.links = rules.action[i] - 1;
+        }
         // Of two wrong rules the one with the lower index is reported, whatever its fault.
         _ => {
             let other = random.within(0, rules.count() as u64 - 1) as usize;
@@ -109,7 +113,7 @@ fn exchange(rules: &mut Rules, i: usize, j: usize) {
 
 /// Rules with one fault, or two. A list that is good in spite of it is built.
 pub fn faults(vectors: &mut Vectors, random: &mut Random) {
-    for turn in 0..140 {
+    for turn in 0..150 {
         let width = width(random);
         let mut made = random.rules(width, 12);
         if made.count() < 3 {
@@ -219,19 +223,19 @@ pub fn bad(vectors: &mut Vectors) {
         "LOOK 1 14".to_string(),
         "14".to_string(),
         "fixes levels 1 scratch 1008 lists 44 44 44 44 list 15".to_string(),
-        "ruled width 4 lists 0 0 0 0 0 rules 0:".to_string(),
+        "ruled width 4 links 0 lists 0 0 0 0 0 rules 0:".to_string(),
         build(&format!("scratch {} lists 44 44 44 44 list 15", SCRATCH + 1)),
         build(&format!("scratch 1008 lists {} 44 44 44 list 15", ROOM + 1)),
         build(&format!("scratch 1008 lists 44 {} 44 44 list 15", ROOM + 1)),
         build(&format!("scratch 1008 lists 44 44 {} 44 list 15", ROOM + 1)),
         build(&format!("scratch 1008 lists 44 44 44 {} list 15", ROOM + 1)),
         build(&format!("scratch 1008 lists 44 44 44 44 list {}", LIST + 1)),
-        format!("rules width 4 lists 0 0 0 0 0 rules {}: 0/0,0/0>1", PLACES + 1),
-        "rules width 4 lists 2 1 1 1 1 rules 1: 0/0,0/0>1".to_string(),
-        "rules width 4 lists 1 2 1 1 1 rules 1: 0/0,0/0>1".to_string(),
-        "rules width 4 lists 1 1 2 1 1 rules 1: 0/0,0/0>1".to_string(),
-        "rules width 4 lists 1 1 1 2 1 rules 1: 0/0,0/0>1".to_string(),
-        "rules width 4 lists 1 1 1 1 2 rules 1: 0/0,0/0>1".to_string(),
+        format!("rules width 4 links 0 lists 0 0 0 0 0 rules {}: 0/0,0/0>1", PLACES + 1),
+        "rules width 4 links 0 lists 2 1 1 1 1 rules 1: 0/0,0/0>1".to_string(),
+        "rules width 4 links 0 lists 1 2 1 1 1 rules 1: 0/0,0/0>1".to_string(),
+        "rules width 4 links 0 lists 1 1 2 1 1 rules 1: 0/0,0/0>1".to_string(),
+        "rules width 4 links 0 lists 1 1 1 2 1 rules 1: 0/0,0/0>1".to_string(),
+        "rules width 4 links 0 lists 1 1 1 1 2 rules 1: 0/0,0/0>1".to_string(),
         format!("{record} 2 1 1 1 0 rows 1: 5/3/0/0 list 0:"),
         format!("{record} 1 2 1 1 0 rows 1: 5/3/0/0 list 0:"),
         format!("{record} 1 1 2 1 0 rows 1: 5/3/0/0 list 0:"),
