@@ -67,8 +67,8 @@ impl Trial<'_> {
         self.lists.lend_bitmap(&rows, &mut self.random);
         let (outcome, record) = build(table, &mut scratch, &mut rows);
         let (number, detail) = numbers(outcome);
-        let answer = self.lists.build_bitmap(table.width);
-        self.tally.count(Call::BuildBitmap, number);
+        let answer = self.lists.build_bitmap(table.width, table.links);
+        self.tally.table(Call::BuildBitmap, table, number, detail);
         same("bitmap", answer, raw::BuiltBitmap { number, detail, record: c_bitmap(&record) })?;
         same_list("scratch after the bitmap", self.lists.scratch.held(), &scratch)?;
         same_list("internal maps", self.lists.internal.held(), &rows.internal)?;

@@ -149,18 +149,28 @@ impl Lists {
 
     // SAFETY of all calls below: each pointer is good for its length, or null with length 0; lists do not overlap.
 
-    pub fn check(&self, width: u32) -> raw::Checked {
+    pub fn check(&self, width: u32, links: u16) -> raw::Checked {
         let (value, length, hop) = (&self.value, &self.length, &self.hop);
         unsafe {
-            raw::hongsamuk_check(width, value.read(), value.len(), length.read(), length.len(), hop.read(), hop.len())
+            raw::hongsamuk_check(
+                width,
+                links,
+                value.read(),
+                value.len(),
+                length.read(),
+                length.len(),
+                hop.read(),
+                hop.len(),
+            )
         }
     }
 
-    pub fn zone_span(&self, width: u32, prefix: u32, bits: u8) -> raw::Span {
+    pub fn zone_span(&self, width: u32, links: u16, prefix: u32, bits: u8) -> raw::Span {
         let (value, length, hop) = (&self.value, &self.length, &self.hop);
         unsafe {
             raw::hongsamuk_zone_span(
                 width,
+                links,
                 value.read(),
                 value.len(),
                 length.read(),
@@ -173,7 +183,7 @@ impl Lists {
         }
     }
 
-    pub fn choose(&mut self, kind: Kind, width: u32, levels: u32) -> raw::Chosen {
+    pub fn choose(&mut self, kind: Kind, width: u32, levels: u32, links: u16) -> raw::Chosen {
         let call: raw::Choose = match kind {
             Kind::Fixed => raw::hongsamuk_choose_fixed,
             Kind::Variable => raw::hongsamuk_choose_variable,
@@ -182,6 +192,7 @@ impl Lists {
             call(
                 width,
                 levels,
+                links,
                 self.value.read(),
                 self.value.len(),
                 self.length.read(),
@@ -194,7 +205,7 @@ impl Lists {
         }
     }
 
-    pub fn build(&mut self, kind: Kind, width: u32, levels: u32) -> raw::Built {
+    pub fn build(&mut self, kind: Kind, width: u32, levels: u32, links: u16) -> raw::Built {
         let call: raw::Build = match kind {
             Kind::Fixed => raw::hongsamuk_build_fixed,
             Kind::Variable => raw::hongsamuk_build_variable,
@@ -203,6 +214,7 @@ impl Lists {
             call(
                 width,
                 levels,
+                links,
                 self.value.read(),
                 self.value.len(),
                 self.length.read(),
@@ -240,10 +252,11 @@ impl Lists {
         }
     }
 
-    pub fn build_bitmap(&mut self, width: u32) -> raw::BuiltBitmap {
+    pub fn build_bitmap(&mut self, width: u32, links: u16) -> raw::BuiltBitmap {
         unsafe {
             raw::hongsamuk_build_bitmap(
                 width,
+                links,
                 self.value.read(),
                 self.value.len(),
                 self.length.read(),
@@ -285,7 +298,7 @@ impl Lists {
         }
     }
 
-    pub fn build_rules(&mut self, kind: Kind, width: u32, levels: u32) -> raw::BuiltRules {
+    pub fn build_rules(&mut self, kind: Kind, width: u32, levels: u32, links: u16) -> raw::BuiltRules {
         let call: raw::BuildRules = match kind {
             Kind::Fixed => raw::hongsamuk_build_rules_fixed,
             Kind::Variable => raw::hongsamuk_build_rules_variable,
@@ -294,6 +307,7 @@ impl Lists {
             call(
                 width,
                 levels,
+                links,
                 self.dest_value.read(),
                 self.dest_value.len(),
                 self.dest_length.read(),

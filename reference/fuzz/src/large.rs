@@ -10,7 +10,7 @@ use reference::build::{Record, ELEMENTS, SCRATCH_ROW};
 use reference::choices::Kind;
 use reference::random::Random;
 use reference::rules::{RULES, TRIE_ROW};
-use reference::table::{Refusal, Table, ENTRIES};
+use reference::table::{fewest_links, Refusal, Table, DISCARD, ENTRIES, LINKS};
 use reference::trie::Trie;
 
 const SEED: u64 = 24;
@@ -49,8 +49,26 @@ fn outcome((refusal, record): &(Refusal, Record)) -> String {
     }
 }
 
-fn one_entry(bits: u32) -> Table {
-    Table { width: bits, value: vec![5], length: vec![bits as u8], hop: vec![7] }
+/// The most links, or just as many as the hops need, in turn.
+pub fn links(hops: &[u16], turn: u32) -> u16 {
+    if turn % 2 == 0 {
+        LINKS
+    } else {
+        fewest_links(hops)
+    }
+}
+
+/// One of the first 1,000 links for that of any, so that fewer than the most are enough; a discard stays.
+pub fn few(hop: u16) -> u16 {
+    match hop {
+        DISCARD => DISCARD,
+        hop => 1 + (hop - 1) % 1_000,
+    }
+}
+
+fn one_entry(bits: u32, turn: u32) -> Table {
+    let hop = vec![7];
+    Table { width: bits, links: links(&hop, turn), value: vec![5], length: vec![bits as u8], hop }
 }
 
 /// E at the limit is accepted where the four lists have as many rows; twice as many elements are refused.
@@ -58,8 +76,8 @@ fn limits(trial: &mut Trial) -> Same {
     let most = ELEMENTS as usize;
     let short = [most, most - 1, most, most];
     for (bits, rows) in [(24, [most; 4]), (24, [most - 1; 4]), (24, short), (25, [ROWS; 4])] {
-        for kind in KINDS {
-            let given = trial.given(&one_entry(bits), bits as usize, kind, 1, rows)?;
+        for (turn, kind) in KINDS.into_iter().enumerate() {
+            let given = trial.given(&one_entry(bits, turn as u32), bits as usize, kind, 1, rows)?;
             println!("{kind:?}, one entry of {bits} bits, k = 1, {rows:?} rows lent: {}", outcome(&given));
         }
     }
@@ -71,7 +89,7 @@ fn chain(trial: &mut Trial) -> Same {
     for levels in 1..=33 {
         for kind in KINDS {
             let told = |text| format!("one entry of 32 bits {kind:?} levels {levels}: {text}");
-            let given = trial.given(&one_entry(32), 32, kind, levels, [1 << 17; 4]).map_err(told)?;
+            let given = trial.given(&one_entry(32, levels), 32, kind, levels, [1 << 17; 4]).map_err(told)?;
             println!("{kind:?}, one entry of 32 bits, k = {levels}: {}", outcome(&given));
         }
     }
@@ -85,7 +103,8 @@ impl Size {
         prefixes.truncate(self.entries);
         Table {
             width,
-            hop: prefixes.iter().map(|_| random.hop()).collect(),
+            links: LINKS,
+            hop: prefixes.iter().map(|_| few(random.hop())).collect(),
             value: prefixes.iter().map(|p| p.0).collect(),
             length: prefixes.iter().map(|p| p.1).collect(),
         }
@@ -111,9 +130,10 @@ impl Size {
         let mut most = vec![u64::MAX; self.levels.len()];
         for kind in KINDS {
             let mut less = u64::MAX;
-            for (levels, most) in self.levels.iter().zip(&mut most) {
+            for ((turn, levels), most) in (0..).zip(self.levels).zip(&mut most) {
                 let told = |text| format!("{name}, {n} entries, {kind:?} levels {levels}: {text}");
-                let given = trial.given(table, nodes, kind, *levels, [self.rows; 4]).map_err(told)?;
+                let table = table.with_links(links(&table.hop, turn));
+                let given = trial.given(&table, nodes, kind, *levels, [self.rows; 4]).map_err(told)?;
                 println!("{kind:?}, k = {levels}: {}", outcome(&given));
                 let cost = given.0.detail.max(given.1.elements.into());
                 if cost > less || cost > *most {
@@ -122,6 +142,10 @@ impl Size {
                 (less, *most) = (cost, cost);
             }
             trial.scarce(table, nodes, kind, 1).map_err(|text| format!("{name}, {n} entries, {kind:?}: {text}"))?;
+            let lacking = table.with_links(fewest_links(&table.hop) - 1);
+            let told = |text| format!("{name}, {n} entries, {kind:?}, one link less: {text}");
+            let given = trial.given(&lacking, nodes, kind, 1, [self.rows; 4]).map_err(told)?;
+            println!("{kind:?}, {} links, one too few: {}", lacking.links, outcome(&given));
         }
         bitmaps(trial, table).map_err(|text| format!("{name}, {n} entries, as a bitmap: {text}"))
     }
@@ -151,20 +175,25 @@ fn largest(trial: &mut Trial, random: &mut Random) -> Same {
     LARGEST.tried("any of 32 bits", &hosts, trial)
 }
 
-/// The bitmap of the table that is lent, in lists just long enough, then with each of them in turn one shorter.
+/// The bitmap of the table that is lent, in lists just long enough, then with each of them in turn one shorter, then with one link
+/// less than it needs.
 fn bitmaps(trial: &mut Trial, table: &Table) -> Same {
     let (words, supernodes, hops) = needed(table);
     let (rows, hops) = (supernodes as usize, hops as usize);
     let mut outcomes = vec![];
-    for short in 0..7 {
+    for short in 0..8 {
+        let enough = links(&table.hop, short);
+        let table = table.with_links(if short == 7 { enough - 1 } else { enough });
         let words = words as usize - (short == 1) as usize;
         let lengths = [2, 3, 4, 5].map(|list| rows - (short == list) as usize);
         let scratch = trial.marks(words, |mark| mark | 1);
         let lists = trial.bitmap_room(lengths, hops - (short == 6) as usize);
-        outcomes.push(trial.bitmap_over(table, scratch, lists)?);
+        outcomes.push(trial.bitmap_over(&table, scratch, lists)?);
     }
     let told: String = outcomes.iter().map(|o| format!(" {}/{}", o.number, o.detail)).collect();
-    println!("as a bitmap: {supernodes} supernodes; number/detail just long enough, then one short:{told}");
+    println!(
+        "as a bitmap: {supernodes} supernodes; number/detail just long enough, then one short, then a link:{told}"
+    );
     Ok(())
 }
 

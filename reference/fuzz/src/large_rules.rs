@@ -1,12 +1,13 @@
 //! Rules at their limits: the most elements over all tries, 33 nested destinations with every level limit, and 1,024 rules.
 
+use crate::large::{few, links};
 use crate::rules::{exact, needed};
 use crate::trying::{Same, Trial};
 use reference::build::ELEMENTS;
 use reference::choices::Kind;
 use reference::random::{cut, Random};
 use reference::rules::{Rule, RuleRecord, Rules, RULES};
-use reference::table::Refusal;
+use reference::table::{fewest_links, Refusal};
 
 const KINDS: [Kind; 2] = [Kind::Fixed, Kind::Variable];
 /// Rows of each element list of the rules below; some builds need more and are refused.
@@ -24,8 +25,8 @@ fn limits(trial: &mut Trial) -> Same {
     let most = ELEMENTS as usize;
     let short = [most, most, most - 1, most];
     for (bits, rows) in [(0, [most; 4]), (0, [most - 1; 4]), (0, short), (1, [2 * most; 4])] {
-        for kind in KINDS {
-            let rules = Rules::of(24, &[(0, bits, 5, 24, 7)]);
+        for (turn, kind) in (0..).zip(KINDS) {
+            let rules = Rules::of(24, &[(0, bits, 5, 24, 7)]).with_links(links(&[7], turn));
             let (words, _, list) = exact(&needed(kind, 1, &rules));
             let answer = trial.rules_over(&rules, kind, 1, (words, rows, list))?;
             println!(
@@ -38,9 +39,11 @@ fn limits(trial: &mut Trial) -> Same {
 }
 
 /// Rules over lists just long enough, or of as many rows as are lent here; then with scratch one word, the rows one, or the list
-/// of tries one number short.
+/// of tries one number short; then with one link less than their actions need.
 fn tried(trial: &mut Trial, name: &str, rules: &Rules, kind: Kind, levels: u32) -> Same {
     let case = format!("{name}, {kind:?}, k = {levels}");
+    let lacking = rules.with_links(fewest_links(&rules.action) - 1);
+    let rules = &rules.with_links(links(&rules.action, levels));
     let (words, rows, list) = exact(&needed(kind, levels, rules));
     let rows = rows.map(|rows| rows.min(ROWS));
     let answer =
@@ -50,13 +53,14 @@ fn tried(trial: &mut Trial, name: &str, rules: &Rules, kind: Kind, levels: u32) 
     for lent in [(words - 1, rows, list), (words, fewer, list), (words, rows, list - 1), (words, fewer, list - 1)] {
         trial.rules_over(rules, kind, levels, lent).map_err(|text| format!("{case}, {lent:?}: {text}"))?;
     }
-    Ok(())
+    let told = |text| format!("{case}, {} links: {text}", lacking.links);
+    trial.rules_over(&lacking, kind, levels, (words, rows, list)).map(|_| ()).map_err(told)
 }
 
 /// Destinations of 0 to 32 bits of one address, each with a source of 32 bits. That of the shortest is not that of the others.
 fn nested(random: &mut Random) -> Rules {
     let (address, source) = (random.next(), random.next() as u32);
-    let rule = |l: u32| (cut(32, address, l), l as u8, source ^ (l == 0) as u32, 32, random.hop());
+    let rule = |l: u32| (cut(32, address, l), l as u8, source ^ (l == 0) as u32, 32, few(random.hop()));
     let mut rules: Vec<Rule> = (0..=32).map(rule).collect();
     rules.sort();
     Rules::of(32, &rules)
@@ -66,7 +70,7 @@ fn nested(random: &mut Random) -> Rules {
 fn first(rules: Rules) -> Rules {
     let of = |i: usize| {
         let (dest, source) = (rules.dest_value[i], rules.source_value[i]);
-        (dest, rules.dest_length[i], source, rules.source_length[i], rules.action[i])
+        (dest, rules.dest_length[i], source, rules.source_length[i], few(rules.action[i]))
     };
     Rules::of(rules.width, &(0..RULES).map(of).collect::<Vec<Rule>>())
 }
@@ -79,7 +83,7 @@ pub fn run(trial: &mut Trial, random: &mut Random) -> Same {
     }
     let any = first(random.rules(32, 4 * RULES));
     let mut of = |place: &dyn Fn(u32) -> (u32, u8, u32, u8)| {
-        let rule = |i| (place(i).0, place(i).1, place(i).2, place(i).3, random.hop());
+        let rule = |i| (place(i).0, place(i).1, place(i).2, place(i).3, few(random.hop()));
         Rules::of(32, &(0..RULES as u32).map(rule).collect::<Vec<Rule>>())
     };
     let lists = [

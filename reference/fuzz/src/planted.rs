@@ -1,6 +1,7 @@
 //! Faults planted in a copy of the reference: the same run must catch each. An `.edit` file has the form of those under
 //! `must-fail/`: a comment that says what is wrong, the file, one whole line of it, and what stands there instead.
 
+use std::collections::BTreeSet;
 use std::fs;
 use std::path::{Path, PathBuf};
 use std::process::Command;
@@ -53,13 +54,24 @@ fn copy(from: &Path, to: &Path) {
     }
 }
 
-/// Replaces the one line.
-fn plant(edit: &Edit, copied: &Path) {
-    let path = copied.join("reference/src").join(&edit.file);
+/// A file's path, and its text with the one line replaced.
+fn edited(edit: &Edit, top: &Path) -> (PathBuf, String) {
+    let path = top.join("reference/src").join(&edit.file);
     let text = fs::read_to_string(&path).expect("the file of the edit");
     assert!(text.lines().filter(|line| *line == edit.old).count() == 1, "{}: one such line", edit.name);
     let lines: Vec<&str> = text.lines().map(|line| if line == edit.old { &edit.new } else { line }).collect();
-    fs::write(path, lines.join("\n") + "\n").expect("the edited file");
+    (path, lines.join("\n") + "\n")
+}
+
+/// Each edit finds its line, and no two leave the same text.
+fn told_apart(edits: &[Edit]) {
+    let texts: BTreeSet<(PathBuf, String)> = edits.iter().map(|edit| edited(edit, &top())).collect();
+    assert!(texts.len() == edits.len(), "two edits are one");
+}
+
+fn plant(edit: &Edit, copied: &Path) {
+    let (path, text) = edited(edit, copied);
+    fs::write(path, text).expect("the edited file");
 }
 
 /// Builds the copy and runs it: caught is a run that ends with status 1 and says after how many cases.
@@ -81,8 +93,9 @@ fn caught(copied: &Path, seed: u64) -> Option<String> {
 
 pub fn run(seed: u64) -> bool {
     let copied = top().join("target/planted");
-    let mut good = true;
-    for edit in edits() {
+    let (edits, mut good) = (edits(), true);
+    told_apart(&edits);
+    for edit in edits {
         for part in ["reference", "bindings/rust"] {
             copy(&top().join(part), &copied.join(part));
         }

@@ -131,8 +131,14 @@ fn noise(random: &mut Random) -> Rules {
     Rules::of(random.within(0, 33) as u32, &rules)
 }
 
-/// Rules of any kind.
+/// Rules of any kind, with any number of links.
 pub fn any(random: &mut Random) -> Rules {
+    let mut rules = any_rules(random);
+    rules.links = tables::links(&rules.action, random);
+    rules
+}
+
+fn any_rules(random: &mut Random) -> Rules {
     if random.one_in(LONG) {
         let n = if random.one_in(2) { RULES } else { RULES + 1 };
         return long(n, random);

@@ -49,7 +49,7 @@ fn c_verdict(verdict: Result<Verdict, Refusal>) -> raw::Verdict {
 fn named(rules: &Rules) -> String {
     match rules.count() {
         0..=NAMED => format!("{rules:?}"),
-        n => format!("{n} rules, width {}", rules.width),
+        n => format!("{n} rules, width {}, links {}", rules.width, rules.links),
     }
 }
 
@@ -96,9 +96,9 @@ impl Trial<'_> {
         self.lists.lend_tries(&list, &mut self.random);
         let (outcome, record) = build_rules(kind, levels, rules, &mut scratch, &mut rows, &mut list);
         let (number, detail) = numbers(outcome);
-        let answer = self.lists.build_rules(kind, rules.width, levels);
+        let answer = self.lists.build_rules(kind, rules.width, levels, rules.links);
         let call = if kind == Kind::Fixed { Call::BuildRulesFixed } else { Call::BuildRulesVariable };
-        self.tally.count(call, number);
+        self.tally.linked(call, (&rules.action, rules.links), number, detail);
         self.tally.rules(rules.count());
         self.tally.short_of_tries += (number == 7 && detail <= rows.shortest() as u64) as u64;
         same("build of rules", answer, raw::BuiltRules { number, detail, record: c_rules(&record) })?;

@@ -1,7 +1,8 @@
 //! Tables to be tried: random, nested, dense and chained ones, some of them damaged.
 
+use crate::harm::pick;
 use reference::random::{cut, Random};
-use reference::table::{Table, ENTRIES};
+use reference::table::{fewest_links, Table, ENTRIES, LINKS};
 
 /// Entries of a small table.
 const SMALL: u64 = 12;
@@ -25,6 +26,7 @@ fn of(width: u32, mut prefixes: Vec<(u32, u8)>, random: &mut Random) -> Table {
     prefixes.dedup();
     Table {
         width,
+        links: LINKS,
         hop: prefixes.iter().map(|_| random.hop()).collect(),
         value: prefixes.iter().map(|p| p.0).collect(),
         length: prefixes.iter().map(|p| p.1).collect(),
@@ -103,11 +105,31 @@ fn damage(table: &mut Table, random: &mut Random) {
 fn long(n: usize, random: &mut Random) -> Table {
     let width = random.within(17, 32) as u32;
     let value = (0..n as u32).map(|i| i << (width - 17)).collect();
-    Table { width, value, length: vec![17; n], hop: (0..n).map(|_| random.hop()).collect() }
+    Table { width, links: LINKS, value, length: vec![17; n], hop: (0..n).map(|_| random.hop()).collect() }
 }
 
-/// A table of any kind.
+/// A number of links for entries or rules with these hops (02, [7]): one in four is less than some hop, so that its link is not
+/// there; most of the others are enough.
+pub fn links(hops: &[u16], random: &mut Random) -> u16 {
+    let enough = fewest_links(hops);
+    match random.within(0, 15) {
+        0..=3 => random.too_few_links(hops),
+        4 | 5 => enough,
+        6 => enough.saturating_add(1),
+        7 | 8 => random.within(enough.into(), LINKS.into()) as u16,
+        9 => pick(random, &[0, 1, 65533, 65534]),
+        _ => LINKS,
+    }
+}
+
+/// A table of any kind, with any number of links.
 pub fn any(random: &mut Random) -> Table {
+    let mut table = any_entries(random);
+    table.links = links(&table.hop, random);
+    table
+}
+
+fn any_entries(random: &mut Random) -> Table {
     if random.one_in(TOO_LONG) {
         let n = if random.one_in(LONGEST) { ENTRIES } else { ENTRIES + 1 };
         return long(n, random);

@@ -5,7 +5,7 @@ use reference::build::Record;
 use reference::choices::LEVELS;
 use reference::lookup::Damage;
 use reference::rules::{self, Verdict, RULES, VISITS};
-use reference::table::ENTRIES;
+use reference::table::{lacks_link, Table, DISCARD, ENTRIES, LINKS};
 use std::collections::BTreeMap;
 
 /// Refusals are 1 to 10; 0 is accepted.
@@ -46,9 +46,19 @@ const CALLS: [Call; 14] = [
     Call::Classify,
 ];
 
+/// What the answers of a call showed of links (02, [7]): refusals by 4 at a hop without a link, and where there are fewer links than
+/// the most, what was accepted with a hop of the last link, and with a discard past the links.
+#[derive(Clone, Copy, Default)]
+struct Linked {
+    refused: u64,
+    last: u64,
+    discards: u64,
+}
+
 #[derive(Default)]
 pub struct Tally {
     numbers: [[u64; NUMBERS]; CALLS.len()],
+    linked: [Linked; CALLS.len()],
     damages: BTreeMap<Damage, u64>,
     bitmap_damages: BTreeMap<bitmap::Damage, u64>,
     pub no_routes: u64,
@@ -96,6 +106,24 @@ fn by_clause<T: std::fmt::Debug>(damages: &BTreeMap<T, u64>) -> String {
 impl Tally {
     pub fn count(&mut self, call: Call, number: u32) {
         self.numbers[call as usize][number as usize] += 1;
+    }
+
+    /// A call that states so many links for these hops or actions.
+    pub fn linked(&mut self, call: Call, (hops, links): (&[u16], u16), number: u32, detail: u64) {
+        self.count(call, number);
+        let shown = &mut self.linked[call as usize];
+        match number {
+            0 if links < LINKS => {
+                shown.last += hops.contains(&links) as u64;
+                shown.discards += hops.contains(&DISCARD) as u64;
+            }
+            4 => shown.refused += lacks_link(hops[detail as usize], links) as u64,
+            _ => (),
+        }
+    }
+
+    pub fn table(&mut self, call: Call, table: &Table, number: u32, detail: u64) {
+        self.linked(call, (&table.hop, table.links), number, detail);
     }
 
     pub fn entries(&mut self, n: usize) {
@@ -169,6 +197,17 @@ impl Tally {
         println!("builds of rules refused for the list of tries: {}", self.short_of_tries);
     }
 
+    fn print_links(&self) {
+        for (call, Linked { refused, last, discards }) in CALLS.into_iter().zip(self.linked) {
+            if refused + last + discards > 0 {
+                println!(
+                    "{call:?}: refused at a hop without a link: {refused}; accepted with a hop of the last link: {last}, \
+                     with a discard past the links: {discards}"
+                );
+            }
+        }
+    }
+
     pub fn print(&self) {
         for call in CALLS {
             let numbers = self.numbers[call as usize];
@@ -178,6 +217,7 @@ impl Tally {
                 .collect();
             println!("{call:?}: {} calls, accepted: {}{refused}", self.of(call), numbers[0]);
         }
+        self.print_links();
         println!("lookups without a route: {}; that discard: {}", self.no_routes, self.discards);
         println!("refusal 9 by clause: {}", by_clause(&self.damages));
         let (builds, lookups) = (self.short_for_builds, self.short_for_lookups);

@@ -60,7 +60,7 @@ pub fn same_list<T: PartialEq + std::fmt::Debug>(what: &str, archive: &[T], refe
 fn named(table: &Table) -> String {
     match table.value.len() {
         0..=NAMED => format!("{table:?}"),
-        n => format!("table of {n} entries, width {}", table.width),
+        n => format!("table of {n} entries, width {}, links {}", table.width, table.links),
     }
 }
 
@@ -211,16 +211,17 @@ impl Trial<'_> {
 
     fn entries(&mut self, table: &Table) -> Same {
         let (number, detail) = numbers(table.check());
-        same("check", self.lists.check(table.width), raw::Checked { number, detail })?;
-        self.tally.count(Call::Check, number);
+        same("check", self.lists.check(table.width, table.links), raw::Checked { number, detail })?;
+        self.tally.table(Call::Check, table, number, detail);
         self.tally.entries(table.value.len());
         let (prefix, bits) = tables::prefix(table, &mut self.random);
         let expected = match table.zone(prefix, bits) {
             Ok((index, count)) => raw::Span { number: 0, detail: 0, index: index as u32, count: count as u32 },
             Err(refusal) => raw::Span { number: refusal.number, detail: refusal.detail, index: 0, count: 0 },
         };
-        same(&format!("zone {prefix}/{bits}"), self.lists.zone_span(table.width, prefix, bits), expected)?;
-        self.tally.count(Call::ZoneSpan, expected.number);
+        let answer = self.lists.zone_span(table.width, table.links, prefix, bits);
+        same(&format!("zone {prefix}/{bits}"), answer, expected)?;
+        self.tally.table(Call::ZoneSpan, table, expected.number, expected.detail);
         let (other, more) = tables::prefix(table, &mut self.random);
         let expected = match table::shared_length(table.width, prefix, bits, other, more) {
             Ok(bits) => raw::Shared { number: 0, bits },
@@ -248,10 +249,11 @@ impl Trial<'_> {
 
     /// What the archive's chooser answers, and what it leaves in the scratch that is lent.
     fn chosen(&mut self, table: &Table, kind: Kind, levels: u32, expected: raw::Chosen, scratch: &[u64]) -> Same {
-        let answer = self.lists.choose(kind, table.width, levels);
+        let answer = self.lists.choose(kind, table.width, levels, table.links);
         same("choice", answer, expected)?;
         same_list("scratch after the choice", self.lists.scratch.held(), scratch)?;
-        self.tally.count(if kind == Kind::Fixed { Call::ChooseFixed } else { Call::ChooseVariable }, expected.number);
+        let call = if kind == Kind::Fixed { Call::ChooseFixed } else { Call::ChooseVariable };
+        self.tally.table(call, table, expected.number, expected.detail);
         Ok(())
     }
 
@@ -274,8 +276,9 @@ impl Trial<'_> {
         self.lists.lend_rows(&rows, &mut self.random);
         let (outcome, record) = build(kind, levels, table, &mut scratch, &mut rows);
         let (number, detail) = numbers(outcome);
-        let answer = self.lists.build(kind, table.width, levels);
-        self.tally.count(if kind == Kind::Fixed { Call::BuildFixed } else { Call::BuildVariable }, number);
+        let answer = self.lists.build(kind, table.width, levels, table.links);
+        let call = if kind == Kind::Fixed { Call::BuildFixed } else { Call::BuildVariable };
+        self.tally.table(call, table, number, detail);
         self.tally.short_for_builds += (number == 7 && is_short_of_lengths(detail, &rows)) as u64;
         same("build", answer, raw::Built { number, detail, record: c_record(&record) })?;
         same_list("scratch after the build", self.lists.scratch.held(), &scratch)?;

@@ -4,6 +4,7 @@ use crate::plain;
 use crate::rounds::{alternate, Timed};
 use crate::routes::{Routes, WIDTH};
 use hongsamuk::{raw, Bitmap, BitmapRows, BitmapRowsMut, Outcome, Table};
+use reference::table::LINKS;
 use std::cell::RefCell;
 
 /// Bytes of a supernode's row in the four lists, and of a hop.
@@ -72,7 +73,7 @@ fn scratch(nodes: usize) -> Vec<u64> {
 }
 
 fn archive(routes: &Routes, scratch: &mut [u64], arrays: &mut Arrays) -> (Outcome, Bitmap) {
-    let table = Table { width: WIDTH, value: &routes.value, length: &routes.length, hop: &routes.hop };
+    let table = Table { width: WIDTH, links: LINKS, value: &routes.value, length: &routes.length, hop: &routes.hop };
     let built = hongsamuk::build_bitmap(table, scratch, arrays.room());
     (built.outcome, built.record)
 }

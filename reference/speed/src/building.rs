@@ -6,6 +6,7 @@ use crate::plain;
 use crate::rounds::{alternate, Timed};
 use crate::routes::{Routes, WIDTH};
 use hongsamuk::{Kind, Outcome, Record, Table};
+use reference::table::LINKS;
 use std::cell::RefCell;
 
 /// The level limit of the lookups, and one of those at which growth is measured.
@@ -57,7 +58,7 @@ impl Rows {
 }
 
 pub fn table(routes: &Routes) -> Table<'_> {
-    Table { width: WIDTH, value: &routes.value, length: &routes.length, hop: &routes.hop }
+    Table { width: WIDTH, links: LINKS, value: &routes.value, length: &routes.length, hop: &routes.hop }
 }
 
 fn nodes(routes: &Routes) -> usize {

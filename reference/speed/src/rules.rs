@@ -33,6 +33,7 @@ fn lent(firewall: &Firewall) -> Rules<'_> {
     let rules = &firewall.rules;
     Rules {
         width: rules.width,
+        links: rules.links,
         dest_value: &rules.dest_value,
         dest_length: &rules.dest_length,
         source_value: &rules.source_value,
