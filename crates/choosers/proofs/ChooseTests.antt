@@ -88,7 +88,8 @@ module _ (W k links : ℕ) (vs ls hs : List ℕ) (words : ℕ) where
 pub numbered-choose : (most : ℕ) → 6 ≤ most → (W k links : ℕ) (vs ls hs : List ℕ) (words : ℕ) → Numbered most (chooseTests W k links vs ls hs words)
 unfolding chooseTests
 numbered-choose most h W k links vs ls hs words =
-    let lists = numbered-append most (listTests (hopRefused links) W vs ls hs) (scratchTest W vs ls hs words ∷ []) (numbered-lists most (omega arith) (hopRefused links) W vs ls hs) ((omega arith, omega arith), tt) in
+    let lists = numbered-append most (listTests (hopRefused links) W vs ls hs) (scratchTest W vs ls hs words ∷ [])
+    (numbered-lists most (omega arith) (hopRefused links) W vs ls hs) ((omega arith, omega arith), tt) in
     ((omega arith, omega arith), ((omega arith, omega arith), lists))
 
 -- what acceptance says

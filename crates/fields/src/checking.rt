@@ -96,7 +96,8 @@ fn rule_outcome(
     requires { ⌜ (0 < width) × (width ≤ widthLimit) ⌝ }
     requires { ⌜ SameLengths (rules (now dvals) (now dlens) (now svals) (now slens) (now actions)) × (i < length (now dvals)) ⌝ }
     ensures { λ r. ⌜
-        r ≡ outcome (ruleTestsAt width links (rules (now (dvals .entry)) (now (dlens .entry)) (now (svals .entry)) (now (slens .entry)) (now (actions .entry))) i) ⌝ }
+        r ≡ outcome
+        (ruleTestsAt width links (rules (now (dvals .entry)) (now (dlens .entry)) (now (svals .entry)) (now (slens .entry)) (now (actions .entry))) i) ⌝ }
 {
     let bad = Outcome::Refused {
         number: 4,

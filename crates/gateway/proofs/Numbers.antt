@@ -81,7 +81,8 @@ module _ (kind : Kind) (W k links : ℕ) (vs ls hs scratch : List ℕ) where
       → Tells (buildTests W k links vs ls hs (length scratch) (shortest rows) least) (r .number) (r .detail)
   built-tells {rows} t least c =
       rw (t .2)
-      (gives-tells 7 (buildTests W k links vs ls hs (length scratch) (shortest rows) least) (numbered-build W k links vs ls hs (length scratch) (shortest rows) least) (t .0 .outcome) (t .1 .tested least c))
+      (gives-tells 7 (buildTests W k links vs ls hs (length scratch) (shortest rows) least)
+      (numbered-build W k links vs ls hs (length scratch) (shortest rows) least) (t .0 .outcome) (t .1 .tested least c))
 
 -- ---- a lookup's number
 
@@ -97,7 +98,8 @@ pub bitmap-tells : (W links : ℕ) (vs ls hs scratch : List ℕ) {rows rows′ :
     → Tells (bitmapTests W links vs ls hs (length scratch) (rowRoom rows) (length hops)) (r .number) (r .detail)
 bitmap-tells W links vs ls hs scratch {rows} {hops = hops} t =
     rw (t .2)
-    (gives-tells 7 (bitmapTests W links vs ls hs (length scratch) (rowRoom rows) (length hops)) (numbered-bitmap W links vs ls hs (length scratch) (rowRoom rows) (length hops)) (t .0 .outcome) (t .1 .tested))
+    (gives-tells 7 (bitmapTests W links vs ls hs (length scratch) (rowRoom rows) (length hops))
+    (numbered-bitmap W links vs ls hs (length scratch) (rowRoom rows) (length hops)) (t .0 .outcome) (t .1 .tested))
 
 pub lookup-bitmap-tells : (rec : Bitmap) (rows : RowLists) (hops : List ℕ) (address : ℕ) {r : AnswerNumbers}
     → Told (LookedBitmap WIDTH rec rows hops address) answerNumbers r → BitmapTested WIDTH rec rows hops address (r .number)

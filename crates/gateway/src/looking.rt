@@ -23,9 +23,11 @@ pub extern "C" fn hongsamuk_lookup(
     address: u32,
 ) -> AnswerNumbers
     ensures exact { λ r. ⌜
-        r ≡ answerNumbers (lookupOf WIDTH rec (lists (now (rowhops .entry)) (now (rowlens .entry)) (now (rowlinks .entry)) (now (rowstrides .entry))) address) ⌝ }
+        r ≡ answerNumbers
+        (lookupOf WIDTH rec (lists (now (rowhops .entry)) (now (rowlens .entry)) (now (rowlinks .entry)) (now (rowstrides .entry))) address) ⌝ }
     ensures meaning { λ r. ⌜
-        Told (Looked WIDTH rec (lists (now (rowhops .entry)) (now (rowlens .entry)) (now (rowlinks .entry)) (now (rowstrides .entry))) address) answerNumbers r ⌝ }
+        Told (Looked WIDTH rec (lists (now (rowhops .entry)) (now (rowlens .entry)) (now (rowlinks .entry)) (now (rowstrides .entry))) address)
+        answerNumbers r ⌝ }
 {
     walk::lookup_numbers(rec, rowhops, rowlens, rowlinks, rowstrides, address)
 }
@@ -46,11 +48,13 @@ pub extern "C" fn hongsamuk_lookup_batch(
     reads: &mut [u32],
 ) -> usize
     ensures exact { λ r. ⌜
-        Answered (ExactAnswer rec (lists (now (rowhops .entry)) (now (rowlens .entry)) (now (rowlinks .entry)) (now (rowstrides .entry)))) (now (address .entry))
+        Answered (ExactAnswer rec (lists (now (rowhops .entry)) (now (rowlens .entry)) (now (rowlinks .entry)) (now (rowstrides .entry))))
+        (now (address .entry))
         (columns (now (number .entry)) (now (hop .entry)) (now (len .entry)) (now (reads .entry)))
         (columns (now (number .exit)) (now (hop .exit)) (now (len .exit)) (now (reads .exit))) r ⌝ }
     ensures meaning { λ r. ⌜
-        Answered (Looked WIDTH rec (lists (now (rowhops .entry)) (now (rowlens .entry)) (now (rowlinks .entry)) (now (rowstrides .entry)))) (now (address .entry))
+        Answered (Looked WIDTH rec (lists (now (rowhops .entry)) (now (rowlens .entry)) (now (rowlinks .entry)) (now (rowstrides .entry))))
+        (now (address .entry))
         (columns (now (number .entry)) (now (hop .entry)) (now (len .entry)) (now (reads .entry)))
         (columns (now (number .exit)) (now (hop .exit)) (now (len .exit)) (now (reads .exit))) r ⌝ }
 {

@@ -188,10 +188,12 @@ pub extern "C" fn hongsamuk_classify(
 ) -> VerdictNumbers
     ensures exact { λ r. ⌜
         r ≡ verdictNumbers
-        (classifyOf WIDTH rec (lists (now (rowhops .entry)) (now (rowlens .entry)) (now (rowlinks .entry)) (now (rowstrides .entry))) (now (list .entry)) dest source) ⌝ }
+        (classifyOf WIDTH rec (lists (now (rowhops .entry)) (now (rowlens .entry)) (now (rowlinks .entry)) (now (rowstrides .entry)))
+        (now (list .entry)) dest source) ⌝ }
     ensures meaning { λ r. ⌜
         Told
-        (Classified rec (lists (now (rowhops .entry)) (now (rowlens .entry)) (now (rowlinks .entry)) (now (rowstrides .entry))) (now (list .entry)) dest source WIDTH)
+        (Classified rec (lists (now (rowhops .entry)) (now (rowlens .entry)) (now (rowlinks .entry)) (now (rowstrides .entry)))
+        (now (list .entry)) dest source WIDTH)
         verdictNumbers r ⌝ }
 {
     verdict_numbers(verdicts::classify(

@@ -158,7 +158,10 @@ module _ {kind : Kind} {W k links : ℕ} {rs : Rules} {scratch : List ℕ} {rows
         × ((i : ℕ) → b .laid e .m * TRIE-ROW ≤ i → at list′ i ≡ at list i)
     rules-accepted = (past-scratch own-runs (λ n x f. absurd (refused-not-accepted (sym f ∙ e))), b .keeps .later e, b .laid e .rest)
 
-    up-to-scratch : outcome (ruleScratchTests W k links rs (length scratch) (runCount (at (rs .dvals)) (at (rs .dlens)) (ruleCount rs)) (runFrom (at (rs .dvals)) (at (rs .dlens)) (ruleCount rs))) ≡ Accepted
+    up-to-scratch :
+        let m = runCount (at (rs .dvals)) (at (rs .dlens)) (ruleCount rs) in
+        let from = runFrom (at (rs .dvals)) (at (rs .dlens)) (ruleCount rs) in
+        outcome (ruleScratchTests W k links rs (length scratch) m from) ≡ Accepted
     up-to-scratch = rule-tests-scratch W k links rs (length scratch) _ _ (shortest rows) (length list) _ (sym (tests-out own-runs) ∙ e)
 
     pub rules-are-good : GoodRules W rs

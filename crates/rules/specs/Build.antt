@@ -96,7 +96,8 @@ pub record RulesAre (kind : Kind) (W k links : ℕ) (rs : Rules) (scratch : List
   pub m : ℕ
   pub from : ℕ → ℕ
   pub runs : RunsOf rs m from
-  pub tests : out ≡ outcome (ruleBuildTests W k links rs (length scratch) (shortest rows) (length list) m from (λ g. leastBy plain kind k (ruleTrie W rs m from g)))
+  pub tests : out ≡ outcome
+      (ruleBuildTests W k links rs (length scratch) (shortest rows) (length list) m from (λ g. leastBy plain kind k (ruleTrie W rs m from g)))
   pub after : scratch′ ≡ ifAccepted (outcome (ruleScratchTests W k links rs (length scratch) m from)) (replicate (length scratch) 0) scratch
   pub laid : out ≡ Accepted → TriesLaid W k rs m from (λ g. chosenBy plain kind k (ruleTrie W rs m from g)) rec rows′ list′
   pub named : out ≡ Accepted → rec .dest .strides ≡ padded LEVELS (stridesBy plain kind k (ruleTrie W rs m from 0))

@@ -66,7 +66,8 @@ pub record BuildIs (kind : Kind) (W k links : ℕ) (vs ls hs scratch : List ℕ)
 -- the rows of the choice that the tie rule names, and its strides in the record; scratch unchanged by 1 to 6, else all zero
 pub record Builds (kind : Kind) (W k links : ℕ) (vs ls hs scratch : List ℕ) (rows : Lists) (out : Outcome) (rec : Record) (scratch′ : List ℕ) (rows′ : Lists)
     : Type 0 where
-  pub tested : (least : ℕ) → (1 ≤ k → Cheapest kind k (tableTrie W vs ls hs) least) → Gives (buildTests W k links vs ls hs (length scratch) (shortest rows) least) out
+  pub tested : (least : ℕ) → (1 ≤ k → Cheapest kind k (tableTrie W vs ls hs) least)
+      → Gives (buildTests W k links vs ls hs (length scratch) (shortest rows) least) out
   pub laid : out ≡ Accepted → (σ : Strides) × Follows kind k (tableTrie W vs ls hs) σ × Laid WIDTH W vs ls hs σ k rec rows′
   pub named : out ≡ Accepted → (ss : List ℕ) × Named kind k (tableTrie W vs ls hs) ss × (rec .strides ≡ padded LEVELS ss)
   pub zeroed : Gives (chooseTests W k links vs ls hs (length scratch)) Accepted → scratch′ ≡ replicate (length scratch) 0

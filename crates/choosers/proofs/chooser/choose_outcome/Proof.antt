@@ -12,7 +12,9 @@ returns : tie.Need-returns
 returns c =
     let c5 = c .before .before .before .before .before in
     let S = c5 in
-    sym (tests-width (S .args .width) (S .args .levels) (S .args .links) (S .args .value .now) (S .args .length .now) (S .args .hop .now) (S .args .words) (sym (c .before .is-outside .ensures) ∙ c .if1 .taken))
+    sym
+    (tests-width (S .args .width) (S .args .levels) (S .args .links) (S .args .value .now) (S .args .length .now) (S .args .hop .now) (S .args .words)
+    (sym (c .before .is-outside .ensures) ∙ c .if1 .taken))
 
 is-outside-requires-2 : tie.Need-is-outside-requires-2
 is-outside-requires-2 c κs = search needs

@@ -21,20 +21,23 @@ enum-told c = search needs
 nodes-in-requires : tie.Need-nodes-in-requires
 nodes-in-requires c κs =
     let c6 = c .before .before .before .before .before .before in
-    checked-ask (c6 .args .width) (c6 .args .links) (c6 .args .vals .now) (c6 .args .lens .now) (c6 .args .hops .now) (c6 .args .words) (c .before .before .check-table .ensures .0) (c .enum-told .given .1)
+    checked-ask (c6 .args .width) (c6 .args .links) (c6 .args .vals .now) (c6 .args .lens .now) (c6 .args .hops .now) (c6 .args .words)
+    (c .before .before .check-table .ensures .0) (c .enum-told .given .1)
 
 returns-2 : tie.Need-returns-2
 returns-2 c =
     let c4 = c .before .before .before .before in
     let c8 = c4 .before .before .before .before in
-    scratch-short (c8 .args .width) (c8 .args .links) (c8 .args .vals .now) (c8 .args .lens .now) (c8 .args .hops .now) (c8 .args .words) (c4 .check-table .ensures .0) (c .before .before .enum-told .given .1)
+    scratch-short (c8 .args .width) (c8 .args .links) (c8 .args .vals .now) (c8 .args .lens .now) (c8 .args .hops .now) (c8 .args .words)
+    (c4 .check-table .ensures .0) (c .before .before .enum-told .given .1)
     (c .before .nodes-in .ensures) (c .if1 .taken)
 
 returns-3 : tie.Need-returns-3
 returns-3 c =
     let c4 = c .before .before .before .before in
     let c8 = c4 .before .before .before .before in
-    scratch-passes (c8 .args .width) (c8 .args .links) (c8 .args .vals .now) (c8 .args .lens .now) (c8 .args .hops .now) (c8 .args .words) (c4 .check-table .ensures .0)
+    scratch-passes (c8 .args .width) (c8 .args .links) (c8 .args .vals .now) (c8 .args .lens .now) (c8 .args .hops .now) (c8 .args .words)
+    (c4 .check-table .ensures .0)
     (c .before .before .enum-told .given .1) (c .before .nodes-in .ensures) (c .if1 .left)
 
 pub scratch-outcome-spec : {M : Type 1} → statement M

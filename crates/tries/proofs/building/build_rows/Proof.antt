@@ -16,7 +16,8 @@ refused-requires c κs = search needs
 returns : tie.Need-returns
 returns c =
     let S = c .before .before .before .before .before .before .before .before .before .before in
-    λ kind vs g. crowded-is g (lists (S .args .rowhops .now) (S .args .rowlens .now) (S .args .rowlinks .now) (S .args .rowstrides .now)) (sym (c .before .before .is-crowded .ensures) ∙ c .before .if1 .taken)
+    λ kind vs g. crowded-is g (lists (S .args .rowhops .now) (S .args .rowlens .now) (S .args .rowlinks .now) (S .args .rowstrides .now))
+    (sym (c .before .before .is-crowded .ensures) ∙ c .before .if1 .taken)
     (c .refused .ensures .0) (c .refused .ensures .1)
 
 array-share-prefix-plan : tie.Need-array-share-prefix-plan
