@@ -1,10 +1,10 @@
 //! Tree bitmaps: lookups and builds of the archive against plain Rust with the same arrays, and how many bytes they take.
 
+use crate::building::{plain_table, table};
 use crate::plain;
 use crate::rounds::{alternate, Timed};
-use crate::routes::{Routes, WIDTH};
-use hongsamuk::{raw, Bitmap, BitmapRows, BitmapRowsMut, Outcome, Table};
-use reference::table::LINKS;
+use crate::routes::Routes;
+use hongsamuk::{raw, Bitmap, BitmapRows, BitmapRowsMut, Outcome};
 use std::cell::RefCell;
 
 /// Bytes of a supernode's row in the four lists, and of a hop.
@@ -73,14 +73,12 @@ fn scratch(nodes: usize) -> Vec<u64> {
 }
 
 fn archive(routes: &Routes, scratch: &mut [u64], arrays: &mut Arrays) -> (Outcome, Bitmap) {
-    let table = Table { width: WIDTH, links: LINKS, value: &routes.value, length: &routes.length, hop: &routes.hop };
-    let built = hongsamuk::build_bitmap(table, scratch, arrays.room());
+    let built = hongsamuk::build_bitmap(table(routes), scratch, arrays.room());
     (built.outcome, built.record)
 }
 
 fn in_plain_rust(routes: &Routes, scratch: &mut [u64], arrays: &mut Arrays) -> (Outcome, Bitmap) {
-    let table = plain::Table { width: WIDTH, value: &routes.value, length: &routes.length, hop: &routes.hop };
-    let built = plain::build_bitmap(&table, scratch, arrays.room());
+    let built = plain::build_bitmap(&plain_table(routes), scratch, arrays.room());
     let refused = |(number, detail)| Outcome::Refused { number, detail };
     (built.refusal.map_or_else(refused, |()| Outcome::Accepted), built.record)
 }

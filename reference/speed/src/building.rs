@@ -6,7 +6,6 @@ use crate::plain;
 use crate::rounds::{alternate, Timed};
 use crate::routes::{Routes, WIDTH};
 use hongsamuk::{Kind, Outcome, Record, Table};
-use reference::table::LINKS;
 use std::cell::RefCell;
 
 /// The level limit of the lookups, and one of those at which growth is measured.
@@ -58,7 +57,7 @@ impl Rows {
 }
 
 pub fn table(routes: &Routes) -> Table<'_> {
-    Table { width: WIDTH, links: LINKS, value: &routes.value, length: &routes.length, hop: &routes.hop }
+    Table { width: WIDTH, links: routes.links, value: &routes.value, length: &routes.length, hop: &routes.hop }
 }
 
 fn nodes(routes: &Routes) -> usize {
@@ -81,7 +80,7 @@ pub fn archive(kind: Kind, levels: u32, routes: &Routes, scratch: &mut [u64], ro
 }
 
 pub fn plain_table(routes: &Routes) -> plain::Table<'_> {
-    plain::Table { width: WIDTH, value: &routes.value, length: &routes.length, hop: &routes.hop }
+    plain::Table { width: WIDTH, links: routes.links, value: &routes.value, length: &routes.length, hop: &routes.hop }
 }
 
 pub fn outcome(tested: Result<(), (u32, u64)>) -> Outcome {

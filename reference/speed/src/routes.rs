@@ -1,7 +1,7 @@
 //! Route tables and addresses to measure with, the same on every run.
 
 use reference::random::{cut, Random};
-use reference::table::DISCARD;
+use reference::table::{fewest_links, DISCARD};
 use std::collections::BTreeSet;
 
 pub const WIDTH: u32 = 32;
@@ -20,6 +20,8 @@ pub struct Routes {
     pub value: Vec<u32>,
     pub length: Vec<u8>,
     pub hop: Vec<u16>,
+    /// As many as the hops ask for, so that neither side can know before it runs that none is refused.
+    pub links: u16,
 }
 
 #[derive(Clone, Copy, PartialEq, Eq, Debug)]
@@ -47,10 +49,12 @@ fn length(random: &mut Random) -> u32 {
 
 impl Routes {
     fn of(prefixes: BTreeSet<(u32, u8)>, random: &mut Random) -> Routes {
+        let hop: Vec<u16> = prefixes.iter().map(|_| random.within(1, 64) as u16).collect();
         Routes {
             value: prefixes.iter().map(|p| p.0).collect(),
             length: prefixes.iter().map(|p| p.1).collect(),
-            hop: prefixes.iter().map(|_| random.within(1, 64) as u16).collect(),
+            links: fewest_links(&hop),
+            hop,
         }
     }
 
@@ -75,7 +79,7 @@ impl Routes {
     pub fn discarding(&self, seed: u64) -> Routes {
         let mut random = Random::new(seed);
         let hop = self.hop.iter().map(|hop| if random.one_in(8) { DISCARD } else { *hop }).collect();
-        Routes { value: self.value.clone(), length: self.length.clone(), hop }
+        Routes { value: self.value.clone(), length: self.length.clone(), hop, links: self.links }
     }
 
     /// The nodes of the 1-bit trie at a level: the different starts of that many bits among longer routes.

@@ -4,10 +4,13 @@ use super::WIDTH;
 
 /// The most entries.
 const ENTRIES: usize = 65_536;
+/// The hop of a discard, which needs no link.
+const DISCARD: u16 = 65_535;
 
 #[derive(Clone, Copy)]
 pub struct Table<'a> {
     pub width: u32,
+    pub links: u16,
     pub value: &'a [u32],
     pub length: &'a [u8],
     pub hop: &'a [u16],
@@ -24,7 +27,7 @@ impl Table<'_> {
             return Err((3, 0));
         }
         for i in 0..n {
-            if self.is_malformed(i) || self.hop[i] == 0 {
+            if self.is_malformed(i) || self.hop[i] == 0 || (self.hop[i] > self.links && self.hop[i] < DISCARD) {
                 return Err((4, i as u64));
             }
             if i > 0 && (self.value[i - 1], self.length[i - 1]) >= (self.value[i], self.length[i]) {
