@@ -1,0 +1,182 @@
+//! The command line: which command, of what, with which options.
+
+use hongsamuk::{Kind, LINKS};
+
+use crate::arrays::{How, Strides};
+use crate::dotted::{address, number};
+use crate::routes::TableFile;
+use crate::Problem;
+
+pub const USAGE: &str = "\
+yard lookup TABLE ADDRESS...             the hop of each address, the prefix that won, and the reads
+yard compare TABLE                       every kind and number of levels side by side: sizes, reads, times; one table, one answer
+yard draw TABLE [ADDRESS] --svg FILE     the blocks of a table of at most 64 routes, and an address's path through them
+yard sheet TABLE ADDRESS...              the tablet's text of the same table and addresses
+yard read REPORT                         the tablet's report in dotted words
+
+TABLE is a file with a line a route: 10.20.0.0/16 3, or 10.20.0.0/16 discard; # begins a comment. ADDRESS is dotted. TABLE and REPORT
+may be -, standard input.
+
+  --kind KIND     fst (fixed strides), vst (variable ones, taken where none is said) or, for lookup, bitmap
+  --levels K      at most so many levels (4 where none is said); a bitmap has none
+  --links N       how many links the gateway has (65535 where none is said: then no hop is refused but 0)
+  --svg FILE      the file for the picture of draw or, where one is wanted, of compare
+";
+
+/// The levels where none are said: eight bits each.
+const LEVELS: u16 = 4;
+
+const KIND: &str = "--kind";
+const LEVEL_COUNT: &str = "--levels";
+const LINK_COUNT: &str = "--links";
+const SVG: &str = "--svg";
+
+#[derive(PartialEq, Eq, Debug)]
+pub enum Command {
+    Help,
+    Lookup { table: TableFile, how: How, addresses: Vec<u32> },
+    Compare { table: TableFile, svg: Option<String> },
+    Draw { table: TableFile, strides: Strides, address: Option<u32>, svg: String },
+    Sheet { table: TableFile, strides: Strides, addresses: Vec<u32> },
+    Read { report: String },
+}
+
+impl Command {
+    pub fn parse(words: &[String]) -> Result<Command, Problem> {
+        let Some((name, rest)) = words.split_first() else {
+            return Err(Problem("no command: lookup, compare, draw, sheet or read (yard help says more)".into()));
+        };
+        match name.as_str() {
+            "help" | "--help" | "-h" => Ok(Command::Help),
+            "lookup" => lookup(Given::parse(name, rest, &[KIND, LEVEL_COUNT, LINK_COUNT])?),
+            "compare" => compare(Given::parse(name, rest, &[LINK_COUNT, SVG])?),
+            "draw" => draw(Given::parse(name, rest, &[KIND, LEVEL_COUNT, LINK_COUNT, SVG])?),
+            "sheet" => sheet(Given::parse(name, rest, &[KIND, LEVEL_COUNT, LINK_COUNT])?),
+            "read" => read(Given::parse(name, rest, &[])?),
+            _ => {
+                let name = name.escape_debug();
+                Err(Problem(format!(
+                    "no command is called '{name}': lookup, compare, draw, sheet or read (yard help says more)"
+                )))
+            }
+        }
+    }
+}
+
+fn lookup(given: Given) -> Result<Command, Problem> {
+    Ok(Command::Lookup { table: given.table()?, how: given.how()?, addresses: given.addresses()? })
+}
+
+fn compare(given: Given) -> Result<Command, Problem> {
+    given.at_most(1)?;
+    Ok(Command::Compare { table: given.table()?, svg: given.option(SVG).map(String::from) })
+}
+
+fn draw(given: Given) -> Result<Command, Problem> {
+    given.at_most(2)?;
+    let table = given.table()?;
+    let address = given.words.get(1).map(|word| address(word)).transpose()?;
+    let svg = given.option(SVG).ok_or_else(|| Problem("draw: no file for the picture: say --svg FILE".into()))?;
+    Ok(Command::Draw { table, strides: given.strides()?, address, svg: svg.into() })
+}
+
+fn sheet(given: Given) -> Result<Command, Problem> {
+    Ok(Command::Sheet { table: given.table()?, strides: given.strides()?, addresses: given.addresses()? })
+}
+
+fn read(given: Given) -> Result<Command, Problem> {
+    given.at_most(1)?;
+    Ok(Command::Read { report: given.first("report")?.into() })
+}
+
+/// What follows a command's name: words, and options with their values.
+struct Given<'a> {
+    command: &'a str,
+    words: Vec<&'a str>,
+    options: Vec<(&'a str, &'a str)>,
+}
+
+impl<'a> Given<'a> {
+    fn parse(command: &'a str, rest: &'a [String], known: &[&str]) -> Result<Given<'a>, Problem> {
+        let mut given = Given { command, words: Vec::new(), options: Vec::new() };
+        let mut rest = rest.iter().map(String::as_str);
+        while let Some(word) = rest.next() {
+            if !word.starts_with("--") {
+                given.words.push(word);
+                continue;
+            }
+            let (option, value) = word.split_once('=').map_or((word, None), |(option, value)| (option, Some(value)));
+            if !known.contains(&option) {
+                return Err(
+                    given.problem(format!("there is no option {} (yard help says more)", option.escape_debug()))
+                );
+            }
+            let value = value.or_else(|| rest.next()).filter(|value| !value.is_empty());
+            let Some(value) = value else { return Err(given.problem(format!("{option} has no value"))) };
+            if given.option(option).is_some() {
+                return Err(given.problem(format!("{option} stands twice")));
+            }
+            given.options.push((option, value));
+        }
+        Ok(given)
+    }
+
+    fn problem(&self, text: String) -> Problem {
+        Problem(text).at(self.command)
+    }
+
+    fn option(&self, name: &str) -> Option<&'a str> {
+        self.options.iter().find(|(option, _)| *option == name).map(|(_, value)| *value)
+    }
+
+    /// The number that an option says, or the one taken where it is not said. Numbers up to 65,535 are the library's to judge.
+    fn number(&self, name: &str, otherwise: u16) -> Result<u16, Problem> {
+        let Some(text) = self.option(name) else { return Ok(otherwise) };
+        number(text, u16::MAX.into()).map(|said| said as u16).map_err(|problem| problem.at(name).at(self.command))
+    }
+
+    fn first(&self, what: &str) -> Result<&'a str, Problem> {
+        self.words.first().copied().ok_or_else(|| self.problem(format!("no file of a {what} is named")))
+    }
+
+    fn at_most(&self, count: usize) -> Result<(), Problem> {
+        match self.words.get(count) {
+            None => Ok(()),
+            Some(word) => Err(self.problem(format!("'{}' is one word too many", word.escape_debug()))),
+        }
+    }
+
+    fn table(&self) -> Result<TableFile, Problem> {
+        Ok(TableFile { file: self.first("table")?.into(), links: self.number(LINK_COUNT, LINKS)? })
+    }
+
+    fn addresses(&self) -> Result<Vec<u32>, Problem> {
+        if self.words.len() < 2 {
+            return Err(self.problem("no address is asked for".into()));
+        }
+        self.words[1..].iter().map(|word| address(word)).collect()
+    }
+
+    fn how(&self) -> Result<How, Problem> {
+        let levels = u32::from(self.number(LEVEL_COUNT, LEVELS)?);
+        match self.option(KIND).unwrap_or("vst") {
+            "fst" => Ok(How::Elements(Strides { kind: Kind::Fixed, levels })),
+            "vst" => Ok(How::Elements(Strides { kind: Kind::Variable, levels })),
+            "bitmap" if self.option(LEVEL_COUNT).is_some() => {
+                Err(self.problem("a bitmap has no levels: leave --levels out".into()))
+            }
+            "bitmap" => Ok(How::Bitmap),
+            other => Err(self.problem(format!("'{}' is no kind: fst, vst or bitmap", other.escape_debug()))),
+        }
+    }
+
+    /// Strides: for what a bitmap does not have.
+    fn strides(&self) -> Result<Strides, Problem> {
+        match self.how()? {
+            How::Elements(strides) => Ok(strides),
+            How::Bitmap => {
+                Err(self.problem("a bitmap has no blocks, and the tablet knows none: say --kind fst or vst".into()))
+            }
+        }
+    }
+}

@@ -1,0 +1,36 @@
+//! Files, and `-` for standard input.
+
+use std::fs;
+use std::io::{self, Read};
+
+use crate::Problem;
+
+/// The name that stands for standard input.
+const STANDARD_INPUT: &str = "-";
+
+pub fn read(file: &str) -> Result<Vec<u8>, Problem> {
+    let bytes = if file == STANDARD_INPUT { read_input() } else { fs::read(file) };
+    bytes.map_err(|error| Problem(format!("cannot be read: {error}")).at(name(file)))
+}
+
+fn read_input() -> io::Result<Vec<u8>> {
+    let mut bytes = Vec::new();
+    io::stdin().lock().read_to_end(&mut bytes).map(|_| bytes)
+}
+
+/// How the file is called in messages.
+pub fn name(file: &str) -> String {
+    if file == STANDARD_INPUT {
+        return "standard input".into();
+    }
+    file.escape_debug().to_string()
+}
+
+/// The name without its folders.
+pub fn last_name(file: &str) -> String {
+    name(file.rsplit(['/', '\\']).next().unwrap_or(file))
+}
+
+pub fn write(file: &str, text: &str) -> Result<(), Problem> {
+    fs::write(file, text).map_err(|error| Problem(format!("cannot be written: {error}")).at(name(file)))
+}
