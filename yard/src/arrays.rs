@@ -75,25 +75,13 @@ pub struct Elements {
 impl Elements {
     /// Builds the table, and says how long the build itself took.
     pub fn build(strides: Strides, table: Table) -> Result<(Elements, Duration), Refusal> {
-        let (mut elements, mut scratch) = (Elements::default(), Vec::new());
-        loop {
-            let start = Instant::now();
-            let built = build(strides.kind, strides.levels, table, &mut scratch, elements.room());
-            let took = start.elapsed();
-            match built.outcome {
-                Outcome::Accepted => {
-                    elements.record = built.record;
-                    return Ok((elements, took));
-                }
-                Outcome::Refused { number: SCRATCH, detail } if scratch.is_empty() => {
-                    scratch = scratch_of(detail, SCRATCH_ROW)
-                }
-                Outcome::Refused { number: ROOM, detail } if elements.hop.is_empty() && detail <= ELEMENTS.into() => {
-                    elements.make_room(detail as usize)
-                }
-                Outcome::Refused { number, detail } => return Err(Refusal { number, detail }),
-            }
-        }
+        let mut elements = Elements::default();
+        let took = lend(&mut elements, SCRATCH_ROW, Elements::make_room, |elements, scratch| {
+            let built = build(strides.kind, strides.levels, table, scratch, elements.room());
+            elements.record = built.record;
+            built.outcome
+        })?;
+        Ok((elements, took))
     }
 
     fn make_room(&mut self, rows: usize) {
@@ -126,29 +114,14 @@ pub struct Supernodes {
 impl Supernodes {
     /// Builds the table, and says how long the build itself took.
     pub fn build(table: Table) -> Result<(Supernodes, Duration), Refusal> {
-        let mut scratch = Vec::new();
         // There are as many hops as entries.
         let mut supernodes = Supernodes { hop_row: vec![0; table.hop.len()], ..Supernodes::default() };
-        loop {
-            let start = Instant::now();
-            let built = build_bitmap(table, &mut scratch, supernodes.room());
-            let took = start.elapsed();
-            match built.outcome {
-                Outcome::Accepted => {
-                    supernodes.record = built.record;
-                    return Ok((supernodes, took));
-                }
-                Outcome::Refused { number: SCRATCH, detail } if scratch.is_empty() => {
-                    scratch = scratch_of(detail, NODE_ROW)
-                }
-                Outcome::Refused { number: ROOM, detail }
-                    if supernodes.internal.is_empty() && detail <= ELEMENTS.into() =>
-                {
-                    supernodes.make_room(detail as usize)
-                }
-                Outcome::Refused { number, detail } => return Err(Refusal { number, detail }),
-            }
-        }
+        let took = lend(&mut supernodes, NODE_ROW, Supernodes::make_room, |supernodes, scratch| {
+            let built = build_bitmap(table, scratch, supernodes.room());
+            supernodes.record = built.record;
+            built.outcome
+        })?;
+        Ok((supernodes, took))
     }
 
     fn make_room(&mut self, rows: usize) {
@@ -167,9 +140,30 @@ impl Supernodes {
     }
 }
 
-/// So many rows of scratch.
-fn scratch_of(rows: u64, row: usize) -> Vec<u64> {
-    vec![0; rows as usize * row]
+/// Builds with the scratch and then the rows that the refusals ask for, each once; says how long the accepted build took.
+fn lend<A>(
+    arrays: &mut A,
+    scratch_row: usize,
+    make_room: fn(&mut A, usize),
+    build: impl Fn(&mut A, &mut [u64]) -> Outcome,
+) -> Result<Duration, Refusal> {
+    let (mut scratch, mut has_room) = (Vec::new(), false);
+    loop {
+        let start = Instant::now();
+        let outcome = build(arrays, &mut scratch);
+        let took = start.elapsed();
+        match outcome {
+            Outcome::Accepted => return Ok(took),
+            Outcome::Refused { number: SCRATCH, detail } if scratch.is_empty() => {
+                scratch = vec![0; detail as usize * scratch_row];
+            }
+            Outcome::Refused { number: ROOM, detail } if !has_room && detail <= ELEMENTS.into() => {
+                make_room(arrays, detail as usize);
+                has_room = true;
+            }
+            Outcome::Refused { number, detail } => return Err(Refusal { number, detail }),
+        }
+    }
 }
 
 /// The arrays of one build.

@@ -10,11 +10,11 @@ use crate::picture::{Picture, Place, WIDE};
 use crate::routes::Routes;
 use crate::shown::counted;
 
-const HIGH: f64 = 640.0;
+const HIGH: f64 = 720.0;
 /// The field of the lines.
 const LEFT: f64 = 120.0;
 const RIGHT: f64 = WIDE - 120.0;
-const TOP: f64 = 70.0;
+const TOP: f64 = 170.0;
 const BOTTOM: f64 = HIGH - 70.0;
 
 const STYLE: &str = "\
@@ -158,10 +158,10 @@ fn said(measured: &Measured) -> String {
     format!("{}, {} bytes, at most {} reads", measured.size, grouped(measured.bytes as u64), measured.most_reads)
 }
 
+/// Above the field, where no line can run into it.
 fn legend(picture: &mut Picture, bitmap: &Measured) {
-    let (x, words) = (RIGHT - 640.0, RIGHT - 590.0);
-    let mut y = TOP + 44.0;
-    picture.rectangle("paper", (x - 10.0, y - 16.0), 640.0, 98.0);
+    let (x, words) = (LEFT, LEFT + 50.0);
+    let mut y = 62.0;
     for (kind, meaning) in [(Kind::Fixed, "fst: one stride a level"), (Kind::Variable, "vst: one stride a block")] {
         let (class, radius) = look(kind);
         picture.lines(class, &[(x, y), (x + 40.0, y)]);

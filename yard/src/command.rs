@@ -5,7 +5,7 @@ use hongsamuk::{Kind, LINKS};
 use crate::arrays::{How, Strides};
 use crate::dotted::{address, number};
 use crate::routes::TableFile;
-use crate::Problem;
+use crate::{files, Problem};
 
 pub const USAGE: &str = "\
 yard lookup TABLE ADDRESS...             the hop of each address, the prefix that won, and the reads
@@ -69,15 +69,18 @@ fn lookup(given: Given) -> Result<Command, Problem> {
 
 fn compare(given: Given) -> Result<Command, Problem> {
     given.at_most(1)?;
-    Ok(Command::Compare { table: given.table()?, svg: given.option(SVG).map(String::from) })
+    let table = given.table()?;
+    let svg = given.picture_file(&table)?;
+    Ok(Command::Compare { table, svg })
 }
 
 fn draw(given: Given) -> Result<Command, Problem> {
     given.at_most(2)?;
     let table = given.table()?;
     let address = given.words.get(1).map(|word| address(word)).transpose()?;
-    let svg = given.option(SVG).ok_or_else(|| Problem("draw: no file for the picture: say --svg FILE".into()))?;
-    Ok(Command::Draw { table, strides: given.strides()?, address, svg: svg.into() })
+    let svg = given.picture_file(&table)?;
+    let svg = svg.ok_or_else(|| given.problem("no file for the picture is named: say --svg FILE".into()))?;
+    Ok(Command::Draw { table, strides: given.strides()?, address, svg })
 }
 
 fn sheet(given: Given) -> Result<Command, Problem> {
@@ -148,6 +151,15 @@ impl<'a> Given<'a> {
 
     fn table(&self) -> Result<TableFile, Problem> {
         Ok(TableFile { file: self.first("table")?.into(), links: self.number(LINK_COUNT, LINKS)? })
+    }
+
+    /// The file for a picture, where one is named; it must not be the table's own.
+    fn picture_file(&self, table: &TableFile) -> Result<Option<String>, Problem> {
+        let Some(svg) = self.option(SVG) else { return Ok(None) };
+        if files::is_same(svg, &table.file) {
+            return Err(self.problem("the picture would be written over the table".into()));
+        }
+        Ok(Some(svg.into()))
     }
 
     fn addresses(&self) -> Result<Vec<u32>, Problem> {

@@ -95,6 +95,14 @@ pub fn hop_word(hop: u16) -> String {
     }
 }
 
+/// A hop in a phrase: `hop 3`, or the word that discards.
+pub fn hop_phrase(hop: u16) -> String {
+    match hop {
+        DISCARD => DISCARD_WORD.into(),
+        link => format!("hop {link}"),
+    }
+}
+
 /// A number from 0 to `most`, in decimal digits without leading zeros.
 pub fn number(text: &str, most: u64) -> Result<u64, Problem> {
     let is_plain = text.bytes().all(|byte| byte.is_ascii_digit()) && !text.is_empty();

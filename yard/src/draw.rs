@@ -1,10 +1,10 @@
 //! `yard draw`: the blocks of a small table, and an address's path through them.
 
-use hongsamuk::{Answer, Kind, DISCARD};
+use hongsamuk::{Answer, Kind};
 
 use crate::arrays::{Elements, How, Strides};
 use crate::blocks::{blocks, path, Block, Run};
-use crate::dotted::{dotted, hop_word};
+use crate::dotted::{dotted, hop_phrase};
 use crate::picture::{Picture, Place};
 use crate::places::{height, is_beside, middle, places, Places, ARRIVAL, BLOCK, HEAD, MARGIN, ROW};
 use crate::routes::{Routes, TableFile};
@@ -23,8 +23,9 @@ const LINE: f64 = 13.0;
 const STUB: f64 = 18.0;
 /// Below the blocks: a line each for the answer and for what is what.
 const FOOT: f64 = 60.0;
-const LEGEND: &str = "A block: its number, the bits that lead to it, its first row. A row: its bits (numbers where there are more than 7), the hop \
-                      and its length, an arrow to a block.";
+const LEGEND: &str =
+    "A block: its number, the bits that lead to it, its first row. A row: its bits (numbers where there \
+                      are more than 7), the hop and its length, an arrow to a block.";
 
 const STYLE: &str = "\
 .block { fill: #eef2f6; stroke: #5b6b7c }
@@ -104,7 +105,7 @@ impl Drawing<'_> {
         let record = self.elements.record;
         let floor = match record.floor {
             0 => "no route of 0 bits".into(),
-            hop => format!("hop {} by 0.0.0.0/0 where no row has one", hop_word(hop)),
+            hop => format!("{} by 0.0.0.0/0 where no row has a hop", hop_phrase(hop)),
         };
         let elements = element_size(record.elements.into(), record.strides[0].into());
         format!("{elements}, {}, {floor}", counted(self.blocks.len() as u64, "block"))
@@ -212,8 +213,7 @@ fn leave_band(picture: &mut Picture, class: &str, (x, y): Place, (left, arrival)
 fn hop_cell(run: &Run) -> (&'static str, String) {
     match run.hop {
         0 => ("none end", "\u{2013}".into()),
-        DISCARD => ("end", format!("discard /{}", run.length)),
-        hop => ("end", format!("hop {hop} /{}", run.length)),
+        hop => ("end", format!("{} /{}", hop_phrase(hop), run.length)),
     }
 }
 

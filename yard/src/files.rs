@@ -31,6 +31,11 @@ pub fn last_name(file: &str) -> String {
     name(file.rsplit(['/', '\\']).next().unwrap_or(file))
 }
 
+/// Whether two names are those of one file that is there.
+pub fn is_same(one: &str, other: &str) -> bool {
+    fs::canonicalize(one).is_ok_and(|one| fs::canonicalize(other).is_ok_and(|other| one == other))
+}
+
 pub fn write(file: &str, text: &str) -> Result<(), Problem> {
     fs::write(file, text).map_err(|error| Problem(format!("cannot be written: {error}")).at(name(file)))
 }

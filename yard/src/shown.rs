@@ -3,7 +3,7 @@
 use hongsamuk::{Answer, DISCARD};
 
 use crate::arrays::Arrays;
-use crate::dotted::{dotted, grouped, hop_word, Prefix};
+use crate::dotted::{dotted, grouped, hop_phrase, hop_word, Prefix};
 use crate::{words, Problem};
 
 /// One answered address, in words for its columns.
@@ -31,11 +31,10 @@ pub fn line(address: u32, answer: Answer) -> Result<Line, Problem> {
 
 /// An answer in a few words: `hop 3 by 10.0.0.0/8`.
 pub fn in_words(address: u32, answer: Answer) -> String {
-    match answer {
-        Answer::Match { hop, length, .. } => format!("hop {hop} by {}", Prefix::of(address, length)),
-        Answer::Discard { length, .. } => format!("discard by {}", Prefix::of(address, length)),
-        Answer::NoRoute { .. } => NO_ROUTE.into(),
-        Answer::Refused { number } => format!("refused ({number})"),
+    match (answer, answer.won()) {
+        (Answer::Refused { number }, _) => format!("refused ({number})"),
+        (_, Some((hop, length))) => format!("{} by {}", hop_phrase(hop), Prefix::of(address, length)),
+        (_, None) => NO_ROUTE.into(),
     }
 }
 

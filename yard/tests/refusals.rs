@@ -103,7 +103,7 @@ fn bad_commands() {
             &["lookup", table, "10.0.0.1", "10.0.0"],
             "'10.0.0' is no address: write four numbers from 0 to 255, as 10.20.30.40",
         ),
-        (&["draw", table], "draw: no file for the picture: say --svg FILE"),
+        (&["draw", table], "draw: no file for the picture is named: say --svg FILE"),
         (&["draw", table, "10.0.0.1", "10.0.0.2", "--svg", svg], "draw: '10.0.0.2' is one word too many"),
         (&["compare", table, "10.0.0.1", "--svg", svg], "compare: '10.0.0.1' is one word too many"),
         (&["read", table, table], "read: 'FILE' is one word too many"),
@@ -130,6 +130,10 @@ fn bad_commands() {
         );
     }
     assert!(!Path::new(svg).exists());
+    for command in [["draw", table, "--svg", table], ["compare", table, "--svg", table]] {
+        assert!(complaint(&command).ends_with(": the picture would be written over the table"), "{command:?}");
+    }
+    assert_eq!(std::fs::read_to_string(table).expect("the table"), GOOD);
 }
 
 #[test]
