@@ -228,3 +228,20 @@ fn label(run: &Run, stride: u8) -> String {
     }
     format!("{}\u{2013}{}", row(run.first), row(run.last))
 }
+
+#[cfg(test)]
+mod tests {
+    use super::*;
+
+    /// Rows that the library would not read, or reads otherwise, are not drawn as a path.
+    #[test]
+    fn a_path_is_held_to_the_library() {
+        let routes =
+            Routes::parse("t", 9, b"10.0.0.0/8 3\n10.20.0.0/16 4\n").unwrap_or_else(|problem| panic!("{problem}"));
+        let strides = Strides { kind: Kind::Variable, levels: 4 };
+        let (sound, _) = Elements::build(strides, routes.table()).unwrap_or_else(|refusal| panic!("{refusal:?}"));
+        assert!(Asked::of(&sound, 0x0a140000).is_ok());
+        let fewer = Elements { record: hongsamuk::Record { levels: 1, ..sound.record }, ..sound };
+        assert!(Asked::of(&fewer, 0x0a140000).is_err());
+    }
+}

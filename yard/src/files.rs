@@ -18,7 +18,7 @@ fn read_input() -> io::Result<Vec<u8>> {
     io::stdin().lock().read_to_end(&mut bytes).map(|_| bytes)
 }
 
-/// How the file is called in messages.
+/// How the file is called in messages and pictures: what cannot be shown is written out.
 pub fn name(file: &str) -> String {
     if file == STANDARD_INPUT {
         return "standard input".into();

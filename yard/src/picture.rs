@@ -93,19 +93,7 @@ text { font: 12px 'DejaVu Sans Mono', Menlo, Consolas, monospace; fill: #1c2733 
 .middle { text-anchor: middle }
 ";
 
-/// Text as XML has it; what XML has no place for becomes a question mark.
+/// Text as XML has it. Control characters, which XML has no place for, are gone from a file's name before (`files::name`).
 fn escaped(text: &str) -> String {
-    let mut escaped = String::new();
-    for letter in text.chars() {
-        match letter {
-            '&' => escaped.push_str("&amp;"),
-            '<' => escaped.push_str("&lt;"),
-            '>' => escaped.push_str("&gt;"),
-            '"' => escaped.push_str("&quot;"),
-            '\u{fffe}' | '\u{ffff}' => escaped.push('?'),
-            letter if letter.is_control() => escaped.push('?'),
-            letter => escaped.push(letter),
-        }
-    }
-    escaped
+    text.replace('&', "&amp;").replace('<', "&lt;").replace('>', "&gt;").replace('"', "&quot;")
 }

@@ -28,10 +28,7 @@ pub fn of_build(refusal: Refusal, routes: &Routes, how: How) -> Problem {
     let (why, remedy) = match (number, how) {
         (2, How::Elements(Strides { levels, .. })) => (levels_out(levels), "say --levels with a number from 1 to 32"),
         (3, _) => (too_many(routes), "divide it"),
-        (4, _) => (
-            bad_hop(detail, routes),
-            "write a link that it has, from 1 on, or discard; or say with --links how many it has",
-        ),
+        (4, _) => (bad_hop(detail, routes), "write one of its links, or discard; or say with --links how many it has"),
         (7, How::Elements(strides)) => {
             (too_large(strides, detail), "allow more levels with --levels, or take another --kind")
         }

@@ -203,6 +203,23 @@ fn sheets_and_reports_are_the_tablets() {
     assert_eq!(empty, expected);
 }
 
+/// A prefix of every length, and an address with every digit, of which both are seen.
+#[test]
+fn sheets_have_every_bit() {
+    let folder = Folder::new("bits");
+    for bits in [0x5a5a0ff0u32, 0xa5a5f00f] {
+        let lines: String =
+            (0..=32).map(|length| format!("{} {}\n", Prefix::of(bits, length), u16::from(length) + 1)).collect();
+        let sheet = said(&["sheet", &folder.file("chain.routes", &lines), &dotted(bits)]);
+        let digits = format!("{bits:032b}");
+        let mut entries: Vec<(String, usize)> = (0..=32).map(|length| (digits[..length].into(), length + 1)).collect();
+        entries.sort();
+        let entries: String = entries.iter().map(|(bits, hop)| format!("bits={bits}\nhop={hop}\n")).collect();
+        let head = "width=32\nkind=vst\nlevels=4\nlinks=65535\nentries=33\n";
+        assert_eq!(sheet, format!("{head}{entries}queries=1\naddress={digits}\n"));
+    }
+}
+
 #[test]
 fn reports_in_dotted_words() {
     let few = "\
@@ -236,4 +253,19 @@ fn help_is_said() {
         assert!(["lookup", "compare", "draw", "sheet", "read", "--svg"].iter().all(|word| help.contains(word)));
         assert!(help.lines().all(|line| line.chars().count() <= 140));
     }
+}
+
+/// What README shows is what is said.
+#[test]
+fn readme_is_true() {
+    let readme = fs::read_to_string(top().join("README.md")).expect("README.md");
+    let lookup = said(&["lookup", &example("brakes.routes"), "10.20.30.40", "10.20.30.41", "10.20.99.7"]);
+    let shown: String = lookup.lines().map(|line| format!("    {line}\n")).collect();
+    assert!(readme.contains(&shown), "{shown}");
+    let refused = complaint(&["lookup", &example("brakes.routes"), "10.20.30.41", "--links", "5"])
+        .replace(&example(""), "examples/");
+    assert!(readme.replace("\n    ", " ").contains(&format!("yard: {refused}")), "{refused}");
+    let compared = said(&["compare", &example("brakes.routes")]);
+    let verdict = compared.lines().next_back().expect("a verdict");
+    assert!(readme.contains(&format!("`{verdict}`")), "{verdict}");
 }

@@ -175,6 +175,20 @@ fn rows_have_hop_and_length() {
     assert_eq!(texts[..texts.len() - 1], expected.split('|').collect::<Vec<_>>());
 }
 
+/// The same hop by two prefixes is not the same row.
+#[test]
+fn rows_of_two_lengths_stand_apart() {
+    let folder = Folder::new("lengths");
+    let (picture, _) = drawn(&folder, &folder.file("t.routes", "0.0.0.0/1 3\n128.0.0.0/2 3\n"), &["--levels", "1"]);
+    let rows = ["00\u{2013}01", "hop 3 /1", "10", "hop 3 /2", "11", "\u{2013}"];
+    let texts: Vec<&str> = picture
+        .lines()
+        .filter(|line| line.starts_with("<text"))
+        .filter_map(|text| text.split(['>', '<']).nth(2))
+        .collect();
+    assert!(texts.windows(rows.len()).any(|texts| texts == rows), "{texts:?}");
+}
+
 #[test]
 fn names_are_escaped_and_cut() {
     let folder = Folder::new("names");

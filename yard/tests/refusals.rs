@@ -149,7 +149,7 @@ fn refusals_of_a_build() {
         say(&["--levels", "33"]),
         "refused (2): 33 is no number of levels: say --levels with a number from 1 to 32"
     );
-    let remedy = "write a link that it has, from 1 on, or discard; or say with --links how many it has";
+    let remedy = "write one of its links, or discard; or say with --links how many it has";
     let nine = "FILE, line 2: 10.20.30.40/32 has hop 9, and the gateway has 8 links";
     assert_eq!(say(&["--links", "8"]), format!("refused (4): {nine}: {remedy}"));
     assert_eq!(say(&["--links", "8", "--kind", "bitmap"]), format!("refused (4): {nine}: {remedy}"));
