@@ -8,7 +8,7 @@ use hongsamuk::{Kind, Outcome, Record, Rows, RowsMut, Table, ELEMENTS, NODE_ROW,
 
 /// Numbers of the refusals for room: too little scratch, too few rows.
 const SCRATCH: u32 = 6;
-const ROOM: u32 = 7;
+pub const ROOM: u32 = 7;
 
 /// Bytes of a row: of the four element lists, and of the four lists of supernodes; and of a hop row.
 pub const ELEMENT_BYTES: usize = 8;

@@ -2,6 +2,8 @@
 
 use std::collections::VecDeque;
 
+use hongsamuk::WIDTH;
+
 use crate::arrays::Elements;
 use crate::dotted::Prefix;
 
@@ -76,7 +78,7 @@ fn join(runs: &mut Vec<Run>, run: Run, apart: bool) {
 /// The bits that lead to the child of a row.
 fn below(under: Prefix, stride: u8, row: usize) -> Prefix {
     let length = under.length() + stride;
-    Prefix::of(under.first() | ((row as u64) << (32 - length)) as u32, length)
+    Prefix::of(under.first() | ((row as u64) << (WIDTH as u8 - length)) as u32, length)
 }
 
 /// The element rows that a lookup of the address reads in an accepted build, in order.

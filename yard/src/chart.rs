@@ -5,10 +5,7 @@ use hongsamuk::{Kind, ELEMENTS, LEVELS};
 use crate::arrays::{How, Strides, ELEMENT_BYTES};
 use crate::compare::{Compared, Measured};
 use crate::dotted::grouped;
-use crate::files;
 use crate::picture::{Picture, Place, WIDE};
-use crate::routes::Routes;
-use crate::shown::counted;
 
 const HIGH: f64 = 720.0;
 /// The field of the lines.
@@ -69,14 +66,11 @@ fn elements(one: &Compared) -> f64 {
     }
 }
 
-pub fn picture(routes: &Routes, compared: &[Compared]) -> String {
+/// The chart of a table, whose name is the title's.
+pub fn picture(name: &str, compared: &[Compared]) -> String {
     let scale = Scale::around(&compared.iter().map(elements).collect::<Vec<_>>());
     let mut picture = Picture::default();
-    let title = format!(
-        "What more levels buy: {}, {}",
-        files::last_name(&routes.name),
-        counted(routes.routes.len() as u64, "route")
-    );
+    let title = format!("What more levels buy: {name}");
     picture.title((LEFT, 36.0), &title);
     frame(&mut picture, &scale);
     limit(&mut picture, &scale);

@@ -2,9 +2,9 @@
 
 use std::time::Duration;
 
-use hongsamuk::{check, Answer, Kind, Outcome, LEVELS};
+use hongsamuk::{check, Answer, Kind, Outcome, ELEMENTS, LEVELS};
 
-use crate::arrays::{Arrays, How, Refusal, Strides};
+use crate::arrays::{Arrays, How, Refusal, Strides, ROOM};
 use crate::dotted::{dotted, grouped};
 use crate::routes::{Routes, TableFile};
 use crate::shown::{columns, in_words, reads, size, NONE};
@@ -34,7 +34,7 @@ pub fn run(table: &TableFile, svg: Option<&str>) -> Result<String, Problem> {
     let mut held = Held::at(edges(&routes));
     let compared = ways().map(|how| compared(how, &routes, &mut held)).collect::<Result<Vec<_>, _>>()?;
     if let Some(file) = svg {
-        files::write(file, &chart::picture(&routes, &compared))?;
+        files::write(file, &chart::picture(&routes.title(), &compared))?;
     }
     Ok(format!("{}{}", table_of(&compared), held.verdict()))
 }
@@ -49,7 +49,7 @@ fn compared(how: How, routes: &Routes, held: &mut Held) -> Result<Compared, Prob
     let (arrays, time) = match Arrays::build(how, routes.table()) {
         Ok(built) => built,
         // Too large a build is worth a line of its own; nothing else may be refused here.
-        Err(refusal @ Refusal { number: 7, .. }) => return Ok(Compared { how, result: Err(refusal) }),
+        Err(refusal @ Refusal { number: ROOM, .. }) => return Ok(Compared { how, result: Err(refusal) }),
         Err(refusal) => return Err(words::of_build(refusal, routes, how)),
     };
     let most_reads = held.hold(how, &arrays)?;
@@ -116,7 +116,8 @@ fn table_of(compared: &[Compared]) -> String {
     let rows: Vec<_> = std::iter::once(head).chain(compared.iter().map(row)).collect();
     let mut text = columns(&rows, [false, true, true, true, true, true]);
     if compared.iter().any(|one| one.result.is_err()) {
-        text.push_str("refused (7): more than 16,777,216 elements, which no build may have\n");
+        let most = grouped(ELEMENTS.into());
+        text.push_str(&format!("refused ({ROOM}): more than {most} elements, which no build may have\n"));
     }
     if let Some(Compared { result: Ok(bitmap), .. }) = compared.iter().find(|one| one.how == How::Bitmap) {
         text.push_str(&format!("bitmap: {}; it has no levels, and a supernode is no element\n", bitmap.size));

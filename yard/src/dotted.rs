@@ -54,14 +54,15 @@ impl FromStr for Prefix {
     type Err = Problem;
 
     fn from_str(text: &str) -> Result<Prefix, Problem> {
+        let shown = text.escape_debug();
         let Some((start, bits)) = text.split_once('/') else {
-            return Err(Problem(format!("'{}' has no length: write a prefix as 10.20.0.0/16", text.escape_debug())));
+            return Err(Problem(format!("'{shown}' has no length: write a prefix as 10.20.0.0/16")));
         };
         let value = address(start)?;
-        let length = number(bits, WIDTH.into()).map_err(|problem| problem.at(format!("the length of '{text}'")))?;
+        let length = number(bits, WIDTH.into()).map_err(|problem| problem.at(format!("the length of '{shown}'")))?;
         let prefix = Prefix::of(value, length as u8);
         if prefix.value != value {
-            return Err(Problem(format!("'{text}' has bits past its length: its first {length} bits are {prefix}")));
+            return Err(Problem(format!("'{shown}' has bits past its length: its first {length} bits are {prefix}")));
         }
         Ok(prefix)
     }

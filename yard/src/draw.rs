@@ -23,9 +23,8 @@ const LINE: f64 = 13.0;
 const STUB: f64 = 18.0;
 /// Below the blocks: a line each for the answer and for what is what.
 const FOOT: f64 = 60.0;
-const LEGEND: &str =
-    "A block: its number, the bits that lead to it, its first row. A row: its bits (numbers where there \
-                      are more than 7), the hop and its length, an arrow to a block.";
+const LEGEND: &str = "A block: its number, the bits that lead to it, its first row. A row: its bits (a number where they are more than 7), \
+    hop and length, an arrow to a block.";
 
 const STYLE: &str = "\
 .block { fill: #eef2f6; stroke: #5b6b7c }
@@ -55,7 +54,7 @@ pub fn run(table: &TableFile, strides: Strides, address: Option<u32>, svg: &str)
     let (elements, _) = Elements::build(strides, routes.table()).map_err(refused)?;
     let asked = address.map(|address| Asked::of(&elements, address)).transpose()?;
     let drawing = Drawing::of(&elements, strides, asked);
-    let title = format!("{}: {}, {strides}", files::last_name(&table.file), counted(count as u64, "route"));
+    let title = format!("{}: {strides}", routes.title());
     files::write(svg, &drawing.file(&title))?;
     let said = drawing.answer().map_or(String::new(), |answer| format!("{answer}\n"));
     Ok(format!("{}: {}\n{said}", files::name(svg), drawing.size()))

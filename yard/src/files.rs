@@ -2,6 +2,7 @@
 
 use std::fs;
 use std::io::{self, Read};
+use std::path::Path;
 
 use crate::Problem;
 
@@ -26,9 +27,9 @@ pub fn name(file: &str) -> String {
     file.escape_debug().to_string()
 }
 
-/// The name without its folders.
+/// The same without its folders.
 pub fn last_name(file: &str) -> String {
-    name(file.rsplit(['/', '\\']).next().unwrap_or(file))
+    name(Path::new(file).file_name().and_then(|last| last.to_str()).unwrap_or(file))
 }
 
 /// Whether two names are those of one file that is there.

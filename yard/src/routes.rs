@@ -8,6 +8,7 @@ use std::collections::HashMap;
 use hongsamuk::{Table, WIDTH};
 
 use crate::dotted::{hop, Prefix};
+use crate::shown::counted;
 use crate::{files, Problem};
 
 /// A file of routes, and how many links the gateway has.
@@ -28,6 +29,8 @@ pub struct Route {
 pub struct Routes {
     /// The file, as messages call it.
     pub name: String,
+    /// The same without its folders.
+    last_name: String,
     /// How many links the gateway has.
     pub links: u16,
     pub routes: Vec<Route>,
@@ -38,12 +41,15 @@ pub struct Routes {
 
 impl Routes {
     pub fn read(table: &TableFile) -> Result<Routes, Problem> {
-        Routes::parse(&files::name(&table.file), table.links, &files::read(&table.file)?)
+        let routes = Routes::parse(&files::name(&table.file), table.links, &files::read(&table.file)?)?;
+        Ok(Routes { last_name: files::last_name(&table.file), ..routes })
     }
 
     pub fn parse(name: &str, links: u16, text: &[u8]) -> Result<Routes, Problem> {
         let mut routes: Vec<Route> = Vec::new();
         let mut lines = HashMap::new();
+        // Some editors begin a file with this mark.
+        let text = text.strip_prefix(b"\xef\xbb\xbf").unwrap_or(text);
         for (i, bytes) in text.split(|byte| *byte == b'\n').enumerate() {
             let line = i + 1;
             let at_line = |problem: Problem| problem.at(format!("{name}, line {line}"));
@@ -57,7 +63,12 @@ impl Routes {
         let value = routes.iter().map(|route| route.prefix.first()).collect();
         let length = routes.iter().map(|route| route.prefix.length()).collect();
         let hop = routes.iter().map(|route| route.hop).collect();
-        Ok(Routes { name: name.into(), links, routes, value, length, hop })
+        Ok(Routes { name: name.into(), last_name: name.into(), links, routes, value, length, hop })
+    }
+
+    /// What a picture of the table is called.
+    pub fn title(&self) -> String {
+        format!("{}, {}", self.last_name, counted(self.routes.len() as u64, "route"))
     }
 
     /// The table as it is lent to the library.

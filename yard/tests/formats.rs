@@ -105,6 +105,7 @@ fn a_file_of_routes_may_stand_in_any_order_with_comments() {
     assert_eq!((lent.width, lent.links), (32, 65_535));
     assert_eq!(lent.value, [0, 0x0a000000, 0x0a000000, 0x0a140000]);
     assert_eq!((lent.length, lent.hop), ([0, 8, 16, 16].as_slice(), [1, 3, 65_534, 65_535].as_slice()));
+    assert_eq!(written(&routes("\u{feff}10.0.0.0/8 3\n")), ["1 10.0.0.0/8 3"]);
     assert!(routes("# nothing\n").routes.is_empty() && routes("").routes.is_empty());
 }
 

@@ -167,7 +167,7 @@ fn rows_have_hop_and_length() {
         .filter(|line| line.starts_with("<text"))
         .filter_map(|text| text.split(['>', '<']).nth(2))
         .collect();
-    let expected = "eight-prefixes.routes: 8 routes, vst with at most 2 levels|26 elements, root stride 4, 3 blocks, no route of 0 bits\
+    let expected = "eight-prefixes.routes, 8 routes: vst with at most 2 levels|26 elements, root stride 4, 3 blocks, no route of 0 bits\
         |level 1|level 2\
         |block 1: level 1, stride 4|0.0.0.0/0|row 0|0000–0111|hop 1 /1|1000|hop 2 /1|1001|hop 2 /1|1010–1011|hop 4 /3|1100|hop 6 /4|1101–1111|hop 3 /2\
         |block 2: level 2, stride 1|128.0.0.0/4|row 16|0|–|1|hop 5 /5\

@@ -25,7 +25,7 @@ fn complaints(name: &str, text: impl AsRef<[u8]>) -> String {
 
 #[test]
 fn bad_files_by_line() {
-    let bad: [(&str, &[u8], &str); 14] = [
+    let bad: [(&str, &[u8], &str); 15] = [
         (
             "bits",
             b"10.0.0.0/8 3\n10.20.0.1/16 4\n",
@@ -50,6 +50,11 @@ fn bad_files_by_line() {
         ("bad-hop", b"10.0.0.0/8 drop\n", "FILE, line 1: the hop: 'drop' is no number in plain digits"),
         ("hop-above", b"10.0.0.0/8 65536\n", "FILE, line 1: the hop: 65536 is above 65,535"),
         ("three", b"10.0.0.0/8 3 4\n", "FILE, line 1: this is more than a prefix and a hop"),
+        (
+            "escaped-length",
+            b"10.0.0.0/\x1b[31m 3\n",
+            "FILE, line 1: the length of '10.0.0.0/\\u{1b}[31m': '\\u{1b}[31m' is no number in plain digits",
+        ),
         ("no-text", b"10.0.0.0/8 3\n\xff\xfe 3\n", "FILE, line 2: this is no text"),
         (
             "escape",
