@@ -3,7 +3,7 @@
 use hongsamuk::{Kind, LINKS};
 
 use crate::arrays::{How, Strides};
-use crate::dotted::{address, number};
+use crate::dotted::{address, cut, number};
 use crate::routes::TableFile;
 use crate::{files, Problem};
 
@@ -54,7 +54,7 @@ impl Command {
             "sheet" => sheet(Given::parse(name, rest, &[KIND, LEVEL_COUNT, LINK_COUNT])?),
             "read" => read(Given::parse(name, rest, &[])?),
             _ => {
-                let name = name.escape_debug();
+                let name = cut(name);
                 Err(Problem(format!(
                     "no command is called '{name}': lookup, compare, draw, sheet or read (yard help says more)"
                 )))
@@ -110,9 +110,7 @@ impl<'a> Given<'a> {
             }
             let (option, value) = word.split_once('=').map_or((word, None), |(option, value)| (option, Some(value)));
             if !known.contains(&option) {
-                return Err(
-                    given.problem(format!("there is no option {} (yard help says more)", option.escape_debug()))
-                );
+                return Err(given.problem(format!("there is no option {} (yard help says more)", cut(option))));
             }
             let value = value.or_else(|| rest.next()).filter(|value| !value.is_empty());
             let Some(value) = value else { return Err(given.problem(format!("{option} has no value"))) };
@@ -145,7 +143,7 @@ impl<'a> Given<'a> {
     fn at_most(&self, count: usize) -> Result<(), Problem> {
         match self.words.get(count) {
             None => Ok(()),
-            Some(word) => Err(self.problem(format!("'{}' is one word too many", word.escape_debug()))),
+            Some(word) => Err(self.problem(format!("'{}' is one word too many", cut(word)))),
         }
     }
 
@@ -178,7 +176,7 @@ impl<'a> Given<'a> {
                 Err(self.problem("a bitmap has no levels: leave --levels out".into()))
             }
             "bitmap" => Ok(How::Bitmap),
-            other => Err(self.problem(format!("'{}' is no kind: fst, vst or bitmap", other.escape_debug()))),
+            other => Err(self.problem(format!("'{}' is no kind: fst, vst or bitmap", cut(other)))),
         }
     }
 

@@ -9,6 +9,8 @@ use hongsamuk::{DISCARD, WIDTH};
 use crate::Problem;
 
 const DISCARD_WORD: &str = "discard";
+/// The most letters of what someone wrote that a message says again.
+const MESSAGE_LETTERS: usize = 40;
 
 /// A prefix: the first `length` bits of `value`, whose other bits are 0. The order is that of the library's tables.
 #[derive(Clone, Copy, PartialEq, Eq, PartialOrd, Ord, Hash, Debug)]
@@ -54,15 +56,15 @@ impl FromStr for Prefix {
     type Err = Problem;
 
     fn from_str(text: &str) -> Result<Prefix, Problem> {
-        let shown = text.escape_debug();
+        let said = cut(text);
         let Some((start, bits)) = text.split_once('/') else {
-            return Err(Problem(format!("'{shown}' has no length: write a prefix as 10.20.0.0/16")));
+            return Err(Problem(format!("'{said}' has no length: write a prefix as 10.20.0.0/16")));
         };
         let value = address(start)?;
-        let length = number(bits, WIDTH.into()).map_err(|problem| problem.at(format!("the length of '{shown}'")))?;
+        let length = number(bits, WIDTH.into()).map_err(|problem| problem.at(format!("the length of '{said}'")))?;
         let prefix = Prefix::of(value, length as u8);
         if prefix.value != value {
-            return Err(Problem(format!("'{shown}' has bits past its length: its first {length} bits are {prefix}")));
+            return Err(Problem(format!("'{said}' has bits past its length: its first {length} bits are {prefix}")));
         }
         Ok(prefix)
     }
@@ -73,9 +75,8 @@ pub fn dotted(address: u32) -> String {
 }
 
 pub fn address(text: &str) -> Result<u32, Problem> {
-    let problem = || {
-        Problem(format!("'{}' is no address: write four numbers from 0 to 255, as 10.20.30.40", text.escape_debug()))
-    };
+    let said = cut(text);
+    let problem = || Problem(format!("'{said}' is no address: write four numbers from 0 to 255, as 10.20.30.40"));
     text.parse::<Ipv4Addr>().map(u32::from).map_err(|_| problem())
 }
 
@@ -108,10 +109,10 @@ pub fn hop_phrase(hop: u16) -> String {
 pub fn number(text: &str, most: u64) -> Result<u64, Problem> {
     let is_plain = text.bytes().all(|byte| byte.is_ascii_digit()) && !text.is_empty();
     if !is_plain || (text.len() > 1 && text.starts_with('0')) {
-        return Err(Problem(format!("'{}' is no number in plain digits", text.escape_debug())));
+        return Err(Problem(format!("'{}' is no number in plain digits", cut(text))));
     }
     let within = text.parse().ok().filter(|number| *number <= most);
-    within.ok_or_else(|| Problem(format!("{text} is above {}", grouped(most))))
+    within.ok_or_else(|| Problem(format!("{} is above {}", cut(text), grouped(most))))
 }
 
 /// A number with its thousands set apart.
@@ -125,4 +126,11 @@ pub fn grouped(number: u64) -> String {
         text.push(digit);
     }
     text
+}
+
+/// What someone wrote, as a message has it: what cannot be shown is written out, and a long text is cut.
+pub fn cut(text: &str) -> String {
+    let start: String = text.chars().take(MESSAGE_LETTERS).collect();
+    let end = if start.len() == text.len() { "" } else { ".." };
+    format!("{}{end}", start.escape_debug())
 }

@@ -25,7 +25,7 @@ fn complaints(name: &str, text: impl AsRef<[u8]>) -> String {
 
 #[test]
 fn bad_files_by_line() {
-    let bad: [(&str, &[u8], &str); 15] = [
+    let bad: [(&str, &[u8], &str); 16] = [
         (
             "bits",
             b"10.0.0.0/8 3\n10.20.0.1/16 4\n",
@@ -50,6 +50,11 @@ fn bad_files_by_line() {
         ("bad-hop", b"10.0.0.0/8 drop\n", "FILE, line 1: the hop: 'drop' is no number in plain digits"),
         ("hop-above", b"10.0.0.0/8 65536\n", "FILE, line 1: the hop: 65536 is above 65,535"),
         ("three", b"10.0.0.0/8 3 4\n", "FILE, line 1: this is more than a prefix and a hop"),
+        (
+            "long",
+            &[b'1'; 5000],
+            "FILE, line 1: '1111111111111111111111111111111111111111..' has no length: write a prefix as 10.20.0.0/16",
+        ),
         (
             "escaped-length",
             b"10.0.0.0/\x1b[31m 3\n",
@@ -111,7 +116,7 @@ fn bad_commands() {
         (&["draw", table], "draw: no file for the picture is named: say --svg FILE"),
         (&["draw", table, "10.0.0.1", "10.0.0.2", "--svg", svg], "draw: '10.0.0.2' is one word too many"),
         (&["compare", table, "10.0.0.1", "--svg", svg], "compare: '10.0.0.1' is one word too many"),
-        (&["read", table, table], "read: 'FILE' is one word too many"),
+        (&["read", table, "more"], "read: 'more' is one word too many"),
         (&["lookup", table, "10.0.0.1", "--svg", svg], "lookup: there is no option --svg (yard help says more)"),
         (&["compare", table, "--levels", "3"], "compare: there is no option --levels (yard help says more)"),
         (&["lookup", table, "10.0.0.1", "--levels"], "lookup: --levels has no value"),
