@@ -42,15 +42,14 @@ function one_table(file,    kind, links, is_faulty, is_short, routes, i, bits, s
     links = below(4) ? 20 : 65534
     links = 1 + below(links)
     is_faulty = below(12) == 0
-    # Few routes of any length, or as many as a sheet has room for, which are short.
+    # Few routes of any length, or up to as many as a sheet has room for, which are short.
     is_short = below(6) == 0
-    routes = is_short ? 65 : 13
-    routes = below(routes)
+    routes = is_short ? 40 + below(25) : below(13)
     words = "--kind " kind " --levels " levels(kind) " --links " links
     count = 0
-    for (i = 0; i < routes; i++) {
+    while (count < routes) {
         bits = below(33)
-        if (is_short) bits %= 8
+        if (is_short) bits = 3 + bits % 5
         else if (below(3)) bits -= bits % 8
         start = near(is_short ? 0 : count)
         start = cut(start, bits)

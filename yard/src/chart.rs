@@ -6,6 +6,7 @@ use crate::arrays::{How, Strides, ELEMENT_BYTES};
 use crate::compare::{Compared, Measured};
 use crate::dotted::grouped;
 use crate::picture::{Picture, Place, WIDE};
+use crate::shown::counted;
 
 const HIGH: f64 = 720.0;
 /// The field of the lines.
@@ -77,13 +78,11 @@ pub fn picture(name: &str, compared: &[Compared]) -> String {
     for kind in [Kind::Fixed, Kind::Variable] {
         line(&mut picture, &scale, kind, compared);
     }
-    for one in compared {
-        if let (How::Bitmap, Ok(bitmap)) = (one.how, &one.result) {
-            let up = scale.up(elements(one));
-            picture.line("bitmap", (LEFT, up), (RIGHT, up));
-            legend(&mut picture, bitmap);
-        }
+    for bitmap in compared.iter().filter(|one| one.how == How::Bitmap) {
+        let up = scale.up(elements(bitmap));
+        picture.line("bitmap", (LEFT, up), (RIGHT, up));
     }
+    legend(&mut picture, compared);
     picture.file(&title, STYLE, HIGH)
 }
 
@@ -92,9 +91,11 @@ fn frame(picture: &mut Picture, scale: &Scale) {
     for step in scale.low as i32..=scale.high as i32 {
         let number = 10u64.pow(step as u32);
         let up = scale.up(number as f64);
+        // No element at all has no place of its own on such a scale.
+        let most = if step == 0 { "up to " } else { "" };
         picture.line("step", (LEFT, up), (RIGHT, up));
-        picture.text("end", (LEFT - 8.0, up + 4.0), &grouped(number));
-        picture.text("start", (RIGHT + 8.0, up + 4.0), &grouped(number * ELEMENT_BYTES as u64));
+        picture.text("end", (LEFT - 8.0, up + 4.0), &format!("{most}{}", grouped(number)));
+        picture.text("start", (RIGHT + 8.0, up + 4.0), &format!("{most}{}", grouped(number * ELEMENT_BYTES as u64)));
     }
     for levels in 1..=LEVELS as u32 {
         let x = across(levels);
@@ -149,23 +150,29 @@ fn look(kind: Kind) -> (&'static str, f64) {
 }
 
 fn said(measured: &Measured) -> String {
-    format!("{}, {} bytes, at most {} reads", measured.size, grouped(measured.bytes as u64), measured.most_reads)
+    let (bytes, reads) = (grouped(measured.bytes as u64), counted(measured.most_reads.into(), "read"));
+    format!("{}, {bytes} bytes, at most {reads}", measured.size)
 }
 
 /// Above the field, where no line can run into it.
-fn legend(picture: &mut Picture, bitmap: &Measured) {
-    let (x, words) = (LEFT, LEFT + 50.0);
+fn legend(picture: &mut Picture, compared: &[Compared]) {
     let mut y = 62.0;
     for (kind, meaning) in [(Kind::Fixed, "fst: one stride a level"), (Kind::Variable, "vst: one stride a block")] {
         let (class, radius) = look(kind);
-        picture.lines(class, &[(x, y), (x + 40.0, y)]);
-        picture.dot(class, (x + 20.0, y), radius, meaning);
-        picture.text("start", (words, y + 4.0), meaning);
-        y += 22.0;
+        picture.lines(class, &[(LEFT, y), (LEFT + 40.0, y)]);
+        picture.dot(class, (LEFT + 20.0, y), radius, meaning);
+        explain(picture, &mut y, meaning);
     }
-    picture.line("bitmap", (x, y), (x + 40.0, y));
-    picture.text("start", (words, y + 4.0), &format!("bitmap, by its bytes: {}", said(bitmap)));
-    y += 22.0;
-    picture.dot("fst refused", (x + 20.0, y), look(Kind::Fixed).1, "refused");
-    picture.text("start", (words, y + 4.0), "hollow: refused, for it would take so many elements");
+    for bitmap in compared.iter().filter(|one| one.how == How::Bitmap).filter_map(|one| one.result.as_ref().ok()) {
+        picture.line("bitmap", (LEFT, y), (LEFT + 40.0, y));
+        explain(picture, &mut y, &format!("bitmap, by its bytes: {}", said(bitmap)));
+    }
+    picture.dot("fst refused", (LEFT + 20.0, y), look(Kind::Fixed).1, "refused");
+    explain(picture, &mut y, "hollow: refused, for it would take so many elements");
+}
+
+/// A line of the legend; the next one stands below.
+fn explain(picture: &mut Picture, y: &mut f64, meaning: &str) {
+    picture.text("start", (LEFT + 50.0, *y + 4.0), meaning);
+    *y += 22.0;
 }

@@ -8,28 +8,34 @@ use crate::routes::TableFile;
 use crate::{files, Problem};
 
 pub const USAGE: &str = "\
-yard lookup TABLE ADDRESS...             the hop of each address, the prefix that won, and the reads
-yard compare TABLE                       every kind and number of levels side by side: sizes, reads, times; one table, one answer
-yard draw TABLE [ADDRESS] --svg FILE     the blocks of a table of at most 64 routes, and an address's path through them
-yard sheet TABLE ADDRESS...              the tablet's text of the same table and addresses
-yard read REPORT                         the tablet's report in dotted words
+yard lookup TABLE ADDRESS... [--kind KIND] [--levels K] [--links N]
+    the hop of each address, the prefix that won, and the blocks read
+yard compare TABLE [--links N] [--svg FILE]
+    every kind and number of levels side by side: sizes, reads, times, as a chart too; one table, one answer
+yard draw TABLE [ADDRESS] --svg FILE [--kind KIND] [--levels K] [--links N]
+    the blocks of a table of at most 64 routes, and an address's path through them
+yard sheet TABLE ADDRESS... [--kind KIND] [--levels K] [--links N]
+    the tablet's text of the same table and addresses
+yard read REPORT
+    the tablet's report in dotted words
 
-TABLE is a file with a line a route: 10.20.0.0/16 3, or 10.20.0.0/16 discard; # begins a comment. ADDRESS is dotted. TABLE and REPORT
-may be -, standard input.
+TABLE is a file with a line a route: 10.20.0.0/16 3, or 10.20.0.0/16 discard; # begins a comment. ADDRESS is dotted.
+TABLE and REPORT may be -, standard input.
 
-  --kind KIND     fst (fixed strides), vst (variable ones, taken where none is said) or, for lookup, bitmap
-  --levels K      at most so many levels (4 where none is said); a bitmap has none
-  --links N       how many links the gateway has (65535 where none is said: then no hop is refused but 0)
-  --svg FILE      the file for the picture of draw or, where one is wanted, of compare
+KIND is fst (fixed strides), vst (variable ones; taken where none is said) or, for lookup, bitmap. K is the most levels, 4
+where none is said; a bitmap has none. N is how many links the gateway has, 65535 where none is said: then no hop is
+refused but 0.
 ";
 
-/// The levels where none are said: eight bits each.
-const LEVELS: u16 = 4;
+/// The levels where none are said.
+const USUAL_LEVELS: u16 = 4;
 
-const KIND: &str = "--kind";
-const LEVEL_COUNT: &str = "--levels";
-const LINK_COUNT: &str = "--links";
-const SVG: &str = "--svg";
+const KIND_OPTION: &str = "--kind";
+const LEVELS_OPTION: &str = "--levels";
+const LINKS_OPTION: &str = "--links";
+const SVG_OPTION: &str = "--svg";
+const BITMAP: &str = "bitmap";
+const HELP: [&str; 3] = ["help", "--help", "-h"];
 
 #[derive(PartialEq, Eq, Debug)]
 pub enum Command {
@@ -44,24 +50,24 @@ pub enum Command {
 impl Command {
     pub fn parse(words: &[String]) -> Result<Command, Problem> {
         let Some((name, rest)) = words.split_first() else {
-            return Err(Problem("no command: lookup, compare, draw, sheet or read (yard help says more)".into()));
+            return Err(Problem(format!("no command: {COMMANDS}")));
         };
+        if HELP.contains(&name.as_str()) || rest.iter().any(|word| HELP[1..].contains(&word.as_str())) {
+            return Ok(Command::Help);
+        }
+        let building = [KIND_OPTION, LEVELS_OPTION, LINKS_OPTION];
         match name.as_str() {
-            "help" | "--help" | "-h" => Ok(Command::Help),
-            "lookup" => lookup(Given::parse(name, rest, &[KIND, LEVEL_COUNT, LINK_COUNT])?),
-            "compare" => compare(Given::parse(name, rest, &[LINK_COUNT, SVG])?),
-            "draw" => draw(Given::parse(name, rest, &[KIND, LEVEL_COUNT, LINK_COUNT, SVG])?),
-            "sheet" => sheet(Given::parse(name, rest, &[KIND, LEVEL_COUNT, LINK_COUNT])?),
+            "lookup" => lookup(Given::parse(name, rest, &building)?),
+            "compare" => compare(Given::parse(name, rest, &[LINKS_OPTION, SVG_OPTION])?),
+            "draw" => draw(Given::parse(name, rest, &[&building[..], &[SVG_OPTION]].concat())?),
+            "sheet" => sheet(Given::parse(name, rest, &building)?),
             "read" => read(Given::parse(name, rest, &[])?),
-            _ => {
-                let name = cut(name);
-                Err(Problem(format!(
-                    "no command is called '{name}': lookup, compare, draw, sheet or read (yard help says more)"
-                )))
-            }
+            _ => Err(Problem(format!("no command is called '{}': {COMMANDS}", cut(name)))),
         }
     }
 }
+
+const COMMANDS: &str = "lookup, compare, draw, sheet or read (yard help says more)";
 
 fn lookup(given: Given) -> Result<Command, Problem> {
     Ok(Command::Lookup { table: given.table()?, how: given.how()?, addresses: given.addresses()? })
@@ -80,11 +86,13 @@ fn draw(given: Given) -> Result<Command, Problem> {
     let address = given.words.get(1).map(|word| address(word)).transpose()?;
     let svg = given.picture_file(&table)?;
     let svg = svg.ok_or_else(|| given.problem("no file for the picture is named: say --svg FILE".into()))?;
-    Ok(Command::Draw { table, strides: given.strides()?, address, svg })
+    let strides = given.strides("a bitmap has no blocks")?;
+    Ok(Command::Draw { table, strides, address, svg })
 }
 
 fn sheet(given: Given) -> Result<Command, Problem> {
-    Ok(Command::Sheet { table: given.table()?, strides: given.strides()?, addresses: given.addresses()? })
+    let strides = given.strides("the tablet knows no bitmap")?;
+    Ok(Command::Sheet { table: given.table()?, strides, addresses: given.addresses()? })
 }
 
 fn read(given: Given) -> Result<Command, Problem> {
@@ -110,9 +118,9 @@ impl<'a> Given<'a> {
             }
             let (option, value) = word.split_once('=').map_or((word, None), |(option, value)| (option, Some(value)));
             if !known.contains(&option) {
-                return Err(given.problem(format!("there is no option {} (yard help says more)", cut(option))));
+                return Err(given.problem(format!("it takes no option {} (yard help says more)", cut(option))));
             }
-            let value = value.or_else(|| rest.next()).filter(|value| !value.is_empty());
+            let value = value.or_else(|| rest.next()).filter(|value| !value.is_empty() && !value.starts_with("--"));
             let Some(value) = value else { return Err(given.problem(format!("{option} has no value"))) };
             if given.option(option).is_some() {
                 return Err(given.problem(format!("{option} stands twice")));
@@ -148,12 +156,15 @@ impl<'a> Given<'a> {
     }
 
     fn table(&self) -> Result<TableFile, Problem> {
-        Ok(TableFile { file: self.first("table")?.into(), links: self.number(LINK_COUNT, LINKS)? })
+        Ok(TableFile { file: self.first("table")?.into(), links: self.number(LINKS_OPTION, LINKS)? })
     }
 
     /// The file for a picture, where one is named; it must not be the table's own.
     fn picture_file(&self, table: &TableFile) -> Result<Option<String>, Problem> {
-        let Some(svg) = self.option(SVG) else { return Ok(None) };
+        let Some(svg) = self.option(SVG_OPTION) else { return Ok(None) };
+        if svg == files::STANDARD_INPUT {
+            return Err(self.problem("a picture goes to a file: - is none".into()));
+        }
         if files::is_same(svg, &table.file) {
             return Err(self.problem("the picture would be written over the table".into()));
         }
@@ -167,26 +178,28 @@ impl<'a> Given<'a> {
         self.words[1..].iter().map(|word| address(word)).collect()
     }
 
+    /// Strides, where a bitmap will not do.
+    fn strides(&self, why: &str) -> Result<Strides, Problem> {
+        if self.option(KIND_OPTION) == Some(BITMAP) {
+            return Err(self.problem(format!("{why}: say --kind fst or vst")));
+        }
+        self.kind_of_strides()
+    }
+
     fn how(&self) -> Result<How, Problem> {
-        let levels = u32::from(self.number(LEVEL_COUNT, LEVELS)?);
-        match self.option(KIND).unwrap_or("vst") {
-            "fst" => Ok(How::Elements(Strides { kind: Kind::Fixed, levels })),
-            "vst" => Ok(How::Elements(Strides { kind: Kind::Variable, levels })),
-            "bitmap" if self.option(LEVEL_COUNT).is_some() => {
-                Err(self.problem("a bitmap has no levels: leave --levels out".into()))
-            }
-            "bitmap" => Ok(How::Bitmap),
-            other => Err(self.problem(format!("'{}' is no kind: fst, vst or bitmap", cut(other)))),
+        match (self.option(KIND_OPTION), self.option(LEVELS_OPTION)) {
+            (Some(BITMAP), Some(_)) => Err(self.problem("a bitmap has no levels: leave --levels out".into())),
+            (Some(BITMAP), None) => Ok(How::Bitmap),
+            _ => self.kind_of_strides().map(How::Elements),
         }
     }
 
-    /// Strides: for what a bitmap does not have.
-    fn strides(&self) -> Result<Strides, Problem> {
-        match self.how()? {
-            How::Elements(strides) => Ok(strides),
-            How::Bitmap => {
-                Err(self.problem("a bitmap has no blocks, and the tablet knows none: say --kind fst or vst".into()))
-            }
-        }
+    fn kind_of_strides(&self) -> Result<Strides, Problem> {
+        let kind = match self.option(KIND_OPTION) {
+            Some("fst") => Kind::Fixed,
+            Some("vst") | None => Kind::Variable,
+            Some(other) => return Err(self.problem(format!("'{}' is no kind: fst, vst or bitmap", cut(other)))),
+        };
+        Ok(Strides { kind, levels: self.number(LEVELS_OPTION, USUAL_LEVELS)?.into() })
     }
 }

@@ -2,7 +2,7 @@
 
 use std::time::Duration;
 
-use hongsamuk::{check, Answer, Kind, Outcome, ELEMENTS, LEVELS};
+use hongsamuk::{Answer, Kind, ELEMENTS, LEVELS};
 
 use crate::arrays::{Arrays, How, Refusal, Strides, ROOM};
 use crate::dotted::{dotted, grouped};
@@ -28,9 +28,6 @@ pub struct Measured {
 
 pub fn run(table: &TableFile, svg: Option<&str>) -> Result<String, Problem> {
     let routes = Routes::read(table)?;
-    if let Outcome::Refused { number, detail } = check(routes.table()) {
-        return Err(words::of_build(Refusal { number, detail }, &routes, How::Bitmap));
-    }
     let mut held = Held::at(edges(&routes));
     let compared = ways().map(|how| compared(how, &routes, &mut held)).collect::<Result<Vec<_>, _>>()?;
     if let Some(file) = svg {

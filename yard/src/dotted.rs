@@ -85,8 +85,8 @@ pub fn hop(text: &str) -> Result<u16, Problem> {
     if text == DISCARD_WORD {
         return Ok(DISCARD);
     }
-    let link = number(text, DISCARD.into()).map_err(|problem| problem.at("the hop"))?;
-    Ok(link as u16)
+    let problem = |_| Problem(format!("'{}' is no hop: write the number of a link, or {DISCARD_WORD}", cut(text)));
+    number(text, DISCARD.into()).map(|link| link as u16).map_err(problem)
 }
 
 /// A hop in a word.
@@ -109,7 +109,7 @@ pub fn hop_phrase(hop: u16) -> String {
 pub fn number(text: &str, most: u64) -> Result<u64, Problem> {
     let is_plain = text.bytes().all(|byte| byte.is_ascii_digit()) && !text.is_empty();
     if !is_plain || (text.len() > 1 && text.starts_with('0')) {
-        return Err(Problem(format!("'{}' is no number in plain digits", cut(text))));
+        return Err(Problem(format!("'{}' is no number in digits without a leading zero", cut(text))));
     }
     let within = text.parse().ok().filter(|number| *number <= most);
     within.ok_or_else(|| Problem(format!("{} is above {}", cut(text), grouped(most))))
@@ -128,9 +128,18 @@ pub fn grouped(number: u64) -> String {
     text
 }
 
-/// What someone wrote, as a message has it: what cannot be shown is written out, and a long text is cut.
+/// What someone wrote, as a message has it: cut where it is long.
 pub fn cut(text: &str) -> String {
     let start: String = text.chars().take(MESSAGE_LETTERS).collect();
     let end = if start.len() == text.len() { "" } else { ".." };
-    format!("{}{end}", start.escape_debug())
+    plain(&start) + end
+}
+
+/// A text in which each letter can be shown: what cannot be is written out.
+pub fn plain(text: &str) -> String {
+    let letter = |letter: char| match letter {
+        '\'' | '"' | '\\' => letter.to_string(),
+        _ => letter.escape_debug().to_string(),
+    };
+    text.chars().map(letter).collect()
 }

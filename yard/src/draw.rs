@@ -5,26 +5,24 @@ use hongsamuk::{Answer, Kind};
 use crate::arrays::{Elements, How, Strides};
 use crate::blocks::{blocks, path, Block, Run};
 use crate::dotted::{dotted, hop_phrase};
-use crate::picture::{Picture, Place};
+use crate::picture::Picture;
 use crate::places::{height, is_beside, middle, places, Places, ARRIVAL, BLOCK, HEAD, MARGIN, ROW};
 use crate::routes::{Routes, TableFile};
 use crate::shown::{counted, element_size, in_words, reads};
 use crate::{files, words, Problem};
 
-/// The most routes of a table that is drawn.
-const MOST: usize = 64;
 /// Strides up to this are shown in binary digits, wider ones in numbers, which take less room.
 const DIGITS: u8 = 7;
 /// From a block's left side to its text, from the text to its right side, and from a row's top to its line.
 const INDENT: f64 = 12.0;
 const OUTDENT: f64 = 6.0;
 const LINE: f64 = 13.0;
+/// The room of the longest hop and length, in front of which a row says where it links to.
+const HOP: f64 = 104.0;
 /// An arrow that leaves a band or arrives there.
 const STUB: f64 = 18.0;
 /// Below the blocks: a line each for the answer and for what is what.
 const FOOT: f64 = 60.0;
-const LEGEND: &str = "A block: its number, the bits that lead to it, its first row. A row: its bits (a number where they are more than 7), \
-    hop and length, an arrow to a block.";
 
 const STYLE: &str = "\
 .block { fill: #eef2f6; stroke: #5b6b7c }
@@ -46,10 +44,7 @@ const STYLE: &str = "\
 
 pub fn run(table: &TableFile, strides: Strides, address: Option<u32>, svg: &str) -> Result<String, Problem> {
     let routes = Routes::read(table)?;
-    let count = routes.routes.len();
-    if count > MOST {
-        return Err(Problem(format!("{count} routes, and a picture has room for {MOST}")).at(&routes.name));
-    }
+    words::fits(routes.routes.len(), "routes", "picture").map_err(|problem| problem.at(&routes.name))?;
     let refused = |refusal| words::of_build(refusal, &routes, How::Elements(strides));
     let (elements, _) = Elements::build(strides, routes.table()).map_err(refused)?;
     let asked = address.map(|address| Asked::of(&elements, address)).transpose()?;
@@ -133,7 +128,7 @@ impl Drawing<'_> {
         if let Some(answer) = self.answer() {
             picture.text("answer", (MARGIN, self.places.bottom + FOOT - 38.0), &answer);
         }
-        picture.text("small", (MARGIN, self.places.bottom + FOOT - 14.0), LEGEND);
+        picture.text("small", (MARGIN, self.places.bottom + FOOT - 14.0), &legend());
         picture.file(title, STYLE, self.places.bottom + FOOT)
     }
 
@@ -158,6 +153,9 @@ impl Drawing<'_> {
             let top = y + HEAD + ROW * i as f64;
             picture.rectangle(self.look(block, run), (x, top), BLOCK, ROW);
             picture.text("label", (x + INDENT, top + LINE), &label(run, block.stride));
+            if let Some(child) = run.child {
+                picture.text("small end", (x + BLOCK - OUTDENT - HOP, top + LINE), &format!("\u{2192} {}", child + 1));
+            }
             let (class, hop) = hop_cell(run);
             picture.text(class, (x + BLOCK - OUTDENT, top + LINE), &hop);
         }
@@ -183,7 +181,9 @@ impl Drawing<'_> {
             if is_beside(block.level) {
                 picture.bend(class, from, to);
             } else {
-                leave_band(picture, class, from, to, child + 1);
+                // To the next band: a short arrow here and one there. The row says the block's number.
+                picture.line(class, from, (from.0 + STUB, from.1));
+                picture.line(class, (to.0 - STUB, to.1), to);
             }
         }
     }
@@ -201,11 +201,12 @@ impl Drawing<'_> {
     }
 }
 
-/// An arrow to a block of the next band, whose number it says, and its other end there.
-fn leave_band(picture: &mut Picture, class: &str, (x, y): Place, (left, arrival): Place, number: usize) {
-    picture.line(class, (x, y), (x + STUB, y));
-    picture.text("small", (x + STUB + 3.0, y + 4.0), &format!("block {number}"));
-    picture.line(class, (left - STUB, arrival), (left, arrival));
+/// What is what in a block.
+fn legend() -> String {
+    format!(
+        "A block: its number, the bits that lead to it, its first row. A row: its bits (a number where they are more than {DIGITS}), \
+         the block that it links to, hop and length."
+    )
 }
 
 /// The hop and the length of a row.

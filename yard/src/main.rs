@@ -23,7 +23,7 @@ fn main() -> ExitCode {
     match words().and_then(|words| run(&words)).and_then(|text| say(&text)) {
         Ok(()) => ExitCode::SUCCESS,
         Err(problem) => {
-            // Where standard error is closed too, the exit status is all that is left.
+            // Where standard error cannot be written either, the exit status is all that is left.
             let _ = writeln!(std::io::stderr(), "yard: {problem}");
             ExitCode::FAILURE
         }

@@ -5,7 +5,7 @@ use crate::picture::{Place, WIDE};
 
 pub const MARGIN: f64 = 24.0;
 /// A block: its width, its head and a row.
-pub const BLOCK: f64 = 230.0;
+pub const BLOCK: f64 = 250.0;
 pub const HEAD: f64 = 40.0;
 pub const ROW: f64 = 18.0;
 /// Between a block and the next below it.
@@ -14,8 +14,6 @@ const SPACE: f64 = 16.0;
 const BAND: usize = 4;
 /// The farthest that the left sides of two levels stand apart.
 const FARTHEST: f64 = 380.0;
-/// Beside the last level, for the arrows that leave a band.
-const LEAVING: f64 = 64.0;
 /// Above the first band, and for the names of the levels above each.
 const TITLES: f64 = 62.0;
 const NAMES: f64 = 28.0;
@@ -81,9 +79,8 @@ impl Columns {
     /// The columns of so many levels, in the middle of the picture.
     fn of(levels: usize) -> Columns {
         let gaps = levels.clamp(1, BAND) as f64 - 1.0;
-        let wide = if levels > BAND { WIDE - LEAVING } else { WIDE };
-        let apart = f64::min(FARTHEST, (wide - 2.0 * MARGIN - BLOCK) / gaps.max(1.0));
-        Columns { first: (wide - BLOCK - gaps * apart) / 2.0, apart }
+        let apart = f64::min(FARTHEST, (WIDE - 2.0 * MARGIN - BLOCK) / gaps.max(1.0));
+        Columns { first: (WIDE - BLOCK - gaps * apart) / 2.0, apart }
     }
 
     fn left(&self, level: usize) -> f64 {

@@ -1,7 +1,7 @@
 //! A file of routes, a line a route: a prefix, blanks, a hop. What follows `#` is a comment; the lines may stand in any order.
 //!
-//! What the library has no number for is refused here, by line: what is no prefix or no hop, and a route that stands twice. The rest is
-//! the library's to judge.
+//! What is no prefix or no hop, and a route that stands twice, is refused here, by its line: the library would name it, if at all, by an
+//! index in the sorted table. The rest is the library's to judge.
 
 use std::collections::HashMap;
 

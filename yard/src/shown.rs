@@ -91,3 +91,15 @@ pub fn size(arrays: &Arrays) -> String {
         }
     }
 }
+
+#[cfg(test)]
+mod tests {
+    use super::*;
+
+    /// An address that was not answered has no line.
+    #[test]
+    fn a_refused_lookup_is_a_problem() {
+        let problem = line(0x0a000001, Answer::Refused { number: 9 }).err().map(|problem| problem.0);
+        assert!(problem.is_some_and(|problem| problem.starts_with("refused (9): 10.0.0.1: ")));
+    }
+}

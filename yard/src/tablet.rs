@@ -9,13 +9,10 @@ use crate::routes::{Routes, TableFile};
 use crate::shown::{self, Line, NONE, NO_ROUTE};
 use crate::{files, words, Problem};
 
-/// The most routes and the most addresses of a sheet.
-const MOST: usize = 64;
-
 pub fn sheet(table: &TableFile, strides: Strides, addresses: &[u32]) -> Result<String, Problem> {
     let routes = Routes::read(table)?;
-    at_most(routes.routes.len(), "routes").map_err(|problem| problem.at(&routes.name))?;
-    at_most(addresses.len(), "addresses")?;
+    words::fits(routes.routes.len(), "routes", "sheet").map_err(|problem| problem.at(&routes.name))?;
+    words::fits(addresses.len(), "addresses", "sheet")?;
     let Strides { levels, .. } = strides;
     let mut text = format!("width={WIDTH}\nkind={}\nlevels={levels}\nlinks={}\n", strides.kind_word(), routes.links);
     text.push_str(&format!("entries={}\n", routes.routes.len()));
@@ -28,13 +25,6 @@ pub fn sheet(table: &TableFile, strides: Strides, addresses: &[u32]) -> Result<S
         text.push_str(&format!("address={}\n", bits(*address)));
     }
     Ok(text)
-}
-
-fn at_most(count: usize, things: &str) -> Result<(), Problem> {
-    if count > MOST {
-        return Err(Problem(format!("{count} {things}, and a sheet has room for {MOST}")));
-    }
-    Ok(())
 }
 
 /// An address in binary digits, the leftmost first.
@@ -84,7 +74,7 @@ fn translate(report: &str) -> Result<String, Problem> {
         report.strip_suffix('\n').ok_or_else(|| Problem("this is no whole report: its last line has no end".into()))?;
     let mut lines = Lines { lines: whole.split('\n').collect(), read: 0 };
     let number = lines.number("refusal", u32::MAX.into())? as u32;
-    let detail = lines.number("detail", u64::MAX)?;
+    let detail = lines.number("detail", if number == 0 { 0 } else { u64::MAX })?;
     match number {
         0 => accepted(&mut lines),
         _ if lines.is_at_end() => Err(words::of_tablet(Refusal { number, detail })),
@@ -94,23 +84,24 @@ fn translate(report: &str) -> Result<String, Problem> {
 
 fn accepted(lines: &mut Lines) -> Result<String, Problem> {
     let (elements, root) = (lines.number("elements", u32::MAX.into())?, lines.number("root", WIDTH.into())?);
-    let mut answered = Vec::new();
+    let mut answered: Vec<Line> = Vec::new();
+    let mut width = None;
     while !lines.is_at_end() {
-        answered.push(answer(lines)?);
+        answered.push(answer(lines, &mut width)?);
     }
     Ok(format!("tablet: {}\n{}", shown::element_size(elements, root), shown::answers(&answered)))
 }
 
-/// The four lines of an address.
-fn answer(lines: &mut Lines) -> Result<Line, Problem> {
+/// The four lines of an address; all addresses have the width of the first.
+fn answer(lines: &mut Lines, width: &mut Option<usize>) -> Result<Line, Problem> {
     let digits = lines.value("address")?;
-    let is_address =
-        (1..=WIDTH as usize).contains(&digits.len()) && digits.bytes().all(|digit| matches!(digit, b'0' | b'1'));
-    if !is_address {
-        return Err(lines.problem(Problem("an address has 1 to 32 binary digits".into())));
+    let is_binary = digits.bytes().all(|digit| matches!(digit, b'0' | b'1'));
+    if !is_binary || !(1..=WIDTH as usize).contains(&digits.len()) || *width.get_or_insert(digits.len()) != digits.len()
+    {
+        return Err(lines.problem(Problem("an address has 1 to 32 binary digits, each as many as the first".into())));
     }
     let hop = lines.number("hop", DISCARD.into())? as u16;
-    let length = lines.number("length", digits.len() as u64)? as usize;
+    let length = lines.number("length", if hop == 0 { 0 } else { digits.len() as u64 })? as usize;
     let reads = lines.number("reads", WIDTH.into())?;
     let (hop, prefix) = if hop == 0 { (NO_ROUTE.into(), NONE.into()) } else { (hop_word(hop), prefix(digits, length)) };
     Ok(Line { address: address(digits), hop, prefix, reads })

@@ -8,6 +8,8 @@ use crate::routes::Routes;
 use crate::shown::counted;
 use crate::Problem;
 
+/// The most routes, and the most addresses, of a sheet; and the most routes of a picture.
+const MOST: usize = 64;
 /// What the tablet lends: rows of scratch, and elements.
 const TABLET_ROWS: u64 = 112;
 const TABLET_ELEMENTS: u64 = 8192;
@@ -16,6 +18,14 @@ const FIRST_ENTRY_LINE: u64 = 6;
 
 const FAULT: &str = "a fault of yard, or of the archive that it was linked with: build both anew";
 const NO_TABLET: &str = "no tablet says so: see where the report comes from";
+
+/// Whether so many things fit a sheet or a picture.
+pub fn fits(count: usize, things: &str, place: &str) -> Result<(), Problem> {
+    if count > MOST {
+        return Err(Problem(format!("{count} {things}, and a {place} has room for {MOST}")));
+    }
+    Ok(())
+}
 
 fn refused(number: u32, why: &str, remedy: &str) -> Problem {
     Problem(format!("refused ({number}): {why}: {remedy}"))
@@ -28,9 +38,9 @@ pub fn of_build(refusal: Refusal, routes: &Routes, how: How) -> Problem {
     let (why, remedy) = match (number, how) {
         (2, How::Elements(Strides { levels, .. })) => (levels_out(levels), "say --levels with a number from 1 to 32"),
         (3, _) => (too_many(routes), "divide it"),
-        (4, _) => (bad_hop(detail, routes), "write one of its links, or discard; or say with --links how many it has"),
+        (4, _) => bad_hop(detail, routes),
         (7, How::Elements(strides)) => {
-            (too_large(strides, detail), "allow more levels with --levels, or take another --kind")
+            (too_large(strides, detail), "allow more levels with --levels; yard lookup has --kind bitmap too")
         }
         _ => (format!("detail {detail}"), FAULT),
     };
@@ -46,10 +56,16 @@ fn too_many(routes: &Routes) -> String {
     format!("{} has {count} routes, and a table has at most {most}", routes.name)
 }
 
-fn bad_hop(entry: u64, routes: &Routes) -> String {
-    let Some(route) = routes.routes.get(entry as usize) else { return format!("there is no entry {entry}") };
+/// The prefixes of a file are good, so an entry is refused for its hop.
+fn bad_hop(entry: u64, routes: &Routes) -> (String, &'static str) {
+    let Some(route) = routes.routes.get(entry as usize) else { return (format!("there is no entry {entry}"), FAULT) };
+    let place = format!("{}, line {}: {}", routes.name, route.line, route.prefix);
+    if route.hop == 0 {
+        return (format!("{place} has hop 0, and links count from 1"), "write a link, or discard");
+    }
     let (hop, links) = (hop_word(route.hop), counted(routes.links.into(), "link"));
-    format!("{}, line {}: {} has hop {hop}, and the gateway has {links}", routes.name, route.line, route.prefix)
+    let why = format!("{place} has hop {hop}, and the gateway has {links}");
+    (why, "write one of its links, or discard; or say with --links how many it has")
 }
 
 fn too_large(strides: Strides, elements: u64) -> String {
@@ -72,7 +88,7 @@ pub fn of_tablet(refusal: Refusal) -> Problem {
         3 => ("lists of unequal length, or too many entries".into(), NO_TABLET),
         4 => (
             format!("{} has more bits than the width, or a hop that is no link of the gateway", entry_place(detail)),
-            "write a link from 1 to the number in line 4 of the sheet, or 65535, which discards",
+            "shorten the bits; or write a link from 1 to the number in line 4 of the sheet, or 65535, which discards",
         ),
         5 => (format!("{} does not stand above the one before", entry_place(detail)), "sort them, as yard sheet does"),
         6 => (

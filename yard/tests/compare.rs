@@ -60,7 +60,7 @@ fn all_builds_agree() {
     assert_eq!(held.verdict(), format!("one table, one answer: {} addresses, 9 builds\n", edges(&routes()).len()));
 }
 
-/// Holds sound arrays first and then those with a fault, and the other way round: the complaint names both builds.
+/// What is said where arrays with a fault are held against sound ones. Held the other way round, they are found too.
 fn difference(how: How, damage: impl Fn(&mut Arrays)) -> String {
     let sound = elements(Kind::Fixed, 2);
     let mut faulty = built(how);
@@ -164,6 +164,13 @@ fn the_eight_prefix_table_compared() {
 
 #[test]
 fn a_build_too_large_has_its_line() {
+    let text = said(&["compare", &example("brakes.routes")]);
+    let lines: Vec<&str> = text.lines().collect();
+    assert_eq!(lines[0], "kind    levels       elements      bytes  most reads    build, ms");
+    assert_eq!(lines[1], "fst          1  4,294,967,296          -           -  refused (7)");
+    assert!(lines[2].starts_with("fst          2        131,072  1,048,576           2  "), "{}", lines[2]);
+    let time: f64 = lines[2].split_whitespace().next_back().and_then(|time| time.parse().ok()).expect("a time");
+    assert!(time > 0.0 && lines[2].len() == lines[1].len(), "{}", lines[2]);
     let (rows, below) = compared(&["compare", &example("brakes.routes")]);
     assert_eq!(rows[1], ["fst", "1", "4,294,967,296", "-", "-", "refused (7)"]);
     assert_eq!(rows[33], ["vst", "1", "4,294,967,296", "-", "-", "refused (7)"]);
@@ -183,13 +190,8 @@ fn the_most_reads_are_those_of_all_addresses() {
         let routes = Routes::parse("t", 65_535, text.as_bytes()).unwrap_or_else(|problem| panic!("{problem}"));
         for (row, how) in rows[1..].iter().zip(ways(&(1..=32).collect::<Vec<_>>())) {
             let arrays = Arrays::build(how, routes.table()).unwrap_or_else(|refusal| panic!("{refusal:?}")).0;
-            let reads = |address: u32| match arrays.lookup(address) {
-                hongsamuk::Answer::Match { reads, .. } | hongsamuk::Answer::Discard { reads, .. } => reads,
-                hongsamuk::Answer::NoRoute { reads } => reads,
-                hongsamuk::Answer::Refused { number } => panic!("refused by {number}"),
-            };
-            let most = (0..1 << 12).map(|start: u32| reads(start << 20)).max();
-            assert_eq!(Some(row[4].clone()), most.map(|most| most.to_string()), "{how}");
+            let all = Held::at((0..1 << 12).map(|start: u32| start << 20).collect()).hold(how, &arrays);
+            assert_eq!(row[4], all.unwrap_or_else(|problem| panic!("{problem}")).to_string(), "{how}");
         }
     }
 }

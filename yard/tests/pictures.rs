@@ -1,4 +1,4 @@
-//! Pictures: well-formed, with every block, arrow and read in them, nothing beside the paper, and those of docs/ as they are drawn now.
+//! Pictures: well-formed, every block, arrow and read in them, no text on another or beside the paper, and those of docs/ as drawn now.
 
 mod common;
 
@@ -72,6 +72,11 @@ fn assert_legible(picture: &str, what: &str) {
     }
 }
 
+/// All texts of a picture, in order.
+fn texts(picture: &str) -> Vec<&str> {
+    picture.lines().filter(|line| line.starts_with("<text")).filter_map(|text| text.split(['>', '<']).nth(2)).collect()
+}
+
 fn drawn(folder: &Folder, table: &str, options: &[&str]) -> (String, String) {
     let svg = folder.unwritten("drawn.svg");
     let said = said(&[&["draw", table, "--svg", &svg], options].concat());
@@ -87,7 +92,7 @@ fn blocks(text: &str, strides: Strides) -> usize {
 }
 
 #[test]
-fn every_block_arrow_and_read_is_drawn() {
+fn every_block_and_arrow_is_drawn() {
     let folder = Folder::new("blocks");
     let mut random = Random(11);
     for (i, lines) in [0, 1, 2, 5, 9, 20, 40, 64].into_iter().enumerate() {
@@ -162,14 +167,10 @@ fn rows_have_hop_and_length() {
     let folder = Folder::new("rows");
     let (picture, said) = drawn(&folder, &example("eight-prefixes.routes"), &["--levels", "2"]);
     assert!(said.ends_with("26 elements, root stride 4, 3 blocks, no route of 0 bits\n"), "{said}");
-    let texts: Vec<&str> = picture
-        .lines()
-        .filter(|line| line.starts_with("<text"))
-        .filter_map(|text| text.split(['>', '<']).nth(2))
-        .collect();
+    let texts = texts(&picture);
     let expected = "eight-prefixes.routes, 8 routes: vst with at most 2 levels|26 elements, root stride 4, 3 blocks, no route of 0 bits\
         |level 1|level 2\
-        |block 1: level 1, stride 4|0.0.0.0/0|row 0|0000–0111|hop 1 /1|1000|hop 2 /1|1001|hop 2 /1|1010–1011|hop 4 /3|1100|hop 6 /4|1101–1111|hop 3 /2\
+        |block 1: level 1, stride 4|0.0.0.0/0|row 0|0000–0111|hop 1 /1|1000|→ 2|hop 2 /1|1001|hop 2 /1|1010–1011|hop 4 /3|1100|→ 3|hop 6 /4|1101–1111|hop 3 /2\
         |block 2: level 2, stride 1|128.0.0.0/4|row 16|0|–|1|hop 5 /5\
         |block 3: level 2, stride 3|192.0.0.0/4|row 18|000|hop 8 /7|001|hop 7 /6|010–111|–";
     assert_eq!(texts[..texts.len() - 1], expected.split('|').collect::<Vec<_>>());
@@ -181,11 +182,7 @@ fn rows_of_two_lengths_stand_apart() {
     let folder = Folder::new("lengths");
     let (picture, _) = drawn(&folder, &folder.file("t.routes", "0.0.0.0/1 3\n128.0.0.0/2 3\n"), &["--levels", "1"]);
     let rows = ["00\u{2013}01", "hop 3 /1", "10", "hop 3 /2", "11", "\u{2013}"];
-    let texts: Vec<&str> = picture
-        .lines()
-        .filter(|line| line.starts_with("<text"))
-        .filter_map(|text| text.split(['>', '<']).nth(2))
-        .collect();
+    let texts = texts(&picture);
     assert!(texts.windows(rows.len()).any(|texts| texts == rows), "{texts:?}");
 }
 
@@ -245,7 +242,6 @@ fn lines_fall_with_more_levels() {
     }
 }
 
-/// Strides of a kind that a picture of docs/ names.
 #[test]
 fn the_pictures_of_docs_are_current() {
     let folder = Folder::new("docs");
@@ -273,12 +269,13 @@ fn the_pictures_of_docs_are_current() {
 #[test]
 fn a_block_of_many_rows_is_drawn_in_few() {
     let folder = Folder::new("wide");
-    let text = "10.20.30.0/24 3\n";
+    let text = "10.20.30.0/24 3\n200.64.0.0/10 65534\n";
     let (picture, said) = drawn(&folder, &folder.file("wide.routes", text), &["--levels", "1", "10.20.30.1"]);
     assert_eq!(blocks(text, Strides { kind: Kind::Variable, levels: 1 }), 1);
     assert!(said.contains("16,777,216 elements, root stride 24, 1 block"), "{said}");
-    assert_eq!(shapes(&picture, "row").len() + shapes(&picture, "won").len(), 3);
-    assert!(picture.contains(">660510<") && picture.contains(">0–660509<") && picture.contains(">660511–16777215<"));
+    assert_legible(&picture, "wide");
+    assert_eq!(shapes(&picture, "row").len() + shapes(&picture, "won").len(), 5);
+    assert!(picture.contains(">660510<") && picture.contains(">0–660509<") && picture.contains(">660511–13123583<"));
 }
 
 /// The test of well-formedness tests something.

@@ -3,7 +3,12 @@
 
 mod common;
 
+use std::ffi::OsStr;
+use std::fs::{self, File};
+use std::os::unix::ffi::OsStrExt;
+use std::os::unix::fs::symlink;
 use std::path::Path;
+use std::process::Command;
 
 use common::*;
 
@@ -40,15 +45,15 @@ fn bad_files_by_line() {
         ("other-hop", b"0.0.0.0/0 3\n0.0.0.0/0 discard", "FILE, line 2: 0.0.0.0/0 stands twice, first in line 1"),
         ("first", b"10.0.0.0/40 3\n10.20.0.1/16 4\n", "FILE, line 1: the length of '10.0.0.0/40': 40 is above 32"),
         ("no-length", b"10.0.0.0 3\n", "FILE, line 1: '10.0.0.0' has no length: write a prefix as 10.20.0.0/16"),
-        ("bad-length", b"10.0.0.0/x 3\n", "FILE, line 1: the length of '10.0.0.0/x': 'x' is no number in plain digits"),
+        ("bad-length", b"10.0.0.0/x 3\n", "FILE, line 1: the length of '10.0.0.0/x': 'x' is no number in digits without a leading zero"),
         (
             "bad-address",
             b"10.0.0/8 3\n",
             "FILE, line 1: '10.0.0' is no address: write four numbers from 0 to 255, as 10.20.30.40",
         ),
         ("no-hop", b"# a\n10.0.0.0/8 # 3\n", "FILE, line 2: 10.0.0.0/8 has no hop"),
-        ("bad-hop", b"10.0.0.0/8 drop\n", "FILE, line 1: the hop: 'drop' is no number in plain digits"),
-        ("hop-above", b"10.0.0.0/8 65536\n", "FILE, line 1: the hop: 65536 is above 65,535"),
+        ("bad-hop", b"10.0.0.0/8 drop\n", "FILE, line 1: 'drop' is no hop: write the number of a link, or discard"),
+        ("hop-above", b"10.0.0.0/8 65536\n", "FILE, line 1: '65536' is no hop: write the number of a link, or discard"),
         ("three", b"10.0.0.0/8 3 4\n", "FILE, line 1: this is more than a prefix and a hop"),
         (
             "long",
@@ -58,7 +63,7 @@ fn bad_files_by_line() {
         (
             "escaped-length",
             b"10.0.0.0/\x1b[31m 3\n",
-            "FILE, line 1: the length of '10.0.0.0/\\u{1b}[31m': '\\u{1b}[31m' is no number in plain digits",
+            "FILE, line 1: the length of '10.0.0.0/\\u{1b}[31m': '\\u{1b}[31m' is no number in digits without a leading zero",
         ),
         ("no-text", b"10.0.0.0/8 3\n\xff\xfe 3\n", "FILE, line 2: this is no text"),
         (
@@ -99,7 +104,7 @@ fn bad_commands() {
     let folder = Folder::new("commands");
     let table = &folder.file("t.routes", GOOD);
     let svg = &folder.unwritten("p.svg");
-    let bad: [(&[&str], &str); 22] = [
+    let bad: [(&[&str], &str); 27] = [
         (&[], "no command: lookup, compare, draw, sheet or read (yard help says more)"),
         (&["look"], "no command is called 'look': lookup, compare, draw, sheet or read (yard help says more)"),
         (&["lookup"], "lookup: no file of a table is named"),
@@ -117,11 +122,22 @@ fn bad_commands() {
         (&["draw", table, "10.0.0.1", "10.0.0.2", "--svg", svg], "draw: '10.0.0.2' is one word too many"),
         (&["compare", table, "10.0.0.1", "--svg", svg], "compare: '10.0.0.1' is one word too many"),
         (&["read", table, "more"], "read: 'more' is one word too many"),
-        (&["lookup", table, "10.0.0.1", "--svg", svg], "lookup: there is no option --svg (yard help says more)"),
-        (&["compare", table, "--levels", "3"], "compare: there is no option --levels (yard help says more)"),
+        (&["lookup", table, "10.0.0.1", "--svg", svg], "lookup: it takes no option --svg (yard help says more)"),
+        (&["compare", table, "--levels", "3"], "compare: it takes no option --levels (yard help says more)"),
         (&["lookup", table, "10.0.0.1", "--levels"], "lookup: --levels has no value"),
+        (&["draw", table, "--svg", "--levels"], "draw: --svg has no value"),
+        (&["draw", table, "--svg", "-"], "draw: a picture goes to a file: - is none"),
+        (&["draw", table, "--svg", svg, "--kind", "bitmap"], "draw: a bitmap has no blocks: say --kind fst or vst"),
+        (
+            &["draw", table, "--svg", svg, "--kind", "bitmap", "--levels", "3"],
+            "draw: a bitmap has no blocks: say --kind fst or vst",
+        ),
+        (&["sheet", table, "10.0.0.1", "--kind", "bitmap"], "sheet: the tablet knows no bitmap: say --kind fst or vst"),
         (&["lookup", table, "10.0.0.1", "--levels", "3", "--levels=3"], "lookup: --levels stands twice"),
-        (&["lookup", table, "10.0.0.1", "--levels", "many"], "lookup: --levels: 'many' is no number in plain digits"),
+        (
+            &["lookup", table, "10.0.0.1", "--levels", "many"],
+            "lookup: --levels: 'many' is no number in digits without a leading zero",
+        ),
         (&["lookup", table, "10.0.0.1", "--links", "65536"], "lookup: --links: 65536 is above 65,535"),
         (&["lookup", table, "10.0.0.1", "--kind", "trie"], "lookup: 'trie' is no kind: fst, vst or bitmap"),
         (
@@ -132,18 +148,44 @@ fn bad_commands() {
     for (command, expected) in bad {
         assert_eq!(complaint(command).replace(table, "FILE"), expected, "{command:?}");
     }
-    for command in
-        [vec!["draw", table, "--svg", svg, "--kind", "bitmap"], vec!["sheet", table, "10.0.0.1", "--kind", "bitmap"]]
-    {
-        assert!(
-            complaint(&command).ends_with("a bitmap has no blocks, and the tablet knows none: say --kind fst or vst")
-        );
-    }
     assert!(!Path::new(svg).exists());
-    for command in [["draw", table, "--svg", table], ["compare", table, "--svg", table]] {
-        assert!(complaint(&command).ends_with(": the picture would be written over the table"), "{command:?}");
+}
+
+/// By whatever name the table goes.
+#[test]
+fn no_picture_over_a_table() {
+    let folder = Folder::new("over");
+    let table = &folder.file("t.routes", GOOD);
+    let (hard, soft) = (&folder.unwritten("hard.svg"), &folder.unwritten("soft.svg"));
+    fs::hard_link(table, hard).expect("a hard link");
+    symlink(table, soft).expect("a link");
+    for svg in [table, hard, soft, &table.replace("t.routes", "./t.routes")] {
+        for command in [["draw", table, "--svg", svg], ["compare", table, "--svg", svg]] {
+            assert!(complaint(&command).ends_with(": the picture would be written over the table"), "{command:?}");
+        }
     }
-    assert_eq!(std::fs::read_to_string(table).expect("the table"), GOOD);
+    let input = File::open(table).expect("the table");
+    let mut yard = Command::new(env!("CARGO_BIN_EXE_yard"));
+    let output = yard.args(["draw", "-", "--svg", table]).stdin(input).output().expect("the program runs");
+    assert_eq!(output.stderr, b"yard: draw: the picture would be written over the table\n");
+    assert_eq!(fs::read_to_string(table).expect("the table"), GOOD);
+}
+
+#[test]
+fn what_cannot_be_said_or_heard() {
+    let table = example("brakes.routes");
+    for command in [vec!["lookup", &table, "10.0.0.1"], vec!["compare", &table], vec!["help"]] {
+        let full = File::options().write(true).open("/dev/full").expect("a full device");
+        let mut yard = Command::new(env!("CARGO_BIN_EXE_yard"));
+        let output = yard.args(&command).stdout(full).output().expect("the program runs");
+        let complaint = String::from_utf8(output.stderr).expect("text");
+        assert!(complaint.starts_with("yard: standard output cannot be written: "), "{complaint}");
+        assert_eq!((output.status.code(), complaint.lines().count()), (Some(1), 1), "{command:?}");
+    }
+    assert_eq!(complaint(&["lookup", "-", "10.0.0.1"]), "standard input: cannot be read: there is nothing");
+    let mut yard = Command::new(env!("CARGO_BIN_EXE_yard"));
+    let output = yard.arg("lookup").arg(OsStr::from_bytes(b"\xff.routes")).output().expect("the program runs");
+    assert_eq!((output.status.code(), output.stderr), (Some(1), b"yard: a word of the command is no text\n".to_vec()));
 }
 
 #[test]
@@ -168,12 +210,24 @@ fn refusals_of_a_build() {
     assert_eq!(
         say(&["--levels", "1", "--kind", "fst"]),
         "refused (7): fst with at most 1 level takes 4,294,967,296 elements, and no build has more than 16,777,216: \
-         allow more levels with --levels, or take another --kind"
+         allow more levels with --levels; yard lookup has --kind bitmap too"
     );
+    let svg = folder.unwritten("never.svg");
+    for (command, options) in
+        [("draw", vec!["--levels", "0"]), ("draw", vec!["--levels", "1"]), ("draw", vec!["--links", "8"])]
+    {
+        let drawn = complaint(&[&[command, table, "--svg", &svg], options.as_slice()].concat()).replace(table, "FILE");
+        assert_eq!(drawn, say(&options));
+    }
+    assert_eq!(
+        complaint(&["compare", table, "--links", "8", "--svg", &svg]).replace(table, "FILE"),
+        say(&["--links", "8"])
+    );
+    assert!(!Path::new(&svg).exists());
     let zero = complaints_of_builds(&folder.file("zero.routes", "10.0.0.0/8 0\n"), &folder);
     assert_eq!(
         zero,
-        format!("refused (4): FILE, line 1: 10.0.0.0/8 has hop 0, and the gateway has 65,535 links: {remedy}")
+        "refused (4): FILE, line 1: 10.0.0.0/8 has hop 0, and links count from 1: write a link, or discard"
     );
     let many: String =
         (0..=65_536u32).map(|i| format!("{}.{}.{}.0/24 1\n", i >> 16, (i >> 8) & 255, i & 255)).collect();
@@ -209,7 +263,7 @@ fn refusals_of_the_tablet() {
             4,
             2,
             "the entry in lines 10 and 11 of the sheet has more bits than the width, or a hop that is no link of the gateway: \
-             write a link from 1 to the number in line 4 of the sheet, or 65535, which discards"
+             shorten the bits; or write a link from 1 to the number in line 4 of the sheet, or 65535, which discards"
                 .into(),
         ),
         (5, 63, "the entry in lines 132 and 133 of the sheet does not stand above the one before: sort them, as yard sheet does".into()),
@@ -240,25 +294,31 @@ fn reports_that_are_none() {
     let head = "refusal=0\ndetail=0\nelements=2\nroot=1\n";
     let bits = "1".repeat(32);
     let bad = [
-        ("".into(), "this is no whole report: its last line has no end"),
+        ("".into(), "cannot be read: there is nothing"),
         ("refusal=0".into(), "this is no whole report: its last line has no end"),
         ("\n".into(), "line 1: here a report has refusal="),
         ("width=32\n".into(), "line 1: here a report has refusal="),
         ("refusal=0\n".into(), "line 2: here a report has detail="),
-        ("refusal=x\ndetail=0\n".into(), "line 1: refusal: 'x' is no number in plain digits"),
+        ("refusal=x\ndetail=0\n".into(), "line 1: refusal: 'x' is no number in digits without a leading zero"),
         ("refusal=4\ndetail=0\nelements=0\n".into(), "a report of refusal 4 has two lines, and this one has more"),
         ("refusal=0\ndetail=0\nelements=2\nroot=33\n".into(), "line 4: root: 33 is above 32"),
         (format!("{head}\n"), "line 5: here a report has address="),
-        (format!("{head}address=\n"), "line 5: an address has 1 to 32 binary digits"),
-        (format!("{head}address=1{bits}\n"), "line 5: an address has 1 to 32 binary digits"),
-        (format!("{head}address=12\n"), "line 5: an address has 1 to 32 binary digits"),
+        (format!("{head}address=\n"), "line 5: an address has 1 to 32 binary digits, each as many as the first"),
+        (format!("{head}address=1{bits}\n"), "line 5: an address has 1 to 32 binary digits, each as many as the first"),
+        (format!("{head}address=12\n"), "line 5: an address has 1 to 32 binary digits, each as many as the first"),
         (format!("{head}address={bits}\nhop=65536\n"), "line 6: hop: 65536 is above 65,535"),
         (format!("{head}address=11\nhop=1\nlength=3\n"), "line 7: length: 3 is above 2"),
+        (format!("{head}address=11\nhop=0\nlength=1\n"), "line 7: length: 1 is above 0"),
+        ("refusal=0\ndetail=1\n".into(), "line 2: detail: 1 is above 0"),
+        (
+            format!("{head}address=11\nhop=1\nlength=2\nreads=1\naddress=111\n"),
+            "line 9: an address has 1 to 32 binary digits, each as many as the first",
+        ),
         (format!("{head}address={bits}\nhop=1\nlength=3\n"), "line 8: here a report has reads="),
         (format!("{head}address={bits}\nhop=1\nlength=3\nreads=33\n"), "line 8: reads: 33 is above 32"),
         (
             format!("{head}address={bits}\nhop=1\nlength=3\nreads=1\r\n"),
-            "line 8: reads: '1\\r' is no number in plain digits",
+            "line 8: reads: '1\\r' is no number in digits without a leading zero",
         ),
     ];
     for (report, expected) in bad {
