@@ -5,7 +5,7 @@ ghost use Rattle.cases.specs.Elements.{no_lists, four_at, is_past, element_at, E
 use crate::numerals::{held8, held16, held32, least, least_of_four, number};
 
 // The lengths of the lists, and the next place of the text.
-#[derive(Drop)]
+#[derive(Clone, Copy)]
 pub struct FourLengths {
     pub hops: usize,
     pub lengths: usize,
@@ -15,7 +15,7 @@ pub struct FourLengths {
 }
 
 // The four numbers of a row, and the next place of the text.
-#[derive(Drop)]
+#[derive(Clone, Copy)]
 pub struct ElementRow {
     pub hop: u16,
     pub length: u8,

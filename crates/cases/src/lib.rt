@@ -2,6 +2,8 @@
 // word that begins a line, of a table's line and of rows for the element lists, the making of a table of rising entries, and marks laid
 // in a lent list before a call and counted after it.
 // Between two numbers any other bytes may stand, so that a case's line can say what its numbers mean.
+#![tactic(auto)]
+
 mod counts;
 mod elements;
 mod fills;

@@ -5,7 +5,7 @@ ghost use Rattle.cases.specs.Lists.{three_at, is_longer, is_unfit, bad_table};
 use crate::numerals::number;
 
 // The lengths, in the order of the line, and the next place of the text.
-#[derive(Drop)]
+#[derive(Clone, Copy)]
 pub struct ThreeLengths {
     pub first: usize,
     pub second: usize,

@@ -3,7 +3,7 @@ ghost use Rattle.std.specs.Prelude.{◌≡◌, ◌≤◌, min};
 ghost use Rattle.cases.specs.Limits.{first_digit, last_digit, most_32, most_16, most_8};
 ghost use Rattle.cases.specs.Numerals.{seek_at, number_at, between, more};
 
-#[derive(Drop)]
+#[derive(Clone, Copy)]
 pub struct Numeral {
     pub value: u64,
     pub next: usize,

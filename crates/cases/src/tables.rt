@@ -8,7 +8,7 @@ use crate::numerals::{held16, held32, number};
 use crate::triples::rows;
 
 // The table of the lines below, as the lengths of its lists, and the next place of the text.
-#[derive(Drop)]
+#[derive(Clone, Copy)]
 pub struct Held {
     pub width: u32,
     pub links: u16,

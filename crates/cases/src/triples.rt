@@ -4,7 +4,7 @@ ghost use Rattle.cases.specs.Triples.{Reads};
 use crate::numerals::{held8, held16, held32, least, number};
 
 // How many rows were read, and the place past the last.
-#[derive(Drop)]
+#[derive(Clone, Copy)]
 pub struct Listed {
     pub count: usize,
     pub next: usize,

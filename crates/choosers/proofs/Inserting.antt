@@ -240,7 +240,7 @@ kid_ready rows rows1 x s used y used1 fits l xu blank d g (fork w p a q b) e u u
     record {
       place = yw;
       count = g.1 (λ z. omega arith);
-      stand = rw eq u;
+      stand = subst (λ (r : List ℕ). Stand r (fork w p a q b)) (sym eq) u;
       deep = λ n dk. rw eq (ap (λ (z : ℕ). max z (suc n)) dk.0, dk.1, dk.2);
       link = ap (λ (r : List ℕ). col r x s) eq ∙ e ∙ omega arith;
       same = λ i ne. ap (λ (r : List ℕ). get_or r i 0) eq;

@@ -20,13 +20,13 @@ use table::{Outcome, WIDTH, is_outside, zero};
 use walk::LEVELS;
 
 // The two kinds of stride choice: one stride a level, or one a block.
-#[derive(Drop)]
+#[derive(Clone, Copy)]
 pub enum Kind {
     Fixed,
     Variable,
 }
 
-#[derive(Drop)]
+#[derive(Clone, Copy)]
 pub struct Chosen {
     pub outcome: Outcome,
     pub cost: u64,
@@ -73,7 +73,7 @@ fn choose_outcome(
 
 // What a chooser answers, with the trie in the scratch rows from the link `root` on; `plan` names a fixed choice's strides to the
 // builder, and is 0 where each row has its own. Refused, all but the outcome is 0.
-#[derive(Drop)]
+#[derive(Clone, Copy)]
 pub struct Plan {
     pub outcome: Outcome,
     pub cost: u64,

@@ -25,7 +25,7 @@ fn price_at(sums: &[u64], first: usize, pitch: usize, n: usize, j: usize) -> u64
 }
 
 // A stride, less one, and its cost.
-#[derive(Drop)]
+#[derive(Clone, Copy)]
 pub(crate) struct Best {
     pub(crate) place: usize,
     pub(crate) cost: u64,

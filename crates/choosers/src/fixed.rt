@@ -79,7 +79,7 @@ fn read_list(strides: &[u64], levels: usize, depth: usize) -> [u8; SLOTS]
 }
 
 // What the fixed choice costs, and its strides.
-#[derive(Drop)]
+#[derive(Clone, Copy)]
 pub(crate) struct FixedFound {
     pub(crate) cost: u64,
     pub(crate) strides: [u8; SLOTS],

@@ -2,6 +2,7 @@
 //
 // Rules are five lent lists of equal length. The one call takes any lists at all and refuses by number what are no rules.
 // Which rule wins, the runs of rules with one destination and the tables that tries are built of are defined in `specs/`.
+#![tactic(auto)]
 
 mod checking;
 mod limits;

@@ -15,4 +15,4 @@ pub mod FirstLines
 pub mod Following
 pub mod FirstBad
 pub mod FirstBytes
-pub mod Contents
+pub mod Holding

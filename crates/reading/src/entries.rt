@@ -8,7 +8,7 @@ use crate::limits::{NUMBER_DIGITS, SHORT};
 use crate::lines::{Spot, bits_line, number_line};
 
 // An entry that was read: its bits as a number, how many they are, its hop; and where the reading stands after it.
-#[derive(Drop)]
+#[derive(Clone, Copy)]
 pub(crate) struct EntryItem {
     pub(crate) bits: u32,
     pub(crate) len: u8,

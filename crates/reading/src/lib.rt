@@ -2,6 +2,8 @@
 //
 // The text is read line by line into lists; the first bad line stops the reading and keeps its number. Nothing is built or
 // printed here.
+#![tactic(auto)]
+
 mod entries;
 mod limits;
 mod lines;

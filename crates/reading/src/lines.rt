@@ -7,7 +7,7 @@ ghost use Rattle.reading.specs.Lines.{byte_at, key_at, is_digit, digits_at, unpa
 use crate::limits::{BITS, KIND_KEY};
 
 // Where the reading stands: the next byte and the number of the next line; after a bad line, its number.
-#[derive(Drop)]
+#[derive(Clone, Copy)]
 pub(crate) struct Spot {
     pub(crate) at: usize,
     pub(crate) line: u32,
@@ -15,14 +15,14 @@ pub(crate) struct Spot {
 }
 
 // Digits that stand in the text: the number that they spell, and how many they are.
-#[derive(Drop)]
+#[derive(Clone, Copy)]
 pub(crate) struct Digits {
     pub(crate) value: u64,
     pub(crate) count: u32,
 }
 
 // A line that was read, 0 and 0 for a bad one, and where the reading stands after it.
-#[derive(Drop)]
+#[derive(Clone, Copy)]
 pub(crate) struct Item {
     pub(crate) value: u64,
     pub(crate) count: u32,

@@ -12,7 +12,7 @@ use crate::lines::{Spot, kind_line, number_line};
 use choosers::Kind;
 
 // The first five lines, and where the reading stands after them.
-#[derive(Drop)]
+#[derive(Clone, Copy)]
 pub(crate) struct Head {
     pub(crate) width: u32,
     pub(crate) kind: Kind,
@@ -24,7 +24,7 @@ pub(crate) struct Head {
 
 // What a text holds: line 0 and its sheet, or its first bad line and all else 0. The lists begin with the entries (bits as a number, how
 // many bits, hop) and the queries (address, how many digits), and the places after them are 0.
-#[derive(Drop)]
+#[derive(Clone, Copy)]
 pub struct Contents {
     pub line: u32,
     pub width: u32,
@@ -41,7 +41,7 @@ pub struct Contents {
 }
 
 // How the reading ended: the numbers of a good text, or the first bad line.
-#[derive(Drop)]
+#[derive(Clone, Copy)]
 pub(crate) enum Parsed {
     Whole {
         width: u32,

@@ -21,7 +21,7 @@ use tries::is_crowded;
 use verdicts::{RuleRecord, TRIE_ROW};
 use walk::{LEVELS, Record};
 
-#[derive(Drop)]
+#[derive(Clone, Copy)]
 pub struct BuiltRules {
     pub outcome: Outcome,
     pub record: RuleRecord,

@@ -14,7 +14,7 @@ use Rattle.reading.specs.declared.parsing.Contents.{Contents}
 use Rattle.reading.specs.Contents.{sheet_in}
 use Rattle.reading.specs.Text.{good, text_of, contents_of}
 use Rattle.reading.proofs.FirstBytes.{first_bytes}
-use Rattle.reading.proofs.Contents.{contents_bad, contents_good}
+use Rattle.reading.proofs.Holding.{contents_bad, contents_good}
 use Rattle.sheet.specs.declared.running.Report.{Report}
 use Rattle.sheet.specs.Limits.{PAGE}
 use Rattle.sheet.specs.Printing.{refusal_lines, written, Wrote}

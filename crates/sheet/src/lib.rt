@@ -2,6 +2,8 @@
 //
 // The text is read by `reading`. A good sheet is built over scratch and elements of the call's own, every address is tested, and
 // each is looked up. The report is printed to a page that is long enough for any, and handed over whole or not at all.
+#![tactic(auto)]
+
 mod answering;
 mod limits;
 mod printing;

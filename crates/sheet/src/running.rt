@@ -11,7 +11,7 @@ use crate::printing::{put, put_refusal};
 use crate::solving::solve;
 
 // The report's length, written; or the room that it needs, nothing written.
-#[derive(Drop)]
+#[derive(Clone, Copy)]
 pub enum Report {
     Written(usize),
     Room(usize),

@@ -14,7 +14,7 @@ use crate::rows::write_rows;
 use table::{Outcome, smaller, zero};
 use visits::Bitmap;
 
-#[derive(Drop)]
+#[derive(Clone, Copy)]
 pub struct BuiltBitmap {
     pub outcome: Outcome,
     pub record: Bitmap,

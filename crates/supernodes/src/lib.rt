@@ -1,5 +1,7 @@
 // The builder of tree bitmap arrays (02 [1]): a table becomes rows of supernodes and their hops. The record and the lookup are
 // `visits`', and stand here too, so that a caller who builds needs no other name.
+#![tactic(auto)]
+
 mod building;
 mod limits;
 mod maps;

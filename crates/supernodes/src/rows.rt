@@ -12,7 +12,7 @@ use crate::nodes::asked;
 use crate::places::places;
 
 // The numbers at which the next supernode's children and hops begin.
-#[derive(Drop)]
+#[derive(Clone, Copy)]
 struct Next {
     child: usize,
     hop: usize,

@@ -9,7 +9,7 @@ use lib.Count.{count_leading_zeros, leading_length}
 use lib.Pow.{split, pow_mono, pow_pos}
 use Rattle.table.specs.Prefix.{start}
 use Rattle.table.specs.Shared.{shared, IsShared}
-use Rattle.table.proofs.Shared.{shared_is, shared_unique}
+use Rattle.table.proofs.SharedLength.{shared_is, shared_unique}
 
 xor_zero_same : (a b : ℕ) → bit_xor a b ≡ 0 → a ≡ b
 xor_zero_same a b e = omega (arith, xor_add_and a b, and_le_l a b, and_le_r a b)

@@ -200,7 +200,7 @@ fn fill(
 }
 
 // Where the next block of a level lies, and where the next child block does.
-#[derive(Drop)]
+#[derive(Clone, Copy)]
 struct Front {
     base: usize,
     free: usize,
@@ -251,7 +251,7 @@ fn is_shallow(rows: &[u64], k: usize, c: usize, n: usize) -> bool
 }
 
 // From a node's children on: the levels to the next block, the blocks to pass after it, and the levels left with it.
-#[derive(Drop)]
+#[derive(Clone, Copy)]
 struct Onward {
     gap: usize,
     blocks: usize,

@@ -15,7 +15,7 @@ use choosers::{Kind, Plan, plan_choice};
 use table::{Outcome, smaller, zero};
 use walk::{LEVELS, Record};
 
-#[derive(Drop)]
+#[derive(Clone, Copy)]
 pub struct Built {
     pub outcome: Outcome,
     pub record: Record,

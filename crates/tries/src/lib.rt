@@ -1,5 +1,7 @@
 // The tries: the builder of element rows, and the build. The choosers, the record and the lookup are of the crates below, and stand here
 // too, so that a caller who builds needs no other name.
+#![tactic(auto)]
+
 mod blocks;
 mod building;
 mod limits;

@@ -1,6 +1,6 @@
 -- One classification, one verdict: two verdicts that the promise's meaning allows are equal. From the meaning alone; nothing here knows
 -- how a verdict is computed.
-use Prim.Native.Nat.{ℕ, ◌+◌, ◌<◌}
+use Prim.Native.Nat.{ℕ, ◌<◌}
 use mathlib.Core.Path.{◌≡◌, refl, sym, ap, ap₂, subst, ◌∙◌}
 use mathlib.Core.Bool.{Bool, true}
 use mathlib.Core.List.{List, ◌∷◌, ◌++◌}

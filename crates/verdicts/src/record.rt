@@ -1,8 +1,8 @@
 // The record that a build of rules hands back: the destination trie's own, and the E of all tries.
 use walk::Record;
 
+#[derive(Clone, Copy)]
 #[repr(C)]
-#[derive(Drop)]
 pub struct RuleRecord {
     pub dest: Record,
     pub elements: u32,

@@ -11,7 +11,7 @@ ghost use Rattle.verdicts.specs.declared.visiting.Verdict.TheVariants.{NoRule};
 use crate::limits::{FLOORS, LARGEST_BYTE, NEXT, OWN_ELEMENTS, PLACE, ROOT, TRIE_ROW, VISITS};
 use walk::{Answer, LEVELS, Record};
 
-#[derive(Drop)]
+#[derive(Clone, Copy)]
 pub enum Verdict {
     Act { action: u16, reads: u32 },
     Discard { reads: u32 },

@@ -61,7 +61,7 @@ module _ (W hops : ℕ) (hop : ℕ → ℕ) (reads : ℕ) {best : Best} {r : Ans
 module _ (W count hops address : ℕ) (row : ℕ → SupernodeRow) (hop : ℕ → ℕ) (k i left : ℕ) (best : Best) (reads : ℕ) where
   pub visit_stops : count ≤ i → visit_from W count hops address row hop k i left best reads ≡ Refused 9
   unfolding visit_from visit tell_visited
-  visit_stops h = elim k [ zero ↦ refl | suc j ↦ rw (le-ltb i count h) refl ]
+  visit_stops h = elim k as (λ (k : ℕ). visit_from W count hops address row hop k i left best reads ≡ Refused 9) [ zero ↦ refl | suc j ↦ rw (le-ltb i count h) refl ]
 
   module _ {j p : ℕ} {b : Best} {t : Bool} (f : k ≡ suc j) (h : i < count) (e : p ≡ path_at address left)
       (g : b ≡ best_after (row i) p left best) (s : t ≡ bit_at (row i).external p) where

@@ -18,7 +18,7 @@ use table::{WIDTH, is_outside, smaller};
 use walk::{Answer, AnswerNumbers, answer_of, hop_numbers, is_beyond, refusal_numbers};
 
 // The longest match so far: the number of its hop, and the address bits left behind it.
-#[derive(Drop)]
+#[derive(Clone, Copy)]
 pub enum Best {
     Missing,
     Won { place: usize, left: u32 },

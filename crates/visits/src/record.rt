@@ -1,6 +1,6 @@
 // The record that a bitmap build hands back beside its rows: width, number of supernodes, number of hops.
+#[derive(Clone, Copy)]
 #[repr(C)]
-#[derive(Drop)]
 pub struct Bitmap {
     pub width: u32,
     pub supernodes: u32,

@@ -45,7 +45,7 @@ tell_behind at best reads r t =
 module _ (e address : ℕ) (at : ℕ → Row) (k base s left : ℕ) (best : HopLength) (reads : ℕ) where
   pub walk_stops : Damaged e address base s left → walk e address at k base s left best reads ≡ Refused 9
   unfolding walk trail tell
-  walk_stops d = elim k [ zero ↦ refl | suc j ↦ rw (readable_false e address base s left d) ]
+  walk_stops d = elim k as (λ (k : ℕ). walk e address at k base s left best reads ≡ Refused 9) [ zero ↦ refl | suc j ↦ rw (readable_false e address base s left d) ]
 
   pub walk_spends : k ≡ 0 → walk e address at k base s left best reads ≡ Refused 9
   unfolding walk trail tell

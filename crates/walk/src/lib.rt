@@ -1,5 +1,7 @@
 // The lookup: the record that a build hands back, element rows in lent lists, and the walk over them. It reads what any
 // builder wrote and any damage besides, so it stands apart from the builders and sees the table's rules only.
+#![tactic(auto)]
+
 mod address;
 mod limits;
 mod numbers;

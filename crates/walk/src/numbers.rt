@@ -7,8 +7,8 @@ ghost use Rattle.walk.specs.Packed.{unpacked, IsPacked};
 
 use crate::limits::HOPS;
 
+#[derive(Clone, Copy)]
 #[repr(C)]
-#[derive(Drop)]
 pub struct AnswerNumbers {
     pub number: u32,
     pub hop: u16,

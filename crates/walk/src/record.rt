@@ -2,8 +2,8 @@
 // floor, and the strides (unused places 0; a variable build fills only the first, the root's).
 use crate::limits::LEVELS;
 
+#[derive(Clone, Copy)]
 #[repr(C)]
-#[derive(Drop)]
 pub struct Record {
     pub width: u32,
     pub levels: u32,

@@ -17,7 +17,7 @@ use crate::numbers::{AnswerNumbers, hop_numbers, packed_numbers, refusal_numbers
 use crate::record::Record;
 use table::{DISCARD, WIDTH, is_outside, smaller};
 
-#[derive(Drop)]
+#[derive(Clone, Copy)]
 pub enum Answer {
     Match { hop: u16, length: u8, reads: u32 },
     Discard { length: u8, reads: u32 },

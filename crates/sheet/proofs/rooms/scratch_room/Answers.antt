@@ -1,0 +1,10 @@
+-- The level and the type are written out: without them the check would unfold the whole array.
+use mathlib.Core.Path.{sym}
+use Prim.Native.Nat.{ℕ, ◌*◌}
+use lib.ListN.{length-replicate}
+use Rattle.choosers.specs.Scratch.{ROW}
+use Rattle.sheet.specs.Limits.{lent_rows}
+use Rattle.sheet.proofs.rooms.scratch_room.Goals as goal
+
+pub returns : goal.returns
+returns c = sym (length-replicate {0} {A = ℕ} (lent_rows * ROW) 0)
