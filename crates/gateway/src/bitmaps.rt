@@ -14,8 +14,8 @@ use supernodes::BuiltBitmap;
 use visits::Bitmap;
 use walk::AnswerNumbers;
 
+#[derive(Clone, Copy)]
 #[repr(C)]
-#[derive(Drop)]
 pub struct BuiltBitmapNumbers {
     pub number: u32,
     pub detail: u64,
@@ -38,8 +38,7 @@ fn bitmap_numbers(built: BuiltBitmap) -> BuiltBitmapNumbers
 // Turns a table into a record, rows of supernodes and their hops: tests 1, 3 to 6, then 7 for rows and 7 for hops. Accepted, all of
 // scratch is 0 and the rows and hops that the record counts are written. Refused, the record is 0 and no row or hop changes; scratch is
 // 0 after 7, else kept.
-#[unsafe(no_mangle)]
-pub extern "C" fn hongsamuk_build_bitmap(
+pub fn hongsamuk_build_bitmap(
     width: u32,
     links: u16,
     value: &[u32],
@@ -68,8 +67,7 @@ pub extern "C" fn hongsamuk_build_bitmap(
 
 // Looks the address up in rows of supernodes: tests 1, 8, 9. Over the record and lists that one accepted build left together it is the
 // hop and the length of the longest prefix that begins the address, a discard's too, or none. No list changes.
-#[unsafe(no_mangle)]
-pub extern "C" fn hongsamuk_lookup_bitmap(
+pub fn hongsamuk_lookup_bitmap(
     rec: Bitmap,
     internal: &[u16],
     external: &[u16],

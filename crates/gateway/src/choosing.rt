@@ -8,8 +8,8 @@ ghost use Rattle.gateway.specs.Allowed.{ExactChoice, AllowedChoice};
 use crate::entries::outcome_numbers;
 use tries::Chosen;
 
+#[derive(Clone, Copy)]
 #[repr(C)]
-#[derive(Drop)]
 pub struct ChosenNumbers {
     pub number: u32,
     pub detail: u64,
@@ -33,8 +33,7 @@ fn choice_numbers(chosen: Chosen) -> ChosenNumbers
 
 // The least cost of one stride a level, with at most `levels` levels, and those strides: tests 1 to 6. Accepted, all of scratch
 // is 0; refused, cost and strides are 0 and scratch is as it was. No other list changes.
-#[unsafe(no_mangle)]
-pub extern "C" fn hongsamuk_choose_fixed(
+pub fn hongsamuk_choose_fixed(
     width: u32,
     levels: u32,
     links: u16,
@@ -54,8 +53,7 @@ pub extern "C" fn hongsamuk_choose_fixed(
 }
 
 // The same for one stride a block: only the root's is named.
-#[unsafe(no_mangle)]
-pub extern "C" fn hongsamuk_choose_variable(
+pub fn hongsamuk_choose_variable(
     width: u32,
     levels: u32,
     links: u16,

@@ -7,22 +7,22 @@ ghost use Rattle.gateway.specs.Numbers.{outcome_numbers, shared_numbers, span_nu
 
 use table::{Outcome, Shared, Span};
 
+#[derive(Clone, Copy)]
 #[repr(C)]
-#[derive(Drop)]
 pub struct Checked {
     pub number: u32,
     pub detail: u64,
 }
 
+#[derive(Clone, Copy)]
 #[repr(C)]
-#[derive(Drop)]
 pub struct SharedNumbers {
     pub number: u32,
     pub bits: u32,
 }
 
+#[derive(Clone, Copy)]
 #[repr(C)]
-#[derive(Drop)]
 pub struct SpanNumbers {
     pub number: u32,
     pub detail: u64,
@@ -73,14 +73,7 @@ fn span_numbers(span: Span) -> SpanNumbers
 }
 
 // Whether three lists are a table of the width: tests 1, 3, 4, 5. No list changes.
-#[unsafe(no_mangle)]
-pub extern "C" fn hongsamuk_check(
-    width: u32,
-    links: u16,
-    value: &[u32],
-    length: &[u8],
-    hop: &[u16],
-) -> Checked
+pub fn hongsamuk_check(width: u32, links: u16, value: &[u32], length: &[u8], hop: &[u16]) -> Checked
     ensures exact { result ≡ outcome_numbers (check_of width links value.now length.now hop.now) }
     ensures meaning { Told (Gives (table_tests width links value.now length.now hop.now)) outcome_numbers result }
 {
@@ -88,14 +81,7 @@ pub extern "C" fn hongsamuk_check(
 }
 
 // How many leading bits the prefixes (a, alen) and (b, blen) share: tests 1, then 10.
-#[unsafe(no_mangle)]
-pub extern "C" fn hongsamuk_shared_length(
-    width: u32,
-    a: u32,
-    alen: u8,
-    b: u32,
-    blen: u8,
-) -> SharedNumbers
+pub fn hongsamuk_shared_length(width: u32, a: u32, alen: u8, b: u32, blen: u8) -> SharedNumbers
     ensures exact { result ≡ shared_numbers (shared_of width a alen b blen) }
     ensures meaning { Told (Shares width a alen b blen) shared_numbers result }
 {
@@ -104,8 +90,7 @@ pub extern "C" fn hongsamuk_shared_length(
 
 // The first index and the number of the entries that start with a prefix; where there are none, count 0 at the index where the
 // prefix itself would stand: tests 1, 3, 4, 5, 10. No list changes.
-#[unsafe(no_mangle)]
-pub extern "C" fn hongsamuk_zone_span(
+pub fn hongsamuk_zone_span(
     width: u32,
     links: u16,
     value: &[u32],

@@ -2,6 +2,8 @@
 // addresses in one call, build and lookup of tree bitmap arrays, and the builds and the classification of rules of two fields. Each is
 // thin over the crates below, takes any numbers and any lists, and hands its answer back as a struct of plain numbers: 0 for accepted or
 // the refusal, its detail, then the values, which are 0 where it is refused.
+#![tactic(auto)]
+
 mod bitmaps;
 mod choosing;
 mod entries;

@@ -13,8 +13,7 @@ use walk::{AnswerNumbers, Record};
 
 // Looks the address up: tests 1, 2, 8, 9. Over the record and lists that one accepted build left together it is the hop and the
 // length of the longest prefix that begins the address, a discard's too, or none. No list changes.
-#[unsafe(no_mangle)]
-pub extern "C" fn hongsamuk_lookup(
+pub fn hongsamuk_lookup(
     rec: Record,
     rowhops: &[u16],
     rowlens: &[u8],
@@ -32,8 +31,7 @@ pub extern "C" fn hongsamuk_lookup(
 
 // Lookups one after the other: as many as the shortest of the address list and the four answer lists has. Number, hop, length and
 // reads of each are written at its index, later places are kept, and the answer is how many. No other list changes.
-#[unsafe(no_mangle)]
-pub extern "C" fn hongsamuk_lookup_batch(
+pub fn hongsamuk_lookup_batch(
     rec: Record,
     rowhops: &[u16],
     rowlens: &[u8],

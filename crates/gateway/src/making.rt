@@ -9,8 +9,8 @@ ghost use Rattle.gateway.specs.Allowed.{ExactBuild, AllowedBuild};
 use crate::entries::outcome_numbers;
 use tries::{Built, Kind, Record};
 
+#[derive(Clone, Copy)]
 #[repr(C)]
-#[derive(Drop)]
 pub struct BuiltNumbers {
     pub number: u32,
     pub detail: u64,
@@ -32,8 +32,7 @@ fn build_numbers(built: Built) -> BuiltNumbers
 
 // Turns a table into a record and element rows, one stride a level, with the least number E of rows: tests 1 to 7. Accepted, all
 // of scratch is 0 and rows 0 to E - 1 are written. Refused, the record is 0 and no element changes; scratch is 0 after 7, else kept.
-#[unsafe(no_mangle)]
-pub extern "C" fn hongsamuk_build_fixed(
+pub fn hongsamuk_build_fixed(
     width: u32,
     levels: u32,
     links: u16,
@@ -72,8 +71,7 @@ pub extern "C" fn hongsamuk_build_fixed(
 }
 
 // The same with one stride a block: the record names the root's only.
-#[unsafe(no_mangle)]
-pub extern "C" fn hongsamuk_build_variable(
+pub fn hongsamuk_build_variable(
     width: u32,
     levels: u32,
     links: u16,

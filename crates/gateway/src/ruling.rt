@@ -16,16 +16,16 @@ use table::DISCARD;
 use tries::Kind;
 use verdicts::{RuleRecord, Verdict};
 
+#[derive(Clone, Copy)]
 #[repr(C)]
-#[derive(Drop)]
 pub struct BuiltRulesNumbers {
     pub number: u32,
     pub detail: u64,
     pub record: RuleRecord,
 }
 
+#[derive(Clone, Copy)]
 #[repr(C)]
-#[derive(Drop)]
 pub struct VerdictNumbers {
     pub number: u32,
     pub action: u16,
@@ -76,8 +76,7 @@ fn verdict_numbers(verdict: Verdict) -> VerdictNumbers
 // Turns rules into a record, the element rows of all tries and a list of source tries, one stride a level, each trie with the least
 // number of rows: tests 1 to 7, where 6 and 7 count over all tries. Accepted, all of scratch is 0. Refused, the record is 0 and neither
 // elements nor list change; scratch is 0 after 7, else kept.
-#[unsafe(no_mangle)]
-pub extern "C" fn hongsamuk_build_rules_fixed(
+pub fn hongsamuk_build_rules_fixed(
     width: u32,
     levels: u32,
     links: u16,
@@ -124,8 +123,7 @@ pub extern "C" fn hongsamuk_build_rules_fixed(
 }
 
 // The same with one stride a block: the destination's record names its root's only.
-#[unsafe(no_mangle)]
-pub extern "C" fn hongsamuk_build_rules_variable(
+pub fn hongsamuk_build_rules_variable(
     width: u32,
     levels: u32,
     links: u16,
@@ -173,8 +171,7 @@ pub extern "C" fn hongsamuk_build_rules_variable(
 
 // Judges a packet by its two addresses: tests 1, 2, 8 (either address), 9. Over the record and lists that one accepted build left
 // together it is the action of the rule that wins, a discard's too, or none. No list changes.
-#[unsafe(no_mangle)]
-pub extern "C" fn hongsamuk_classify(
+pub fn hongsamuk_classify(
     rec: RuleRecord,
     rowhops: &[u16],
     rowlens: &[u8],
