@@ -2,7 +2,7 @@
 use visits::Bitmap;
 
 // The lengths of the four lists of rows and of the hop list, and the next place of the text.
-#[derive(Drop)]
+#[derive(Clone, Copy)]
 pub struct Lists {
     pub internal: usize,
     pub external: usize,
@@ -13,14 +13,14 @@ pub struct Lists {
 }
 
 // A record and its lists, as a line gives them.
-#[derive(Drop)]
+#[derive(Clone, Copy)]
 pub struct Given {
     pub record: Bitmap,
     pub lists: Lists,
 }
 
 // The four numbers of a row, and the next place of the text.
-#[derive(Drop)]
+#[derive(Clone, Copy)]
 struct Row {
     internal: u16,
     external: u16,

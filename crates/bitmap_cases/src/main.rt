@@ -6,18 +6,20 @@
 // `print` prints the rows and hops within the last record's counts, `look` asks it one address, `sweep` all addresses
 // below a number. A line with another word, or with a list longer than the program's room or than the rows or hops that
 // it gives, is answered `bad line` and changes nothing. A text that fills the page is answered `text too long`.
+#![tactic(auto)]
+
 mod lists;
 mod saying;
 
 use cases::Held;
-use libc::STDIN_FILENO;
 use lists::{Lists, given_at, is_longer, is_unfit, lists_at, read_hops, read_rows};
-use printing::{say, say_answer};
+use printing::{read_page, say, say_answer};
 use saying::{print, say_built, sweep};
+use std::io;
 use visits::Bitmap;
 
 // The table, the record and its lists for the lines below, and the next place of the text.
-#[derive(Drop)]
+#[derive(Clone, Copy)]
 struct State {
     held: Held,
     record: Bitmap,
@@ -26,7 +28,7 @@ struct State {
 }
 
 // The word that begins a line.
-#[derive(Drop)]
+#[derive(Clone, Copy)]
 enum Word {
     Table,
     Rising,
@@ -55,6 +57,7 @@ fn mark_lists(
 }
 
 fn built(
+    out: &impl Print,
     width: u32,
     links: u16,
     values: &[u32],
@@ -66,15 +69,18 @@ fn built(
     child: &mut [u32],
     first: &mut [u32],
     hop_rows: &mut [u16],
-) -> Bitmap {
+) -> io::Result<Bitmap> {
     mark_lists(scratch, internal, external, child, first, hop_rows);
     let built = supernodes::build_bitmap(
         width, links, values, lengths, hops, scratch, internal, external, child, first, hop_rows,
     );
-    say_built(built, scratch, internal, external, child, first, hop_rows)
+    say_built(
+        out, built, scratch, internal, external, child, first, hop_rows,
+    )
 }
 
 fn build_held(
+    out: &impl Print,
     held: Held,
     values: &[u32],
     lengths: &[u8],
@@ -85,12 +91,12 @@ fn build_held(
     child: &mut [u32],
     first: &mut [u32],
     hop_rows: &mut [u16],
-) -> Bitmap {
+) -> io::Result<Bitmap> {
     let v = cases::front32(values, held.values);
     let l = cases::front8(lengths, held.lengths);
     let h = cases::front16(hops, held.hops);
     built(
-        held.width, held.links, v, l, h, scratch, internal, external, child, first, hop_rows,
+        out, held.width, held.links, v, l, h, scratch, internal, external, child, first, hop_rows,
     )
 }
 
@@ -120,15 +126,16 @@ fn word_at(text: &[u8], at: usize) -> Word {
 }
 
 // Says that the line is bad, and passes it over.
-fn bad_line(text: &[u8], at: usize, state: State) -> State {
-    say(b"bad line");
+fn bad_line(out: &impl Print, text: &[u8], at: usize, state: State) -> io::Result<State> {
+    say(out, b"bad line")?;
     let mut next = state;
     next.at = cases::seek(text, at, b'\n', b'\n');
-    next
+    Ok(next)
 }
 
 // Lends as many places of scratch and of the five lists as the line says.
 fn build_line(
+    out: &impl Print,
     text: &[u8],
     at: usize,
     state: State,
@@ -141,15 +148,15 @@ fn build_line(
     child: &mut [u32],
     first: &mut [u32],
     hop_rows: &mut [u16],
-) -> State {
+) -> io::Result<State> {
     let held = state.held;
     let places = cases::number(text, at);
     let lists = lists_at(text, places.next);
     if scratch.len() < places.value as usize {
-        return bad_line(text, at, state);
+        return bad_line(out, text, at, state);
     }
     if is_longer(lists, internal.len(), hop_rows.len()) {
-        return bad_line(text, at, state);
+        return bad_line(out, text, at, state);
     }
     let n = cases::least(places.value as usize, scratch.len());
     let a = cases::least(lists.internal, internal.len());
@@ -158,6 +165,7 @@ fn build_line(
     let d = cases::least(lists.first, first.len());
     let e = cases::least(lists.hop_rows, hop_rows.len());
     let record = build_held(
+        out,
         held,
         values,
         lengths,
@@ -168,17 +176,18 @@ fn build_line(
         &mut child[0..c],
         &mut first[0..d],
         &mut hop_rows[0..e],
-    );
-    State {
+    )?;
+    Ok(State {
         held,
         record,
         lists,
         at: lists.next,
-    }
+    })
 }
 
 // A record, rows and hops of its own.
 fn record_line(
+    out: &impl Print,
     text: &[u8],
     at: usize,
     state: State,
@@ -187,67 +196,70 @@ fn record_line(
     child: &mut [u32],
     first: &mut [u32],
     hop_rows: &mut [u16],
-) -> State {
+) -> io::Result<State> {
     let held = state.held;
     let given = given_at(text, at);
     let record = given.record;
     let lists = given.lists;
     if is_unfit(text, lists, internal.len(), hop_rows.len()) {
-        return bad_line(text, at, state);
+        return bad_line(out, text, at, state);
     }
     let past = read_rows(text, lists.next, internal, external, child, first);
     let end = read_hops(text, past, hop_rows);
-    say(b"record");
-    State {
+    say(out, b"record")?;
+    Ok(State {
         held,
         record,
         lists,
         at: end,
-    }
+    })
 }
 
 // Another table for the builds below; the record and its lists stay.
 fn table_line(
+    out: &impl Print,
     text: &[u8],
     at: usize,
     state: State,
     values: &mut [u32],
     lengths: &mut [u8],
     hops: &mut [u16],
-) -> State {
+) -> io::Result<State> {
     if cases::is_bad_table(text, at, values.len()) {
-        return bad_line(text, at, state);
+        return bad_line(out, text, at, state);
     }
-    say(b"table");
+    say(out, b"table")?;
     let held = cases::table_line(text, at, values, lengths, hops);
     let mut next = state;
     next.held = held;
     next.at = held.at;
-    next
+    Ok(next)
 }
 
 // The same of a table that the line has made.
 fn rising_line(
+    out: &impl Print,
     text: &[u8],
     at: usize,
     state: State,
     values: &mut [u32],
     lengths: &mut [u8],
     hops: &mut [u16],
-) -> State {
+) -> io::Result<State> {
     if cases::is_bad_rising(text, at, values.len()) {
-        return bad_line(text, at, state);
+        return bad_line(out, text, at, state);
     }
-    say(b"rising");
+    say(out, b"rising")?;
     let held = cases::rising_line(text, at, values, lengths, hops);
     let mut next = state;
     next.held = held;
     next.at = held.at;
-    next
+    Ok(next)
 }
 
 // A question about the last record and its lists: `print`, `look` or `sweep`.
 fn ask(
+    out: &impl Print,
     text: &[u8],
     at: usize,
     word: Word,
@@ -257,7 +269,7 @@ fn ask(
     child: &[u32],
     first: &[u32],
     hop_rows: &[u16],
-) -> usize {
+) -> io::Result<usize> {
     let record = state.record;
     let lists = state.lists;
     let i = cases::front16(internal, lists.internal);
@@ -266,21 +278,25 @@ fn ask(
     let f = cases::front32(first, lists.first);
     let h = cases::front16(hop_rows, lists.hop_rows);
     if let Word::Print = word {
-        print(record, i, e, c, f, h);
-        return cases::seek(text, at, b'\n', b'\n');
+        print(out, record, i, e, c, f, h)?;
+        return Ok(cases::seek(text, at, b'\n', b'\n'));
     }
     let number = cases::number(text, at);
     let address = cases::held32(number.value);
     if let Word::Sweep = word {
-        sweep(address, record, i, e, c, f, h);
-        return number.next;
+        sweep(out, address, record, i, e, c, f, h)?;
+        return Ok(number.next);
     }
-    say_answer(supernodes::lookup_bitmap(record, i, e, c, f, h, address));
-    number.next
+    say_answer(
+        out,
+        supernodes::lookup_bitmap(record, i, e, c, f, h, address),
+    )?;
+    Ok(number.next)
 }
 
 // One case: the first word of the next line says which.
 fn line(
+    out: &impl Print,
     text: &[u8],
     state: State,
     values: &mut [u32],
@@ -292,25 +308,27 @@ fn line(
     child: &mut [u32],
     first: &mut [u32],
     hop_rows: &mut [u16],
-) -> State {
+) -> io::Result<State> {
     let end = cases::seek(text, state.at, b'\n', b'\n');
     let at = cases::seek(text, end, b'!', b'~');
     let word = word_at(text, at);
     match word {
-        Word::Table => table_line(text, at, state, values, lengths, hops),
-        Word::Rising => rising_line(text, at, state, values, lengths, hops),
+        Word::Table => table_line(out, text, at, state, values, lengths, hops),
+        Word::Rising => rising_line(out, text, at, state, values, lengths, hops),
         Word::Build => build_line(
-            text, at, state, values, lengths, hops, scratch, internal, external, child, first,
+            out, text, at, state, values, lengths, hops, scratch, internal, external, child, first,
             hop_rows,
         ),
-        Word::Record => record_line(text, at, state, internal, external, child, first, hop_rows),
-        Word::Other => bad_line(text, at, state),
+        Word::Record => record_line(
+            out, text, at, state, internal, external, child, first, hop_rows,
+        ),
+        Word::Other => bad_line(out, text, at, state),
         _ => {
             let mut next = state;
             next.at = ask(
-                text, at, word, state, internal, external, child, first, hop_rows,
-            );
-            next
+                out, text, at, word, state, internal, external, child, first, hop_rows,
+            )?;
+            Ok(next)
         }
     }
 }
@@ -338,6 +356,7 @@ fn start(at: usize) -> State {
 }
 
 fn run(
+    out: &impl Print,
     text: &[u8],
     values: &mut [u32],
     lengths: &mut [u8],
@@ -348,25 +367,26 @@ fn run(
     child: &mut [u32],
     first: &mut [u32],
     hop_rows: &mut [u16],
-) {
+) -> io::Result<()> {
     let count = cases::number(text, 0);
     let mut state = start(count.next);
     let mut left = count.value;
     while left > 0 {
         state = line(
-            text, state, values, lengths, hops, scratch, internal, external, child, first, hop_rows,
-        );
-        say(b"\n");
+            out, text, state, values, lengths, hops, scratch, internal, external, child, first,
+            hop_rows,
+        )?;
+        say(out, b"\n")?;
         left -= 1;
     }
+    Ok(())
 }
 
-fn main() {
+fn main(rt: HostRuntime) -> io::Result<()> {
     let mut page = cases::page();
-    let n = io::read_full(STDIN_FILENO, &mut page);
+    let n = read_page(&mut rt.stdin(), &mut page)?;
     if n == page.len() {
-        say(b"text too long\n");
-        return;
+        return say(&rt, b"text too long\n");
     }
     let mut values = cases::values();
     let mut lengths = cases::lengths();
@@ -378,6 +398,7 @@ fn main() {
     let mut first = cases::firsts();
     let mut hop_rows = cases::hop_rows();
     run(
+        &rt,
         &page[..n],
         &mut values,
         &mut lengths,
@@ -388,5 +409,5 @@ fn main() {
         &mut child,
         &mut first,
         &mut hop_rows,
-    );
+    )
 }

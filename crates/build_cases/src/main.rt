@@ -7,16 +7,18 @@
 // `print` prints rows 0 to E-1 of the last record, `look` asks it one address, `sweep` all addresses below a number. A line
 // with another word, or with a list longer than the program's room or than the rows that it gives, is answered `bad line`
 // and changes nothing. A text that fills the page is answered `text too long`.
+#![tactic(auto)]
+
 use cases::{FourLengths, Held, element_rows, four_at, is_past, no_lists};
-use libc::STDIN_FILENO;
 use printing::{
-    say, say_answer, say_elements, say_kept_rows, say_outcome, say_scratch, say_swept,
+    read_page, say, say_answer, say_elements, say_kept_rows, say_outcome, say_scratch, say_swept,
     say_trie_record,
 };
+use std::io;
 use tries::{Built, Kind, Record};
 
 // The table, the record and the lengths of the element lists of the lines below, and the next place of the text.
-#[derive(Drop)]
+#[derive(Clone, Copy)]
 struct State {
     held: Held,
     record: Record,
@@ -25,7 +27,7 @@ struct State {
 }
 
 // The word that begins a line.
-#[derive(Drop)]
+#[derive(Clone, Copy)]
 enum Word {
     Table,
     Rising,
@@ -38,26 +40,28 @@ enum Word {
 }
 
 fn say_built(
+    out: &impl Print,
     built: Built,
     scratch: &[u64],
     row_hops: &[u16],
     row_lengths: &[u8],
     row_links: &[u32],
     row_strides: &[u8],
-) -> Record {
+) -> io::Result<Record> {
     let outcome = built.outcome;
     let record = built.record;
-    say_outcome(outcome);
-    say_trie_record(record);
-    say_scratch(scratch);
+    say_outcome(out, outcome)?;
+    say_trie_record(out, record)?;
+    say_scratch(out, scratch)?;
     say_kept_rows(
+        out,
         record.elements as usize,
         row_hops,
         row_lengths,
         row_links,
         row_strides,
-    );
-    record
+    )?;
+    Ok(record)
 }
 
 fn mark_lists(
@@ -75,6 +79,7 @@ fn mark_lists(
 }
 
 fn built(
+    out: &impl Print,
     kind: Kind,
     width: u32,
     levels: u32,
@@ -87,7 +92,7 @@ fn built(
     row_lengths: &mut [u8],
     row_links: &mut [u32],
     row_strides: &mut [u8],
-) -> Record {
+) -> io::Result<Record> {
     mark_lists(scratch, row_hops, row_lengths, row_links, row_strides);
     let built = tries::build(
         kind,
@@ -104,6 +109,7 @@ fn built(
         row_strides,
     );
     say_built(
+        out,
         built,
         scratch,
         row_hops,
@@ -114,6 +120,7 @@ fn built(
 }
 
 fn build_held(
+    out: &impl Print,
     kind: Kind,
     levels: u32,
     held: Held,
@@ -125,11 +132,12 @@ fn build_held(
     row_lengths: &mut [u8],
     row_links: &mut [u32],
     row_strides: &mut [u8],
-) -> Record {
+) -> io::Result<Record> {
     let v = cases::front32(values, held.values);
     let l = cases::front8(lengths, held.lengths);
     let h = cases::front16(hops, held.hops);
     built(
+        out,
         kind,
         held.width,
         levels,
@@ -174,16 +182,17 @@ fn word_at(text: &[u8], at: usize) -> Word {
 }
 
 // Says that the line is bad, and passes it over.
-fn bad_line(text: &[u8], state: State) -> State {
+fn bad_line(out: &impl Print, text: &[u8], state: State) -> io::Result<State> {
     let at = state.at;
-    say(b"bad line");
+    say(out, b"bad line")?;
     let mut next = state;
     next.at = cases::seek(text, at, b'\n', b'\n');
-    next
+    Ok(next)
 }
 
 // Lends as many places of scratch and of the element lists as the line says.
 fn build_line(
+    out: &impl Print,
     text: &[u8],
     kind: Kind,
     state: State,
@@ -195,17 +204,17 @@ fn build_line(
     row_lengths: &mut [u8],
     row_links: &mut [u32],
     row_strides: &mut [u8],
-) -> State {
+) -> io::Result<State> {
     let at = state.at;
     let held = state.held;
     let levels = cases::number(text, at);
     let places = cases::number(text, levels.next);
     let lists = four_at(text, places.next);
     if scratch.len() < places.value as usize {
-        return bad_line(text, state);
+        return bad_line(out, text, state);
     }
     if is_past(lists, row_hops.len()) {
-        return bad_line(text, state);
+        return bad_line(out, text, state);
     }
     let n = cases::least(places.value as usize, scratch.len());
     let a = cases::least(lists.hops, row_hops.len());
@@ -213,6 +222,7 @@ fn build_line(
     let c = cases::least(lists.links, row_links.len());
     let d = cases::least(lists.strides, row_strides.len());
     let record = build_held(
+        out,
         kind,
         cases::held32(levels.value),
         held,
@@ -224,13 +234,13 @@ fn build_line(
         &mut row_lengths[0..b],
         &mut row_links[0..c],
         &mut row_strides[0..d],
-    );
-    State {
+    )?;
+    Ok(State {
         held,
         record,
         lists,
         at: lists.next,
-    }
+    })
 }
 
 // A record's numbers: of its strides all but the first are the last number.
@@ -260,30 +270,36 @@ fn record_at(text: &[u8], at: usize, held: Held) -> State {
 }
 
 fn sweep(
+    out: &impl Print,
     below: u32,
     record: Record,
     row_hops: &[u16],
     row_lengths: &[u8],
     row_links: &[u32],
     row_strides: &[u8],
-) {
-    say(b"sweep");
+) -> io::Result<()> {
+    say(out, b"sweep")?;
     let mut address: u32 = 0;
     while address < below {
-        say_swept(tries::lookup(
-            record,
-            row_hops,
-            row_lengths,
-            row_links,
-            row_strides,
-            address,
-        ));
+        say_swept(
+            out,
+            tries::lookup(
+                record,
+                row_hops,
+                row_lengths,
+                row_links,
+                row_strides,
+                address,
+            ),
+        )?;
         address += 1;
     }
+    Ok(())
 }
 
 // A question about the last record and its lists: `print`, `look` or `sweep`.
 fn ask(
+    out: &impl Print,
     text: &[u8],
     word: Word,
     state: State,
@@ -291,7 +307,7 @@ fn ask(
     row_lengths: &[u8],
     row_links: &[u32],
     row_strides: &[u8],
-) -> State {
+) -> io::Result<State> {
     let at = state.at;
     let record = state.record;
     let lists = state.lists;
@@ -301,18 +317,21 @@ fn ask(
     let l = cases::front32(row_links, lists.links);
     let s = cases::front8(row_strides, lists.strides);
     if let Word::Print = word {
-        say_elements(record.elements as usize, h, b, l, s);
+        say_elements(out, record.elements as usize, h, b, l, s)?;
         next.at = cases::seek(text, at, b'\n', b'\n');
-        return next;
+        return Ok(next);
     }
     let number = cases::number(text, at);
     next.at = number.next;
     if let Word::Sweep = word {
-        sweep(cases::held32(number.value), record, h, b, l, s);
-        return next;
+        sweep(out, cases::held32(number.value), record, h, b, l, s)?;
+        return Ok(next);
     }
-    say_answer(tries::lookup(record, h, b, l, s, cases::held32(number.value)));
-    next
+    say_answer(
+        out,
+        tries::lookup(record, h, b, l, s, cases::held32(number.value)),
+    )?;
+    Ok(next)
 }
 
 // Whether the rows that the text gives next are more than the room, or one of the lists is longer than the rows.
@@ -326,65 +345,69 @@ fn is_unfit(text: &[u8], lists: FourLengths, room: usize) -> bool {
 
 // A record and rows of its own.
 fn record_line(
+    out: &impl Print,
     text: &[u8],
     state: State,
     row_hops: &mut [u16],
     row_lengths: &mut [u8],
     row_links: &mut [u32],
     row_strides: &mut [u8],
-) -> State {
+) -> io::Result<State> {
     let at = state.at;
     let mut next = record_at(text, at, state.held);
     if is_unfit(text, next.lists, row_hops.len()) {
-        return bad_line(text, state);
+        return bad_line(out, text, state);
     }
     next.at = element_rows(text, next.at, row_hops, row_lengths, row_links, row_strides);
-    say(b"record");
-    next
+    say(out, b"record")?;
+    Ok(next)
 }
 
 // Another table for the builds below; the record and its rows stay.
 fn table_line(
+    out: &impl Print,
     text: &[u8],
     state: State,
     values: &mut [u32],
     lengths: &mut [u8],
     hops: &mut [u16],
-) -> State {
+) -> io::Result<State> {
     let at = state.at;
     if cases::is_bad_table(text, at, values.len()) {
-        return bad_line(text, state);
+        return bad_line(out, text, state);
     }
-    say(b"table");
+    say(out, b"table")?;
     let held = cases::table_line(text, at, values, lengths, hops);
     let mut next = state;
     next.held = held;
     next.at = held.at;
-    next
+    Ok(next)
 }
 
 // The same of a table that the line has made.
 fn rising_line(
+    out: &impl Print,
     text: &[u8],
     state: State,
     values: &mut [u32],
     lengths: &mut [u8],
     hops: &mut [u16],
-) -> State {
+) -> io::Result<State> {
     let at = state.at;
     if cases::is_bad_rising(text, at, values.len()) {
-        return bad_line(text, state);
+        return bad_line(out, text, state);
     }
-    say(b"rising");
+    say(out, b"rising")?;
     let held = cases::rising_line(text, at, values, lengths, hops);
     let mut next = state;
     next.held = held;
     next.at = held.at;
-    next
+    Ok(next)
 }
 
 // One case: the first word of the next line says which.
 fn line(
+    out: &impl Print,
     text: &[u8],
     before: State,
     values: &mut [u32],
@@ -395,15 +418,16 @@ fn line(
     row_lengths: &mut [u8],
     row_links: &mut [u32],
     row_strides: &mut [u8],
-) -> State {
+) -> io::Result<State> {
     let end = cases::seek(text, before.at, b'\n', b'\n');
     let mut state = before;
     state.at = cases::seek(text, end, b'!', b'~');
     let word = word_at(text, state.at);
     match word {
-        Word::Table => table_line(text, state, values, lengths, hops),
-        Word::Rising => rising_line(text, state, values, lengths, hops),
+        Word::Table => table_line(out, text, state, values, lengths, hops),
+        Word::Rising => rising_line(out, text, state, values, lengths, hops),
         Word::Build(kind) => build_line(
+            out,
             text,
             kind,
             state,
@@ -416,9 +440,18 @@ fn line(
             row_links,
             row_strides,
         ),
-        Word::Record => record_line(text, state, row_hops, row_lengths, row_links, row_strides),
-        Word::Other => bad_line(text, state),
+        Word::Record => record_line(
+            out,
+            text,
+            state,
+            row_hops,
+            row_lengths,
+            row_links,
+            row_strides,
+        ),
+        Word::Other => bad_line(out, text, state),
         _ => ask(
+            out,
             text,
             word,
             state,
@@ -448,6 +481,7 @@ fn start(at: usize) -> State {
 }
 
 fn run(
+    out: &impl Print,
     text: &[u8],
     values: &mut [u32],
     lengths: &mut [u8],
@@ -457,12 +491,13 @@ fn run(
     row_lengths: &mut [u8],
     row_links: &mut [u32],
     row_strides: &mut [u8],
-) {
+) -> io::Result<()> {
     let count = cases::number(text, 0);
     let mut state = start(count.next);
     let mut left = count.value;
     while left > 0 {
         state = line(
+            out,
             text,
             state,
             values,
@@ -473,18 +508,18 @@ fn run(
             row_lengths,
             row_links,
             row_strides,
-        );
-        say(b"\n");
+        )?;
+        say(out, b"\n")?;
         left -= 1;
     }
+    Ok(())
 }
 
-fn main() {
+fn main(rt: HostRuntime) -> io::Result<()> {
     let mut page = cases::page();
-    let n = io::read_full(STDIN_FILENO, &mut page);
+    let n = read_page(&mut rt.stdin(), &mut page)?;
     if n == page.len() {
-        say(b"text too long\n");
-        return;
+        return say(&rt, b"text too long\n");
     }
     let mut values = cases::values();
     let mut lengths = cases::lengths();
@@ -495,6 +530,7 @@ fn main() {
     let mut row_links = cases::row_links();
     let mut row_strides = cases::row_strides();
     run(
+        &rt,
         &page[..n],
         &mut values,
         &mut lengths,
@@ -504,5 +540,5 @@ fn main() {
         &mut row_lengths,
         &mut row_links,
         &mut row_strides,
-    );
+    )
 }

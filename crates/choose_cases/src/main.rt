@@ -3,18 +3,20 @@
 // of links, a number of entries and their length. `fixed` and `variable` give the level limit and the length of the scratch list, which is
 // filled with sevens. The answer is the outcome, the cost, the strides, and how many zeros and how many sevens scratch
 // then holds.
+#![tactic(auto)]
+
 use cases::Held;
 use choosers::Chosen;
-use libc::STDIN_FILENO;
-use printing::{put, say, say_outcome, say_scratch, say_strides};
+use printing::{put, read_page, say, say_outcome, say_scratch, say_strides};
+use std::io;
 
-fn say_chosen(chosen: Chosen) {
+fn say_chosen(out: &impl Print, chosen: Chosen) -> io::Result<()> {
     let outcome = chosen.outcome;
     let strides = chosen.strides;
-    say_outcome(outcome);
-    say(b" cost");
-    put(chosen.cost);
-    say_strides(&strides);
+    say_outcome(out, outcome)?;
+    say(out, b" cost")?;
+    put(out, chosen.cost)?;
+    say_strides(out, &strides)
 }
 
 // The word of the line says which chooser.
@@ -35,6 +37,7 @@ fn chosen(
 }
 
 fn answer(
+    out: &impl Print,
     letter: u8,
     levels: u32,
     held: Held,
@@ -42,17 +45,21 @@ fn answer(
     lengths: &[u8],
     hops: &[u16],
     scratch: &mut [u64],
-) {
+) -> io::Result<()> {
     let v = cases::front32(values, held.values);
     let l = cases::front8(lengths, held.lengths);
     let h = cases::front16(hops, held.hops);
     cases::fill64(scratch, 7);
-    say_chosen(chosen(letter, held.width, levels, held.links, v, l, h, scratch));
-    say_scratch(scratch);
+    say_chosen(
+        out,
+        chosen(letter, held.width, levels, held.links, v, l, h, scratch),
+    )?;
+    say_scratch(out, scratch)
 }
 
 // Lends as many places of scratch as the line says. Answers the next place of the text.
 fn choose_line(
+    out: &impl Print,
     text: &[u8],
     at: usize,
     held: Held,
@@ -60,12 +67,13 @@ fn choose_line(
     lengths: &[u8],
     hops: &[u16],
     scratch: &mut [u64],
-) -> usize {
+) -> io::Result<usize> {
     let letter = cases::byte(text, at);
     let levels = cases::number(text, at);
     let places = cases::number(text, levels.next);
     let n = cases::least(places.value as usize, scratch.len());
     answer(
+        out,
         letter,
         cases::held32(levels.value),
         held,
@@ -73,57 +81,67 @@ fn choose_line(
         lengths,
         hops,
         &mut scratch[0..n],
-    );
-    places.next
+    )?;
+    Ok(places.next)
 }
 
 // One case: its first letter says which.
 fn line(
+    out: &impl Print,
     text: &[u8],
     held: Held,
     values: &mut [u32],
     lengths: &mut [u8],
     hops: &mut [u16],
     scratch: &mut [u64],
-) -> Held {
+) -> io::Result<Held> {
     let at = cases::seek(text, held.at, b'a', b'z');
     let letter = cases::byte(text, at);
     if letter == b't' {
-        say(b"table");
-        return cases::table_line(text, at, values, lengths, hops);
+        say(out, b"table")?;
+        return Ok(cases::table_line(text, at, values, lengths, hops));
     }
     if letter == b'r' {
-        say(b"rising");
-        return cases::rising_line(text, at, values, lengths, hops);
+        say(out, b"rising")?;
+        return Ok(cases::rising_line(text, at, values, lengths, hops));
     }
     let mut next = held;
-    next.at = choose_line(text, at, held, values, lengths, hops, scratch);
-    next
+    next.at = choose_line(out, text, at, held, values, lengths, hops, scratch)?;
+    Ok(next)
 }
 
-fn run(text: &[u8], values: &mut [u32], lengths: &mut [u8], hops: &mut [u16], scratch: &mut [u64]) {
+fn run(
+    out: &impl Print,
+    text: &[u8],
+    values: &mut [u32],
+    lengths: &mut [u8],
+    hops: &mut [u16],
+    scratch: &mut [u64],
+) -> io::Result<()> {
     let count = cases::number(text, 0);
     let mut held = cases::no_table(count.next);
     let mut left = count.value;
     while left > 0 {
-        held = line(text, held, values, lengths, hops, scratch);
-        say(b"\n");
+        held = line(out, text, held, values, lengths, hops, scratch)?;
+        say(out, b"\n")?;
         left -= 1;
     }
+    Ok(())
 }
 
-fn main() {
+fn main(rt: HostRuntime) -> io::Result<()> {
     let mut page = cases::page();
-    let n = io::read_full(STDIN_FILENO, &mut page);
+    let n = read_page(&mut rt.stdin(), &mut page)?;
     let mut values = cases::values();
     let mut lengths = cases::lengths();
     let mut hops = cases::hops();
     let mut scratch = cases::scratch();
     run(
+        &rt,
         &page[..n],
         &mut values,
         &mut lengths,
         &mut hops,
         &mut scratch,
-    );
+    )
 }

@@ -6,7 +6,7 @@ use verdicts::RuleRecord;
 use walk::{LEVELS, Record};
 
 // The rules of the lines below, as their width, the number of links and the lengths of their five lists, and the next place of the text.
-#[derive(Drop)]
+#[derive(Clone, Copy)]
 pub struct HeldRules {
     pub width: u32,
     pub links: u16,
@@ -19,7 +19,7 @@ pub struct HeldRules {
 }
 
 // The lengths of the element lists and of the list of tries, and the next place of the text.
-#[derive(Drop)]
+#[derive(Clone, Copy)]
 pub struct Lists {
     pub elements: FourLengths,
     pub list: usize,
@@ -27,7 +27,7 @@ pub struct Lists {
 }
 
 // So many places of scratch, of each element list and of the list of tries.
-#[derive(Drop)]
+#[derive(Clone, Copy)]
 pub struct Lent {
     pub words: usize,
     pub hops: usize,
@@ -38,14 +38,14 @@ pub struct Lent {
 }
 
 // A record and its lists, as a line gives them.
-#[derive(Drop)]
+#[derive(Clone, Copy)]
 pub struct Given {
     pub record: RuleRecord,
     pub lists: Lists,
 }
 
 // The five numbers of a rule, and the next place of the text.
-#[derive(Drop)]
+#[derive(Clone, Copy)]
 struct Rule {
     dval: u32,
     dlen: u8,

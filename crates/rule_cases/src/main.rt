@@ -8,6 +8,8 @@
 // destination and source, `sweep` for all destinations below a number, each with all sources below another. A line with another
 // word, or with a list longer than the program's room or than what the line gives for it, is answered `bad line` and changes
 // nothing. A text that fills the page is answered `text too long`.
+#![tactic(auto)]
+
 mod given;
 mod saying;
 
@@ -16,15 +18,15 @@ use given::{
     HeldRules, Lent, Lists, given_at, is_bad_rules, is_longer, is_unfit, lists_at, read_list,
     read_rules, rules_at, within_room,
 };
-use libc::STDIN_FILENO;
-use printing::say;
+use printing::{read_page, say};
 use rules::build_rules;
 use saying::{print, say_built, say_verdict, sweep};
+use std::io;
 use verdicts::{RuleRecord, classify};
 use walk::{LEVELS, Record};
 
 // The rules, the record and the lengths of its lists for the lines below, and the next place of the text.
-#[derive(Drop)]
+#[derive(Clone, Copy)]
 struct State {
     held: HeldRules,
     record: RuleRecord,
@@ -33,7 +35,7 @@ struct State {
 }
 
 // The word that begins a line.
-#[derive(Drop)]
+#[derive(Clone, Copy)]
 enum Word {
     Rules,
     Build(Kind),
@@ -86,6 +88,7 @@ fn mark_lists(
 }
 
 fn built(
+    out: &impl Print,
     kind: Kind,
     width: u32,
     levels: u32,
@@ -101,7 +104,7 @@ fn built(
     row_links: &mut [u32],
     row_strides: &mut [u8],
     list: &mut [u32],
-) -> RuleRecord {
+) -> io::Result<RuleRecord> {
     mark_lists(scratch, row_hops, row_lengths, row_links, row_strides, list);
     let built = build_rules(
         kind,
@@ -121,6 +124,7 @@ fn built(
         list,
     );
     say_built(
+        out,
         built,
         scratch,
         row_hops,
@@ -133,6 +137,7 @@ fn built(
 
 // Lends as many places of scratch and of the lists as a line asks for, as far as the room goes.
 fn build_lent(
+    out: &impl Print,
     kind: Kind,
     levels: u32,
     held: HeldRules,
@@ -149,7 +154,7 @@ fn build_lent(
     row_links: &mut [u32],
     row_strides: &mut [u8],
     list: &mut [u32],
-) -> RuleRecord {
+) -> io::Result<RuleRecord> {
     let room = Lent {
         words: scratch.len(),
         hops: row_hops.len(),
@@ -166,6 +171,7 @@ fn build_lent(
     let d = lent.strides;
     let e = lent.list;
     built(
+        out,
         kind,
         held.width,
         levels,
@@ -185,15 +191,16 @@ fn build_lent(
 }
 
 // Says that the line is bad, and passes it over.
-fn bad_line(text: &[u8], at: usize, state: State) -> State {
-    say(b"bad line");
+fn bad_line(out: &impl Print, text: &[u8], at: usize, state: State) -> io::Result<State> {
+    say(out, b"bad line")?;
     let mut next = state;
     next.at = cases::seek(text, at, b'\n', b'\n');
-    next
+    Ok(next)
 }
 
 // A build of the rules, in lists of the lengths that the line gives.
 fn build_line(
+    out: &impl Print,
     text: &[u8],
     at: usize,
     kind: Kind,
@@ -209,18 +216,19 @@ fn build_line(
     row_links: &mut [u32],
     row_strides: &mut [u8],
     list: &mut [u32],
-) -> State {
+) -> io::Result<State> {
     let held = state.held;
     let levels = cases::number(text, at);
     let words = cases::number(text, levels.next);
     let lists = lists_at(text, words.next);
     if scratch.len() < words.value as usize {
-        return bad_line(text, at, state);
+        return bad_line(out, text, at, state);
     }
     if is_longer(lists, row_hops.len(), list.len()) {
-        return bad_line(text, at, state);
+        return bad_line(out, text, at, state);
     }
     let record = build_lent(
+        out,
         kind,
         cases::held32(levels.value),
         held,
@@ -237,17 +245,18 @@ fn build_line(
         row_links,
         row_strides,
         list,
-    );
-    State {
+    )?;
+    Ok(State {
         held,
         record,
         lists,
         at: lists.next,
-    }
+    })
 }
 
 // A record, rows and a list of tries of its own.
 fn record_line(
+    out: &impl Print,
     text: &[u8],
     at: usize,
     state: State,
@@ -256,13 +265,13 @@ fn record_line(
     row_links: &mut [u32],
     row_strides: &mut [u8],
     list: &mut [u32],
-) -> State {
+) -> io::Result<State> {
     let held = state.held;
     let given = given_at(text, at);
     let record = given.record;
     let lists = given.lists;
     if is_unfit(text, lists, row_hops.len(), list.len()) {
-        return bad_line(text, at, state);
+        return bad_line(out, text, at, state);
     }
     let past = cases::element_rows(
         text,
@@ -273,17 +282,18 @@ fn record_line(
         row_strides,
     );
     let end = read_list(text, past, list);
-    say(b"record");
-    State {
+    say(out, b"record")?;
+    Ok(State {
         held,
         record,
         lists,
         at: end,
-    }
+    })
 }
 
 // Other rules for the builds below; the record and its lists stay.
 fn rules_line(
+    out: &impl Print,
     text: &[u8],
     at: usize,
     state: State,
@@ -292,20 +302,21 @@ fn rules_line(
     svals: &mut [u32],
     slens: &mut [u8],
     actions: &mut [u16],
-) -> State {
+) -> io::Result<State> {
     let held = rules_at(text, at);
     if is_bad_rules(text, held, dvals.len()) {
-        return bad_line(text, at, state);
+        return bad_line(out, text, at, state);
     }
-    say(b"rules");
+    say(out, b"rules")?;
     let mut next = state;
     next.held = held;
     next.at = read_rules(text, held.next, dvals, dlens, svals, slens, actions);
-    next
+    Ok(next)
 }
 
 // A question about the last record and its lists: `print`, `look` or `sweep`; or a line of another word.
 fn ask(
+    out: &impl Print,
     text: &[u8],
     at: usize,
     word: Word,
@@ -315,9 +326,9 @@ fn ask(
     row_links: &[u32],
     row_strides: &[u8],
     list: &[u32],
-) -> State {
+) -> io::Result<State> {
     if let Word::Other = word {
-        return bad_line(text, at, state);
+        return bad_line(out, text, at, state);
     }
     let mut next = state;
     let record = state.record;
@@ -328,9 +339,9 @@ fn ask(
     let s = cases::front8(row_strides, lists.elements.strides);
     let t = cases::front32(list, lists.list);
     if let Word::Print = word {
-        print(record.elements as usize, h, b, l, s, t);
+        print(out, record.elements as usize, h, b, l, s, t)?;
         next.at = cases::seek(text, at, b'\n', b'\n');
-        return next;
+        return Ok(next);
     }
     let first = cases::number(text, at);
     let second = cases::number(text, first.next);
@@ -338,15 +349,16 @@ fn ask(
     let dest = cases::held32(first.value);
     let source = cases::held32(second.value);
     if let Word::Sweep = word {
-        sweep(dest, source, record, h, b, l, s, t);
-        return next;
+        sweep(out, dest, source, record, h, b, l, s, t)?;
+        return Ok(next);
     }
-    say_verdict(classify(record, h, b, l, s, t, dest, source));
-    next
+    say_verdict(out, classify(record, h, b, l, s, t, dest, source))?;
+    Ok(next)
 }
 
 // One case: the first word of the next line says which.
 fn line(
+    out: &impl Print,
     text: &[u8],
     state: State,
     dvals: &mut [u32],
@@ -360,18 +372,18 @@ fn line(
     links: &mut [u32],
     strides: &mut [u8],
     list: &mut [u32],
-) -> State {
+) -> io::Result<State> {
     let end = cases::seek(text, state.at, b'\n', b'\n');
     let at = cases::seek(text, end, b'!', b'~');
     let word = word_at(text, at);
     match word {
-        Word::Rules => rules_line(text, at, state, dvals, dlens, svals, slens, actions),
+        Word::Rules => rules_line(out, text, at, state, dvals, dlens, svals, slens, actions),
         Word::Build(kind) => build_line(
-            text, at, kind, state, dvals, dlens, svals, slens, actions, scratch, hops, lens, links,
-            strides, list,
+            out, text, at, kind, state, dvals, dlens, svals, slens, actions, scratch, hops, lens,
+            links, strides, list,
         ),
-        Word::Record => record_line(text, at, state, hops, lens, links, strides, list),
-        _ => ask(text, at, word, state, hops, lens, links, strides, list),
+        Word::Record => record_line(out, text, at, state, hops, lens, links, strides, list),
+        _ => ask(out, text, at, word, state, hops, lens, links, strides, list),
     }
 }
 
@@ -408,6 +420,7 @@ fn start(at: usize) -> State {
 }
 
 fn run(
+    out: &impl Print,
     text: &[u8],
     dvals: &mut [u32],
     dlens: &mut [u8],
@@ -420,12 +433,13 @@ fn run(
     row_links: &mut [u32],
     row_strides: &mut [u8],
     list: &mut [u32],
-) {
+) -> io::Result<()> {
     let count = cases::number(text, 0);
     let mut state = start(count.next);
     let mut left = count.value;
     while left > 0 {
         state = line(
+            out,
             text,
             state,
             dvals,
@@ -439,18 +453,18 @@ fn run(
             row_links,
             row_strides,
             list,
-        );
-        say(b"\n");
+        )?;
+        say(out, b"\n")?;
         left -= 1;
     }
+    Ok(())
 }
 
-fn main() {
+fn main(rt: HostRuntime) -> io::Result<()> {
     let mut page = cases::page();
-    let n = io::read_full(STDIN_FILENO, &mut page);
+    let n = read_page(&mut rt.stdin(), &mut page)?;
     if n == page.len() {
-        say(b"text too long\n");
-        return;
+        return say(&rt, b"text too long\n");
     }
     let mut dvals = cases::values();
     let mut dlens = cases::lengths();
@@ -464,6 +478,7 @@ fn main() {
     let mut row_strides = cases::row_strides();
     let mut list = cases::list_of_tries();
     run(
+        &rt,
         &page[..n],
         &mut dvals,
         &mut dlens,
@@ -476,5 +491,5 @@ fn main() {
         &mut row_links,
         &mut row_strides,
         &mut list,
-    );
+    )
 }

@@ -4,9 +4,11 @@ use printing::{
     say_trie_record,
 };
 use rules::BuiltRules;
+use std::io;
 use verdicts::{RuleRecord, Verdict, classify};
 
 pub(crate) fn say_built(
+    out: &impl Print,
     built: BuiltRules,
     scratch: &[u64],
     row_hops: &[u16],
@@ -14,93 +16,96 @@ pub(crate) fn say_built(
     row_links: &[u32],
     row_strides: &[u8],
     list: &[u32],
-) -> RuleRecord {
+) -> io::Result<RuleRecord> {
     let outcome = built.outcome;
     let record = built.record;
-    say_outcome(outcome);
-    say_trie_record(record.dest);
-    say(b" all");
-    put(record.elements as u64);
-    say_scratch(scratch);
+    say_outcome(out, outcome)?;
+    say_trie_record(out, record.dest)?;
+    say(out, b" all")?;
+    put(out, record.elements as u64)?;
+    say_scratch(out, scratch)?;
     say_kept_rows(
+        out,
         record.elements as usize,
         row_hops,
         row_lengths,
         row_links,
         row_strides,
-    );
-    say(b" nines");
-    put(cases::count32(list, 0, 9) as u64);
-    record
+    )?;
+    say(out, b" nines")?;
+    put(out, cases::count32(list, 0, 9) as u64)?;
+    Ok(record)
 }
 
 // The rows of all tries, then the list of tries.
 pub(crate) fn print(
+    out: &impl Print,
     elements: usize,
     row_hops: &[u16],
     row_lengths: &[u8],
     row_links: &[u32],
     row_strides: &[u8],
     list: &[u32],
-) {
-    say_elements(elements, row_hops, row_lengths, row_links, row_strides);
-    say(b" list");
-    put_all(list);
+) -> io::Result<()> {
+    say_elements(out, elements, row_hops, row_lengths, row_links, row_strides)?;
+    say(out, b" list")?;
+    put_all(out, list)
 }
 
-fn say_reads(reads: u32) {
-    say(b" reads");
-    put(reads as u64);
+fn say_reads(out: &impl Print, reads: u32) -> io::Result<()> {
+    say(out, b" reads")?;
+    put(out, reads as u64)
 }
 
 // What a classification answers.
-pub(crate) fn say_verdict(verdict: Verdict) {
+pub(crate) fn say_verdict(out: &impl Print, verdict: Verdict) -> io::Result<()> {
     match verdict {
         Verdict::Act { action, reads } => {
-            say(b"act");
-            put(action as u64);
-            say_reads(reads);
+            say(out, b"act")?;
+            put(out, action as u64)?;
+            say_reads(out, reads)
         }
         Verdict::Discard { reads } => {
-            say(b"discard");
-            say_reads(reads);
+            say(out, b"discard")?;
+            say_reads(out, reads)
         }
         Verdict::NoRule { reads } => {
-            say(b"none");
-            say_reads(reads);
+            say(out, b"none")?;
+            say_reads(out, reads)
         }
         Verdict::Refused { number } => {
-            say(b"refused");
-            put(number as u64);
+            say(out, b"refused")?;
+            put(out, number as u64)
         }
     }
 }
 
 // The same, short: action/reads, d for a discard's action, 0 for no rule, or r and the number of the refusal.
-fn say_verdict_swept(verdict: Verdict) {
+fn say_verdict_swept(out: &impl Print, verdict: Verdict) -> io::Result<()> {
     match verdict {
         Verdict::Act { action, reads } => {
-            put(action as u64);
-            say(b"/");
-            say_number(reads as u64);
+            put(out, action as u64)?;
+            say(out, b"/")?;
+            say_number(out, reads as u64)
         }
         Verdict::Discard { reads } => {
-            say(b" d/");
-            say_number(reads as u64);
+            say(out, b" d/")?;
+            say_number(out, reads as u64)
         }
         Verdict::NoRule { reads } => {
-            say(b" 0/");
-            say_number(reads as u64);
+            say(out, b" 0/")?;
+            say_number(out, reads as u64)
         }
         Verdict::Refused { number } => {
-            say(b" r");
-            say_number(number as u64);
+            say(out, b" r")?;
+            say_number(out, number as u64)
         }
     }
 }
 
 // All sources below a number with one destination.
 fn sweep_sources(
+    out: &impl Print,
     dest: u32,
     sources: u32,
     record: RuleRecord,
@@ -109,25 +114,30 @@ fn sweep_sources(
     row_links: &[u32],
     row_strides: &[u8],
     list: &[u32],
-) {
+) -> io::Result<()> {
     let mut source: u32 = 0;
     while source < sources {
-        say_verdict_swept(classify(
-            record,
-            row_hops,
-            row_lengths,
-            row_links,
-            row_strides,
-            list,
-            dest,
-            source,
-        ));
+        say_verdict_swept(
+            out,
+            classify(
+                record,
+                row_hops,
+                row_lengths,
+                row_links,
+                row_strides,
+                list,
+                dest,
+                source,
+            ),
+        )?;
         source += 1;
     }
+    Ok(())
 }
 
 // All destinations below a number, each with all sources below another.
 pub(crate) fn sweep(
+    out: &impl Print,
     dests: u32,
     sources: u32,
     record: RuleRecord,
@@ -136,11 +146,12 @@ pub(crate) fn sweep(
     row_links: &[u32],
     row_strides: &[u8],
     list: &[u32],
-) {
-    say(b"sweep");
+) -> io::Result<()> {
+    say(out, b"sweep")?;
     let mut dest: u32 = 0;
     while dest < dests {
         sweep_sources(
+            out,
             dest,
             sources,
             record,
@@ -149,7 +160,8 @@ pub(crate) fn sweep(
             row_links,
             row_strides,
             list,
-        );
+        )?;
         dest += 1;
     }
+    Ok(())
 }

@@ -1,10 +1,12 @@
 // Runs the tablet's texts of standard input through `sheet::run`, and prints every report with a line `end` after it.
 // A case is the word `text` with a number of bytes, a line end, so many bytes of any kind, and a line end.
+#![tactic(auto)]
+
 ghost use Rattle.std.specs.Prelude.{◌≤◌};
 
-use libc::STDIN_FILENO;
-use printing::say;
+use printing::{read_page, say};
 use sheet::Report;
+use std::io;
 
 // The place after `at`, or the end.
 fn past(at: usize, end: usize) -> usize
@@ -17,35 +19,36 @@ fn past(at: usize, end: usize) -> usize
 }
 
 // Prints the report of a text.
-fn report(text: &[u8]) {
+fn report(out: &impl Print, text: &[u8]) -> io::Result<()> {
     let mut page = sheet::buffer();
     if let Report::Written(n) = sheet::run(text, &mut page) {
-        say(&page[..n]);
+        say(out, &page[..n])?;
     }
-    say(b"end\n");
+    say(out, b"end\n")
 }
 
 // One case: answers the place after its text.
-fn case(cases: &[u8], at: usize) -> usize {
+fn case(out: &impl Print, cases: &[u8], at: usize) -> io::Result<usize> {
     let count = cases::number(cases, at);
     let from = past(count.next, cases.len());
     let to = from + cases::least(count.value as usize, cases.len() - from);
-    report(&cases[from..to]);
-    to
+    report(out, &cases[from..to])?;
+    Ok(to)
 }
 
-fn run(cases: &[u8]) {
+fn run(out: &impl Print, cases: &[u8]) -> io::Result<()> {
     let count = cases::number(cases, 0);
     let mut at = count.next;
     let mut left = count.value;
     while left > 0 {
-        at = case(cases, at);
+        at = case(out, cases, at)?;
         left -= 1;
     }
+    Ok(())
 }
 
-fn main() {
+fn main(rt: HostRuntime) -> io::Result<()> {
     let mut page = cases::page();
-    let n = io::read_full(STDIN_FILENO, &mut page);
-    run(&page[..n]);
+    let n = read_page(&mut rt.stdin(), &mut page)?;
+    run(&rt, &page[..n])
 }

@@ -1,2 +1,0 @@
--- Laws of what a read answers.
-pub mod Answers
