@@ -22,12 +22,12 @@ loop-g-init c = (omega arith, refl, sum_first_lem _ c.cost_of-cost.ensures)
 pub source_cost-cost-requires-clause-can_part : goal.source_cost-cost-requires-clause-can_part
 source_cost-cost-requires-clause-can_part c = (let l = c.loop-g in
     let p = c.requires in
-    part_ready p.can_split (l.invariant.1 ∙ c.cost_of-cost.auto.scratch) p.roomy _ (omega (arith, c.loop-g-test.true))).0
+    part_ready p.can_split (l.invariant.1 ∙ c.cost_of-cost.auto.scratch) p.roomy l.g (omega (arith, c.loop-g-test.true))).0
 
 pub source_cost-cost-requires-clause-g_in_bounds : goal.source_cost-cost-requires-clause-g_in_bounds
 source_cost-cost-requires-clause-g_in_bounds c = (let l = c.loop-g in
     let p = c.requires in
-    part_ready p.can_split (l.invariant.1 ∙ c.cost_of-cost.auto.scratch) p.roomy _ (omega (arith, c.loop-g-test.true))).1
+    part_ready p.can_split (l.invariant.1 ∙ c.cost_of-cost.auto.scratch) p.roomy l.g (omega (arith, c.loop-g-test.true))).1
 
 -- src/counting.rt:162:9
 pub overflow_add-cost : goal.overflow_add-cost
@@ -42,7 +42,7 @@ overflow_add-cost c =
         costs_fit p (kind_of c.args.kind) (suc l.g) (omega (arith, h)),
         part_least (let l = c.loop-g in
             let p = c.requires in
-            part_ready p.can_split (l.invariant.1 ∙ c.cost_of-cost.auto.scratch) p.roomy _ (omega (arith, c.loop-g-test.true))).0 (kind_of c.args.kind) c.source_cost-cost.ensures,
+            part_ready p.can_split (l.invariant.1 ∙ c.cost_of-cost.auto.scratch) p.roomy l.g (omega (arith, c.loop-g-test.true))).0 (kind_of c.args.kind) c.source_cost-cost.ensures,
         p.few,
         h,
       );

@@ -19,7 +19,7 @@ loop-g-init c = (omega arith, sum_first_lem _ c.nodes_of-nodes.ensures)
 
 -- src/counting.rt:132:18
 pub source_nodes-nodes-requires : goal.source_nodes-nodes-requires
-source_nodes-nodes-requires c = part_can c.requires _ (omega (arith, c.loop-g-test.true))
+source_nodes-nodes-requires c = part_can c.requires c.loop-g.g (omega (arith, c.loop-g-test.true))
 
 -- src/counting.rt:132:9
 pub overflow_add-nodes : goal.overflow_add-nodes
@@ -31,7 +31,7 @@ overflow_add-nodes c =
         arith,
         l.invariant.1,
         nodes_fit p (suc l.g) (omega (arith, c.loop-g-test.true)),
-        part_size (part_can c.requires _ (omega (arith, c.loop-g-test.true))) c.source_nodes-nodes.ensures,
+        part_size (part_can c.requires l.g (omega (arith, c.loop-g-test.true))) c.source_nodes-nodes.ensures,
         p.few,
         c.loop-g-test.true,
       );
