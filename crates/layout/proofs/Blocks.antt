@@ -61,10 +61,10 @@ hold_unique ls ls' b (x ∷ xs) h g i p q = elim (dec_le (suc b) i) [
   | no r ↦ (let e : i ≡ b = omega arith in rw e (h.0 ∙ sym g.0))
 ]
 
-length_of : (n : ℕ) (g : ℕ → Row) → length (list_of n g) ≡ n
+length_of_lem : (n : ℕ) (g : ℕ → Row) → length (list_of n g) ≡ n
 unfolding list_of
-length_of zero g = refl
-length_of (suc n) g = ap suc (length_of n (λ i. g (suc i)))
+length_of_lem zero g = refl
+length_of_lem (suc n) g = ap suc (length_of_lem n (λ i. g (suc i)))
 
 no_rows : (xs : List Row) → length xs ≡ 0 → xs ≡ []
 no_rows [] e = refl
@@ -80,7 +80,7 @@ module _ (σ : Strides) where
       length-append (level_rows σ a c n r f) (level_rows σ b c n r (f + wide σ a c (suc n) r))
       ∙ ap₂ ◌+◌ (level_length a c n r f) (level_length b c n r (f + wide σ a c (suc n) r))
   level_length (node p a q b) zero n zero f = refl
-  level_length (node p a q b) zero zero (suc r) f = length_of (2 ^ σ (suc r) (node p a q b)) _
+  level_length (node p a q b) zero zero (suc r) f = length_of_lem (2 ^ σ (suc r) (node p a q b)) _
   level_length (node p a q b) zero (suc n) (suc r) f =
       let s = pred (σ (suc r) (node p a q b)) in
       length-append (level_rows σ a s n r f) (level_rows σ b s n r (f + wide σ a s (suc n) r))

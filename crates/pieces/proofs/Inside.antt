@@ -26,9 +26,9 @@ place_rest : (p j : ℕ) → place_on p j - (2 ^ j - 1) ≡ p / 2 ^ (4 - j)
 unfolding place_on
 place_rest p j = off (2 ^ j - 1) (p / 2 ^ (4 - j)) (place_on p j) refl
 
-pub at_place : (t : BinaryTrie) (p j : ℕ) → p < 16 → j ≤ 3 → subtrie_at (place_on p j) t ≡ subtrie_along j t (p / 2 ^ (4 - j))
+pub at_place_lem : (t : BinaryTrie) (p j : ℕ) → p < 16 → j ≤ 3 → subtrie_at (place_on p j) t ≡ subtrie_along j t (p / 2 ^ (4 - j))
 unfolding subtrie_at
-at_place t p j h k =
+at_place_lem t p j h k =
     ap (λ (i : ℕ). subtrie_along i t (place_on p j - (2 ^ i - 1))) (level_of_lem (place_on p j) j (place_level_lem p j h k)) ∙ ap (subtrie_along j t) (place_rest p j)
 
 pub place_few : (i j : ℕ) → Level i j → i < INTERNAL
@@ -43,7 +43,7 @@ pub internal_bit : (t : BinaryTrie) (p j : ℕ) → p < 16 → j ≤ 3 → bit_a
 unfolding internal_map
 internal_bit t p j h k =
     bit_map 15 (λ i. ltb 0 (mark (subtrie_at i t))) (place_on p j) (place_few (place_on p j) j (place_level_lem p j h k))
-    ∙ ap (λ (u : BinaryTrie). ltb 0 (mark u)) (at_place t p j h k)
+    ∙ ap (λ (u : BinaryTrie). ltb 0 (mark u)) (at_place_lem t p j h k)
 
 -- the branch
 pub external_bit : (t : BinaryTrie) (p : ℕ) → p < 16 → bit_at (external_map t) p ≡ is_node (subtrie_at (15 + p) t)

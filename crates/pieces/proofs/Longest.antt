@@ -16,7 +16,7 @@ use Rattle.strides.proofs.Entries.{whole_is, whole_of}
 use Rattle.strides.proofs.Longest.{exact_mark}
 use Rattle.pieces.specs.BinaryTrie.{mark, binary_trie_of}
 use Rattle.pieces.specs.Maps.{subtrie_along}
-use Rattle.pieces.proofs.Over.{mark_on}
+use Rattle.pieces.proofs.Over.{mark_on_lem}
 
 module _ (W : ℕ) (val len hop : ℕ → ℕ) (n : ℕ) (prefix : (i : ℕ) → i < n → IsPrefix W (val i) (len i)) (some_hop : (i : ℕ) → i < n → 0 < hop i)
     (a : ℕ) (small : a < 2 ^ W) where
@@ -28,7 +28,7 @@ module _ (W : ℕ) (val len hop : ℕ → ℕ) (n : ℕ) (prefix : (i : ℕ) →
   whole : (d : ℕ) → d ≤ W → (b : ℕ) × Wins (whole_entry W val len d (start W d a)) len n b × (of_winner hop b ≡ mark_after d)
   whole d l =
       let m = whole_entry W val len d (start W d a) in
-      (best m len n, best_wins m len n, exact_mark W val len hop n d (start W d a) ∙ sym (mark_on W val len hop n prefix some_hop a d small l))
+      (best m len n, best_wins m len n, exact_mark W val len hop n d (start W d a) ∙ sym (mark_on_lem W val len hop n prefix some_hop a d small l))
 
   -- an entry of length d begins the address exactly where its first d bits lead to a mark
   marked_entry : (d : ℕ) → d ≤ W → 0 < mark_after d → (i : ℕ) × (i < n) × (matches W val len a i ≡ true) × (len i ≡ d) × (hop i ≡ mark_after d)

@@ -195,7 +195,7 @@ module _ (W : ℕ) (val len hop : ℕ → ℕ) (n : ℕ) (prefix : (i : ℕ) →
         ∙ is_node_below S S' M (closed W val len hop n (λ i h. (prefix i h).short)) (some_or W val len hop n some_hop) (W - d) d (start W d a)
 
     -- and has the mark of the entry that they are, 0 where they are none
-    pub mark_on : mark (subtrie_along d (binary_trie_of W val len hop n) (start W d a)) ≡ mark_at W val len hop n d (start W d a)
-    mark_on =
+    pub mark_on_lem : mark (subtrie_along d (binary_trie_of W val len hop n) (start W d a)) ≡ mark_at W val len hop n d (start W d a)
+    mark_on_lem =
         ap mark along_start
         ∙ mark_binary_below S S' M (closed W val len hop n (λ i h. (prefix i h).short)) (some_or W val len hop n some_hop) (W - d) d (start W d a)

@@ -124,8 +124,8 @@ digits_are b most s p v n e f = rw (f, e)
 pub none_more : {t n c : ℕ} → t ≡ n + c → c ≡ 0 → t ≡ n
 none_more e f = omega arith
 
-pub one_more : (n : ℕ) {t c d : ℕ} → t ≡ n + c → c ≡ suc d → t ≡ n + 1 + d
-one_more n e f = omega arith
+pub one_more_lem : (n : ℕ) {t c d : ℕ} → t ≡ n + c → c ≡ suc d → t ≡ n + 1 + d
+one_more_lem n e f = omega arith
 
 -- ---- what a call that read digits handed back
 

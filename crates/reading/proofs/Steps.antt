@@ -120,8 +120,8 @@ kind_is s p = go (key_at fixed_key s p.at) (key_at variable_key s p.at)
 
 -- ---- of a line that a call handed back
 
-pub line_of : {s : List ℕ} {p : Spot} {size : ℕ} {P : ℕ → ℕ → Type 0} {l m : Item} → l ≡ m → Line s p size P m → Line s p size P l
-line_of {s} {p} {size} {P} e w = subst (Line s p size P) (sym e) w
+pub line_of_lem : {s : List ℕ} {p : Spot} {size : ℕ} {P : ℕ → ℕ → Type 0} {l m : Item} → l ≡ m → Line s p size P m → Line s p size P l
+line_of_lem {s} {p} {size} {P} e w = subst (Line s p size P) (sym e) w
 
 pub step_of : {s : List ℕ} {p : Spot} {b l : ℕ} {q r : Spot} → q ≡ r → Step s p b l r → Step s p b l q
 step_of {s} {p} {b} {l} e w = subst (Step s p b l) (sym e) w

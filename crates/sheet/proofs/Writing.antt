@@ -87,11 +87,11 @@ fewest_few n k h w =
 -- ---- binary digits, stored from the last to the first
 
 -- a store past the bytes may come first
-set_first : (out : List ℕ) (p : ℕ) (xs : List ℕ) (k a : ℕ) → p + length xs ≤ k → written (set out k a) p xs ≡ set (written out p xs) k a
+set_first_lem : (out : List ℕ) (p : ℕ) (xs : List ℕ) (k a : ℕ) → p + length xs ≤ k → written (set out k a) p xs ≡ set (written out p xs) k a
 unfolding written
-set_first out p [] k a h = refl
-set_first out p (x ∷ xs) k a h =
-    rw (set_comm out k p a x (λ e. omega arith)) (set_first (set out p x) (suc p) xs k a (omega arith))
+set_first_lem out p [] k a h = refl
+set_first_lem out p (x ∷ xs) k a h =
+    rw (set_comm out k p a x (λ e. omega arith)) (set_first_lem (set out p x) (suc p) xs k a (omega arith))
 
 -- one byte more
 written_snoc : (out : List ℕ) (p : ℕ) (xs : List ℕ) (a : ℕ) → set (written out p xs) (p + length xs) a ≡ written out p (xs ++ (a ∷ []))
@@ -114,7 +114,7 @@ bits_go out p (suc j) rest h =
     let f : suc j - 1 ≡ j = omega arith in
     let g : p + j ≡ p + length (binary j (rest / 2)) = omega (arith, length_binary j (rest / 2)) in
     rw (f, binary_more, g)
-    (set_first out p (binary j (rest / 2)) _ (zero_digit + rest % 2) (le_refl _) ∙ written_snoc out p (binary j (rest / 2)) (zero_digit + rest % 2))
+    (set_first_lem out p (binary j (rest / 2)) _ (zero_digit + rest % 2) (le_refl _) ∙ written_snoc out p (binary j (rest / 2)) (zero_digit + rest % 2))
 
 pub bits_end : (out : List ℕ) (p i rest : ℕ) → i ≤ 0 → written out p (binary i rest) ≡ out
 unfolding written binary

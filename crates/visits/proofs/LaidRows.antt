@@ -19,7 +19,7 @@ use Rattle.pieces.proofs.Order.{kid_place}
 use Rattle.pieces.proofs.Depth.{levels_end}
 use Rattle.pieces.proofs.Counted.{before_map}
 use Rattle.pieces.proofs.Places.{place_level_lem, small_bit, true_false}
-use Rattle.pieces.proofs.Inside.{node_is, external_bit, internal_bit, at_place, place_few, kid_at, hop_at}
+use Rattle.pieces.proofs.Inside.{node_is, external_bit, internal_bit, at_place_lem, place_few, kid_at, hop_at}
 use Rattle.visits.specs.Rows.{RowLists, supernode_at, HoldRows, HoldHops}
 
 -- a map with a bit is not 0
@@ -167,6 +167,6 @@ module _ {W : ℕ} {t : BinaryTrie} where
           ap (λ (r : SupernodeRow). r.first_hop + ones_before r.internal (place_on p j)) numbered_row
           ∙ ap (λ (m : ℕ). m + ones_before (internal_map x) (place_on p j)) (any_is (internal_map x) (place_on p j) hops_before s)
           ∙ ap (λ (m : ℕ). hops_before + m) (before_map INTERNAL (place_on p j) (is_marked x) (omega (arith, place_few (place_on p j) j (place_level_lem p j h l)))) in
-          let w = at_place x p j h l in
+          let w = at_place_lem x p j h l in
           let marked : is_marked x (place_on p j) ≡ true = ap (λ (u : BinaryTrie). ltb 0 (mark u)) w ∙ sym (internal_bit x p j h l) ∙ s in
           rw c (hop_numbered marked _ (ap mark w))

@@ -2,7 +2,7 @@ use mathlib.Core.Path.{◌≡◌}
 use native.Mathlib.Omega.{arith}
 use lib.Dec.{lit≤}
 use Rattle.reading.specs.Keys.{address_key}
-use Rattle.reading.proofs.Steps.{step_of, bits_is, line_of}
+use Rattle.reading.proofs.Steps.{step_of, bits_is, line_of_lem}
 use Rattle.reading.proofs.Listing.{queries_step, queries_more, queries_none, spells_fits}
 use Rattle.reading.proofs.entries.read_queries.Goals as goal
 
@@ -15,10 +15,10 @@ bits_line-a-requires c =
     (t.within (omega arith), omega (arith, t.next), lit≤ tt)
 
 pub overflow_cast-adds : goal.overflow_cast-adds
-overflow_cast-adds c = omega (arith, spells_fits (line_of c.bits_line-a.ensures (bits_is address_key _ _ 1)).value)
+overflow_cast-adds c = omega (arith, spells_fits (line_of_lem c.bits_line-a.ensures (bits_is address_key _ _ 1)).value)
 
 pub overflow_cast-digs : goal.overflow_cast-digs
-overflow_cast-digs c = omega (arith, (line_of c.bits_line-a.ensures (bits_is address_key _ _ 1)).value.1)
+overflow_cast-digs c = omega (arith, (line_of_lem c.bits_line-a.ensures (bits_is address_key _ _ 1)).value.1)
 
 pub loop-i-preserved : goal.loop-i-preserved
 loop-i-preserved c = (

@@ -5,7 +5,7 @@ use native.Mathlib.Omega.{arith}
 use Rattle.reading.specs.Limits.{zero_digit}
 use Rattle.reading.specs.Lines.{byte_at, value_at}
 use Rattle.reading.proofs.Digits.{IsDigit, seen, seen_inside, value_more, count_go, count_stop, count_start, count_end, value_none, value_go, value_fits, digits_are}
-use Rattle.reading.proofs.Digits.{none_more, one_more}
+use Rattle.reading.proofs.Digits.{none_more, one_more_lem}
 use Rattle.reading.proofs.lines.read_digits.Goals as goal
 
 pub loop-count-init : goal.loop-count-init
@@ -55,7 +55,7 @@ loop-count-preserved c =
       omega (arith, seen_inside _ 0 _ _ _ byte_here c.is_digit.ensures (ap not c.if-not-is_digit.false)),
       value_more _ _ _ _ c.loop-count.invariant.3 (omega arith),
       value_go _ _ _ _ _ byte_here c.loop-count.invariant.4,
-      one_more c.loop-count.count c.loop-count.invariant.5 (count_go _ _ _ _ _ byte_here c.is_digit.ensures (ap not c.if-not-is_digit.false) (omega arith)),
+      one_more_lem c.loop-count.count c.loop-count.invariant.5 (count_go _ _ _ _ _ byte_here c.is_digit.ensures (ap not c.if-not-is_digit.false) (omega arith)),
     )
 
 pub returns : goal.returns
