@@ -1,6 +1,6 @@
-// What the vector programs print alike: a word, a number, an outcome, strides, a trie's record, what a lent scratch holds, element
-// rows and the marks kept past them, and what a lookup answers.
-// No contract can say what a program prints, so none of these has one: each is proved safe and ending, and the
+// What the vector programs read and print alike: their page of text; a word, a number, an outcome, strides, a trie's record, what a lent
+// scratch holds, element rows and the marks kept past them, and what a lookup answers.
+// No contract can say what a program prints, so nothing that prints has one: each is proved safe and ending, and the
 // bytes are compared with the reference's.
 #![tactic(auto)]
 
