@@ -55,7 +55,7 @@ pub record Pass (from to : ℕ) : Type 0 where
   pub few : to ≤ from + COLUMNS
   pub most : to ≤ LEVELS
 
--- lines of the sums: at level d those of WIDTH - d levels, and of the nodes above; and one that is only read (`lines-enough`)
+-- lines of the sums: at level d those of WIDTH - d levels, and of the nodes above; and one that is only read (`lines_enough`)
 abbrev pub sum_lines : ℕ
 sum_lines = WIDTH * (WIDTH + 1) / 2 + 1
 

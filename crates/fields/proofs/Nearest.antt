@@ -18,7 +18,7 @@ use Rattle.table.proofs.Table.{sorted, match_one}
 use Rattle.table.proofs.Longest.{wins_unique}
 use Rattle.fields.specs.Runs.{starts_shorter, last_before}
 
--- `lastBefore` as a statement
+-- `last_before` as a statement
 data Last (P : ℕ → Bool) (g : ℕ) : ℕ → Type 0 where
   no_one : ((k : ℕ) → k < g → P k ≡ false) → Last P g 0
   at_last : {j : ℕ} → j < g → P j ≡ true → ((k : ℕ) → j < k → k < g → P k ≡ false) → Last P g (suc j)

@@ -1,5 +1,5 @@
 -- Rules of one destination are neighbours: the runs of equal neighbours, and the tables that the tries are built of (02, [6]: "a
--- destination trie whose entries lead to source tries"). Every list has one list of runs (`runs-exist`, `runs-unique`).
+-- destination trie whose entries lead to source tries"). Every list has one list of runs (`runs_exist`, `runs_unique`).
 use Rattle.std.specs.Prelude.{◌≡◌, Bool, true, not, cond, ◌&&◌, List, [], ◌∷◌, ℕ, zero, suc, ◌+◌, ◌-◌, ◌≤◌, ◌<◌, take, drop, eqb, ltb}
 use Rattle.table.specs.Table.{at}
 use Rattle.table.specs.Lists.{listed}

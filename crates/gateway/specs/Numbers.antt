@@ -1,5 +1,5 @@
 -- Each answer as the C caller sees it: for each case of an answer the refusal's number, 0 where it is accepted, the detail, and
--- the values, which are 0 where it is refused. (A lookup's answer in numbers is walk's `answerNumbers`.)
+-- the values, which are 0 where it is refused. (A lookup's answer in numbers is walk's `answer_numbers`.)
 use Rattle.table.specs.Refusals.{outcome_number, outcome_detail}
 use Rattle.table.specs.Answers.{shared_outcome, shared_bits, span_outcome, span_index, span_count}
 use Rattle.table.specs.declared.entry.Outcome.{Outcome}

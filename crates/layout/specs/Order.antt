@@ -1,6 +1,6 @@
 -- "Blocks lie without gaps, breadth first, left to right, the root at row 0" (01), said a second time: a queue of blocks. The
 -- first block is taken and its rows are laid; its child blocks, left to right, get the next free rows and join the queue at its
--- end. Blocks.antt says the same rows level by level; the law between the two is `rows-queue` (proofs/Order.antt).
+-- end. Blocks.antt says the same rows level by level; the law between the two is `rows_queue` (proofs/Order.antt).
 use Rattle.std.specs.Prelude.{ℕ, zero, suc, pred, ◌+◌, List, [], ◌∷◌, ◌++◌}
 use Rattle.strides.specs.Trie.{Trie, none, node}
 use Rattle.walk.specs.Rows.{Row}

@@ -1,6 +1,6 @@
 -- "The blocks on an address's path are .. those of the 1-bit nodes that begin the address and at which the chosen strides begin a
 -- block" (01, "The element rows"), one by one: the root's block, and after a block the one at the node that stands its stride lower
--- on the path. Blocks.antt lists them (`blocksAlong`); the two are one (proofs/PathBlocks.antt, `blocks-are`).
+-- on the path. Blocks.antt lists them (`blocks_along`); the two are one (proofs/PathBlocks.antt, `blocks_are`).
 use Rattle.std.specs.Prelude.{ℕ, suc, ◌+◌, ◌-◌, ◌*◌, ◌^◌}
 use Rattle.table.specs.Prefix.{start}
 use Rattle.strides.specs.Trie.{Trie, Some, sub_along}

@@ -16,7 +16,7 @@ module _ {X : Type 0} (kids : X → List X) where
   level zero q = q
   level (suc n) q = level n (kids_of q)
 
-  -- the same by a queue, in at most n turns: the first is taken, its children join the end (the law between the two is `queue-order`)
+  -- the same by a queue, in at most n turns: the first is taken, its children join the end (the law between the two is `queue_order`)
   unfoldable pub queue_of : ℕ → List X → List X
   queue_of zero q = []
   queue_of (suc n) [] = []

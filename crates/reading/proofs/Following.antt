@@ -1,5 +1,5 @@
 -- What was read of any text, good or bad, opens the text of a sound sheet: of the sheet that was read, where what a bad line would
--- have said is 0. So a good text is the text of its sheet, and with `spelled-is-good` (Sound) a text is good exactly where it is the
+-- have said is 0. So a good text is the text of its sheet, and with `spelled_is_good` (Sound) a text is good exactly where it is the
 -- text of a sound sheet.
 use mathlib.Core.Path.{◌≡◌, refl, sym, ap, subst, ◌∙◌}
 use mathlib.Core.List.{List, [], ◌++◌, append-nil, append_assoc}

@@ -1,6 +1,6 @@
 -- What the call that reads a text hands back (01, "The tablet program"): line 0 and what the sheet says; or the first bad line and
 -- nothing else. A text is that of a sound sheet or has a first bad line, and no reading is in this: one answer is left
--- (proofs/Contents.antt, `contents-unique`).
+-- (proofs/Holding.antt, `contents_unique`).
 use Rattle.std.specs.Prelude.{◌≡◌, List, [], ◌⊎◌, ℕ, ◌≤◌, length, take}
 use Rattle.table.specs.Lists.{padded}
 use Rattle.choosers.specs.declared.chooser.Kind.TheVariants.{Fixed}

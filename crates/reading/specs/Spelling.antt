@@ -1,6 +1,6 @@
 -- The text that says a sheet (01, "The tablet program"), line after line, each number without leading zeros. No other text
--- is good (proofs/Following.antt, `good-is-spelled`): "anything else, extra text or an early end is 11". And the text of
--- every sound sheet is good and says that sheet (proofs/Sound.antt, `spelled-is-good`).
+-- is good (proofs/Following.antt, `good_is_spelled`): "anything else, extra text or an early end is 11". And the text of
+-- every sound sheet is good and says that sheet (proofs/Sound.antt, `spelled_is_good`).
 use Rattle.std.specs.Prelude.{◌≡◌, List, [], ◌∷◌, ◌++◌, ℕ, ◌^◌, ◌≤◌, ◌<◌, length}
 use Rattle.table.specs.Table.{at}
 use Rattle.choosers.specs.declared.chooser.Kind.{Kind}

@@ -26,7 +26,7 @@ pub record Calls (W : ℕ) (rs : Rules) (m : ℕ) (from : ℕ → ℕ) (da sa g 
   pub begun : let t = trie_table rs m from 0 in starts_with W (at t.vals g) (at t.lens g) da ≡ true
   pub most : (i : ℕ) → i < rule_count rs → matches_rule W rs da sa i ≡ true → at rs.dlens i ≤ at (trie_table rs m from 0).lens g
 
--- rows of source tries, one trie after the other, numbered as in the lists: `rowsIn g` are those of trie g, counted from its place
+-- rows of source tries, one trie after the other, numbered as in the lists: `rows_in g` are those of trie g, counted from its place
 unfoldable pub rows_through : (list : List ℕ) (rows_in : ℕ → List ℕ) (tries : List ℕ) → List ℕ
 rows_through list rows_in [] = []
 rows_through list rows_in (g ∷ ts) = at_place (trie_row list g).place (rows_in g) ++ rows_through list rows_in ts

@@ -1,6 +1,6 @@
 -- The tables of all tries as the build holds them: the destinations in lists of their own, with the numbers of their source tries, and the
 -- sources of destination g in the parts of the rules' lists from place `first g` to before `first (g + 1)`. They are the tables that 02 speaks
--- of (`trieTable`, fields).
+-- of (`trie_table`, fields).
 use Rattle.std.specs.Prelude.{List, ℕ, zero, suc, ◌+◌, ◌*◌, ◌≤◌, ◌<◌, length}
 use Rattle.table.specs.Table.{at, Table}
 use Rattle.strides.specs.Trie.{Trie, size}

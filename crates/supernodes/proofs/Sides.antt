@@ -34,7 +34,7 @@ module _ {W : ℕ} {vs ls : List ℕ} {d q from to : ℕ} (s : Span W vs ls d q 
   span_empty e mark = range_empty W (at vs) (at ls) mark (length vs) s.table.prefix s.table.sorted d q from to s.range (suc W - d) e
 
   module _ (h : from < to) where
-    -- `pastExact` is what the code finds, and the mark too
+    -- `past_exact` is what the code finds, and the mark too
     first_past : past_exact (at ls) from to d ≡ first_of ls d from
     unfolding past_exact exact_first
     first_past = rw (lt-ltb from to h) refl

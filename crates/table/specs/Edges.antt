@@ -15,7 +15,7 @@ entry_edges : (shape_bad 0 0 0 ≡ false) × (shape_bad 65536 65536 65536 ≡ fa
 unfolding shape_bad
 entry_edges = (refl, refl, refl, refl, refl)
 
--- a gateway with 3 links has hops 1 to 3 and discards (of all numbers: `refused-exactly`, table Table)
+-- a gateway with 3 links has hops 1 to 3 and discards (of all numbers: `refused_exactly`, table Table)
 hop_edges : (hop_refused 3 0 ≡ true) × (hop_refused 3 1 ≡ false) × (hop_refused 3 3 ≡ false) × (hop_refused 3 4 ≡ true)
     × (hop_refused 3 65534 ≡ true) × (hop_refused 3 65535 ≡ false)
 unfolding unlinked hop_refused

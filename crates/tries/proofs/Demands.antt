@@ -216,7 +216,7 @@ module _ {kind : Kind} {W k links : ℕ} {vs ls hs scratch : List ℕ} {rows : L
       same true f = detail (is ∙ outcome_fails (room_test least (shortest rows)) [] f)
       same false f = absurd (refused_not_accepted (is ∙ outcome_passes (room_test least (shortest rows)) [] f))
 
-  -- every row of every block holds what the row rule says (`row-rule`, layout)
+  -- every row of every block holds what the row rule says (`row_rule`, layout)
   pub build_rows : (e : out ≡ Accepted) (x n d : ℕ) → x < 2 ^ W → BlockAt (b.laid e).0 W k (table_trie W vs ls hs) x n d
       → (i : ℕ) → i < 2 ^ (b.laid e).0 (k - n) (node_on W (table_trie W vs ls hs) x d)
       → let σ = (b.laid e).0 in
@@ -276,7 +276,7 @@ module _ {kind : Kind} {W k links : ℕ} {vs ls hs scratch : List ℕ} {rows : L
     pub build_blocks : reads_of r ≡ block_count (b.laid e).0 W (table_trie W vs ls hs) k a
     build_blocks = ap reads_of is_looked ∙ reads_blocks (b.laid e).2 a h
 
-    -- one at each of the levels 0 to r - 1, and no other (`Block-one`, layout); r is never above k
+    -- one at each of the levels 0 to r - 1, and no other (`block_one`, layout); r is never above k
     pub build_counted : (n : ℕ) → (n < reads_of r) ↔ ((d : ℕ) × BlockAt (b.laid e).0 W k (table_trie W vs ls hs) a n d)
     build_counted n =
         let g = (b.laid e).2 in

@@ -17,7 +17,7 @@ use Rattle.verdicts.specs.Verdicts.{verdict_number, action_of, verdict_reads, Ve
 use Rattle.verdicts.specs.declared.visiting.Verdict.{Verdict}
 use Rattle.verdicts.specs.declared.visiting.Verdict.TheVariants.{Act, Discard, NoRule, Refused}
 
--- the verdict of an action: 0 is no rule, `discardHop` a discard, every other is to act
+-- the verdict of an action: 0 is no rule, `discard_hop` a discard, every other is to act
 unfoldable pub verdict : (action reads : ℕ) → Verdict
 verdict action reads = cond (eqb action 0) (NoRule reads) (cond (eqb action discard_hop) (Discard reads) (Act action reads))
 

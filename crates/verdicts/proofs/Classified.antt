@@ -1,4 +1,4 @@
--- The verdicts that the promise allows: the classification's is one (and there is no other, `classified-unique`).
+-- The verdicts that the promise allows: the classification's is one (and there is no other, `classified_unique`).
 use Prim.Native.Nat.{ℕ, ◌+◌, ◌^◌, ◌≤◌, ◌<◌}
 use mathlib.Core.Path.{◌≡◌, refl, ap, subst, ◌∙◌}
 use mathlib.Core.Bool.{Bool, true, false, cond, true≢false, ◌||◌}

@@ -24,7 +24,7 @@ verdict_reads (Discard reads) = reads
 verdict_reads (NoRule reads) = reads
 verdict_reads (Refused number) = 0
 
--- which case a verdict is, by number and action: a refusal has a number; of the others action 0 is no rule, `discardHop` a discard, and
+-- which case a verdict is, by number and action: a refusal has a number; of the others action 0 is no rule, `discard_hop` a discard, and
 -- every other action is to act
 abbrev pub VerdictCase : Verdict → Type 0
 VerdictCase (Act action reads) = (0 < action) × (action ≡ discard_hop → ⊥)

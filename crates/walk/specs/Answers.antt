@@ -38,7 +38,7 @@ reads_of (Refused number) = 0
 abbrev pub NotRefused : Answer → Type 0
 NotRefused a = number_of a ≡ 0
 
--- which case an answer is, by number and hop: a refusal has a number; of the others hop 0 is no route, `discardHop` a discard, and
+-- which case an answer is, by number and hop: a refusal has a number; of the others hop 0 is no route, `discard_hop` a discard, and
 -- every other hop a match
 abbrev pub Case : Answer → Type 0
 Case (Match hop len reads) = (0 < hop) × (hop ≡ discard_hop → ⊥)
@@ -72,7 +72,7 @@ unfoldable pub latest : (at : ℕ → Row) → HopLength → List ℕ → HopLen
 latest at best [] = best
 latest at best (r ∷ rs) = latest at (new_best (at r) best) rs
 
--- hop 0 is no route, `discardHop` a discard, every other a match
+-- hop 0 is no route, `discard_hop` a discard, every other a match
 unfoldable pub answer : (hop len reads : ℕ) → Answer
 answer hop len reads = cond (eqb hop 0) (NoRoute reads) (cond (eqb hop discard_hop) (Discard len reads) (Match hop len reads))
 
