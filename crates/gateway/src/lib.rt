@@ -1,7 +1,7 @@
 // The calls for C, which `gateway_c` exports: the table check, the two answers about entries, the choosers, the builds and the lookup, a
 // lookup of many addresses in one call, build and lookup of tree bitmap arrays, and the builds and the classification of rules of two
-// fields. Each is thin over the crates below, takes any numbers and any lists, and hands its answer back as a struct of plain numbers: 0 for accepted or
-// the refusal, its detail, then the values, which are 0 where it is refused.
+// fields. Each is thin over the crates below, takes any numbers and any lists, and hands its answer back as a struct of plain numbers: 0
+// for accepted or the refusal, its detail, then the values, which are 0 where it is refused.
 #![tactic(auto)]
 
 mod bitmaps;
