@@ -14,7 +14,8 @@ use Rattle.table.specs.Entry.{unlinked, hop_refused, below}
 use Rattle.table.specs.Refusals.{outcome}
 use Rattle.table.specs.Table.{at, tests_at, each_tests}
 use Rattle.table.specs.Lists.{listed}
-use Rattle.table.specs.declared.entry.Outcome.TheVariants.{Accepted, Refused}
+use Rattle.std.specs.Prelude.{Ok, Err}
+use Rattle.table.specs.declared.refusal.Refusal.TheVariants.{BadEntry}
 use Rattle.fields.specs.Limits.{rule_limit}
 use Rattle.fields.specs.Rules.{Rules, rules, rules_shape_bad, rule_bad, rule_below, rule_order_bad, rule_list_tests, rule_tests, check_rules_of}
 use Rattle.fields.specs.Winning.{matches_rule, TopRule, NoRuleMatches}
@@ -26,7 +27,7 @@ abbrev five : List ℕ
 five = 0 ∷ 1 ∷ 2 ∷ 3 ∷ 4 ∷ []
 
 -- by a gateway with the four links of their actions; with three, the last rule is refused
-pub example_accepted : (check_rules_of 3 4 example_rules ≡ Accepted) × (check_rules_of 3 3 example_rules ≡ Refused 4 4)
+pub example_accepted : (check_rules_of 3 4 example_rules ≡ Ok tt) × (check_rules_of 3 3 example_rules ≡ Err (BadEntry 4))
 unfolding outside prefix_bad unlinked hop_refused below outcome tests_at each_tests rules_shape_bad rule_bad rule_below rule_order_bad rule_list_tests rule_tests check_rules_of
 example_accepted = (refl, refl)
 

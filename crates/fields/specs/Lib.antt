@@ -5,3 +5,4 @@ pub mod Rules
 pub mod Winning
 pub mod Runs
 pub mod Example
+pub mod Lent

@@ -4,9 +4,9 @@ use Rattle.std.specs.Prelude.{◌≡◌, Bool, not, ◌&&◌, ◌||◌, List, �
 use Rattle.table.specs.Limits.{width_limit}
 use Rattle.table.specs.Prefix.{prefix_bad, IsPrefix}
 use Rattle.table.specs.Entry.{hop_refused, below, Below}
-use Rattle.table.specs.Refusals.{Test, test, outcome}
+use Rattle.table.specs.Refusals.{Outcome, Test, test, outcome}
 use Rattle.table.specs.Table.{at, width_test, tests_at, each_tests}
-use Rattle.table.specs.declared.entry.Outcome.{Outcome}
+use Rattle.table.specs.declared.refusal.Refusal.TheVariants.{Shape}
 use Rattle.fields.specs.Limits.{rule_limit}
 
 -- the five lent lists: values and lengths of the destinations, values and lengths of the sources, actions
@@ -70,7 +70,7 @@ each_rule_tests W links rs i m = each_tests (rule_bad W links rs) (rule_order_ba
 
 -- 3, then 4 and 5 rule by rule
 unfoldable pub rule_list_tests : (W links : ℕ) → Rules → List Test
-rule_list_tests W links rs = test 3 0 (rules_shape_bad rs) ∷ each_rule_tests W links rs 0 (rule_count rs)
+rule_list_tests W links rs = test Shape (rules_shape_bad rs) ∷ each_rule_tests W links rs 0 (rule_count rs)
 
 -- the check of rules tests 1, 3, 4, 5
 unfoldable pub rule_tests : (W links : ℕ) → Rules → List Test

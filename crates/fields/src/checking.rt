@@ -1,173 +1,103 @@
-// The check of rules: refusals 1, 3, 4 and 5 (01, "Refusals, in order of test"), with rules for entries (02, [6]).
-ghost use Rattle.std.specs.Prelude.{◌≡◌, [], ◌≤◌, ◌<◌, length};
+// The check of rules: refusals 1, 3, 4 and 5 (01, "Refusals, in order of test"), with rules for entries (02, [6]). (The
+// width stays a number, with its bound in each contract: C passes it so.)
+ghost use Rattle.std.specs.Prelude.{◌≡◌, ◌≤◌, ◌<◌};
 ghost use Rattle.table.specs.Limits.{width_limit};
-ghost use Rattle.table.specs.Entry.{hop_refused};
 ghost use Rattle.table.specs.Refusals.{outcome, Gives};
-ghost use Rattle.table.specs.Table.{at, entry_bad};
-ghost use Rattle.fields.specs.Rules.{rules, rules_shape_bad, SameLengths, rule_below, rule_tests_at, each_rule_tests, rule_tests, check_rules_of};
+ghost use Rattle.fields.specs.Lent.{lent};
+ghost use Rattle.fields.specs.Rules.{rule_count, rules_shape_bad, SameLengths, rule_below, rule_tests_at, each_rule_tests, rule_tests, check_rules_of};
 
 use crate::limits::RULES;
-use table::{Outcome, WIDTH, check_table, is_outside};
+use table::{Refusal, WIDTH, hop_refused, is_below, is_outside, prefix_bad};
 
-// Refusal 3: lists of unequal length, or too many rules.
-fn rules_shape_bad(
-    dvals: &[u32],
-    dlens: &[u8],
-    svals: &[u32],
-    slens: &[u8],
-    actions: &[u16],
-) -> bool
-    ensures { result ≡ rules_shape_bad (rules dvals.now dlens.now svals.now slens.now actions.now) }
-{
-    let n = dvals.len();
-    if dlens.len() != n {
-        return true;
-    }
-    if svals.len() != n {
-        return true;
-    }
-    if slens.len() != n {
-        return true;
-    }
-    if actions.len() != n {
-        return true;
-    }
-    RULES < n
+// The five lists of rules, lent: of each rule its destination and its source, each a value and a length in bits, and its action. They may
+// be of any lengths; that these are the same is asked where the test of the shape has passed. (Lists and not one of structs: C lends them.)
+#[derive(Clone, Copy)]
+pub struct RuleLists<'a> {
+    pub dvals: &'a [u32],
+    pub dlens: &'a [u8],
+    pub svals: &'a [u32],
+    pub slens: &'a [u8],
+    pub actions: &'a [u16],
 }
 
-// Test 4 of one field of rule i and of its action: whether a table of that one entry is refused.
-fn field_bad(width: u32, links: u16, vals: &[u32], lens: &[u8], actions: &[u16], i: usize) -> bool
-    requires width_nonzero { (0 < width) × (width ≤ width_limit) }
-    requires i_in_bounds { (i < length vals.now) × (i < length lens.now) × (i < length actions.now) }
-    ensures { result ≡ entry_bad (hop_refused links) width (at vals.now) (at lens.now) (at actions.now) i }
+// Refusal 3: lists of unequal length, or too many rules.
+#[tactic(auto, unfolding(crate::specs::Rules::rules_shape_bad))]
+fn rules_shape_bad(rules: RuleLists) -> bool
+    ensures { result ≡ rules_shape_bad (lent rules.entry) }
 {
-    let end = i + 1;
-    let checked = check_table(width, links, &vals[i..end], &lens[i..end], &actions[i..end]);
-    match checked {
-        Outcome::Accepted => false,
-        Outcome::Refused {
-            number: _,
-            detail: _,
-        } => true,
-    }
+    let n = rules.dvals.len();
+    rules.dlens.len() != n
+        || rules.svals.len() != n
+        || rules.slens.len() != n
+        || rules.actions.len() != n
+        || RULES < n
 }
 
 // The order of rules: by destination value, destination length, source value, source length. Actions have no part in it.
-fn is_rule_below(
-    dvals: &[u32],
-    dlens: &[u8],
-    svals: &[u32],
-    slens: &[u8],
-    i: usize,
-    j: usize,
-) -> bool
-    requires i_in_bounds { (i < length dvals.now) × (i < length dlens.now) × (i < length svals.now) × (i < length slens.now) }
-    requires j_in_bounds { (j < length dvals.now) × (j < length dlens.now) × (j < length svals.now) × (j < length slens.now) }
-    ensures { result ≡ rule_below (rules dvals.now dlens.now svals.now slens.now []) i j }
+// (Tried as the order of two pairs of pairs: the proof did not close.)
+#[tactic(auto, unfolding(crate::specs::Rules::rule_below))]
+fn is_rule_below(rules: RuleLists, i: usize, j: usize) -> bool
+    requires same_lengths { SameLengths (lent rules) }
+    requires in_bounds { (i < rule_count (lent rules)) × (j < rule_count (lent rules)) }
+    ensures { result ≡ rule_below (lent rules.entry) i j }
 {
-    if dvals[i] != dvals[j] {
-        return dvals[i] < dvals[j];
-    }
-    if dlens[i] != dlens[j] {
-        return dlens[i] < dlens[j];
-    }
-    if svals[i] != svals[j] {
-        return svals[i] < svals[j];
-    }
-    slens[i] < slens[j]
+    let (dv, dl) = (rules.dvals[i], rules.dlens[i]);
+    let (ev, el) = (rules.dvals[j], rules.dlens[j]);
+    is_below(dv, dl, ev, el)
+        || dv == ev
+            && dl == el
+            && is_below(
+                rules.svals[i],
+                rules.slens[i],
+                rules.svals[j],
+                rules.slens[j],
+            )
 }
 
 // Tests 4 and 5 at rule i, 4 first.
-fn rule_outcome(
-    width: u32,
-    links: u16,
-    dvals: &[u32],
-    dlens: &[u8],
-    svals: &[u32],
-    slens: &[u8],
-    actions: &[u16],
-    i: usize,
-) -> Outcome
-    requires width_nonzero { (0 < width) × (width ≤ width_limit) }
-    requires same_lengths { SameLengths (rules dvals.now dlens.now svals.now slens.now actions.now) × (i < length dvals.now) }
-    ensures { result ≡ outcome
-        (rule_tests_at width links (rules dvals.now dlens.now svals.now slens.now actions.now) i) }
+#[tactic(auto, unfolding(crate::specs::Rules::rule_bad, crate::specs::Rules::rule_order_bad, table::specs::Refusals::outcome, table::specs::Table::tests_at))]
+fn rule_outcome(width: u32, links: u16, rules: RuleLists, i: usize) -> Result<(), Refusal>
+    requires width { width ≤ width_limit }
+    requires same_lengths { SameLengths (lent rules) }
+    requires in_bounds { i < rule_count (lent rules) }
+    ensures { result ≡ outcome (rule_tests_at width links (lent rules.entry) i) }
 {
-    let bad = Outcome::Refused {
-        number: 4,
-        detail: i as u64,
-    };
-    if field_bad(width, links, dvals, dlens, actions, i) {
-        return bad;
+    if prefix_bad(width, rules.dvals[i], rules.dlens[i])
+        || prefix_bad(width, rules.svals[i], rules.slens[i])
+        || hop_refused(links, rules.actions[i])
+    {
+        return Err(Refusal::BadEntry { index: i as u64 });
     }
-    if field_bad(width, links, svals, slens, actions, i) {
-        return bad;
+    if i > 0 && !is_rule_below(rules, i - 1, i) {
+        return Err(Refusal::Unordered { index: i as u64 });
     }
-    if i == 0 {
-        return Outcome::Accepted;
-    }
-    if is_rule_below(dvals, dlens, svals, slens, i - 1, i) {
-        return Outcome::Accepted;
-    }
-    Outcome::Refused {
-        number: 5,
-        detail: i as u64,
-    }
+    Ok(())
 }
 
 // Tests 4 and 5 rule by rule: the lowest index is reported.
-fn rules_outcome(
-    width: u32,
-    links: u16,
-    dvals: &[u32],
-    dlens: &[u8],
-    svals: &[u32],
-    slens: &[u8],
-    actions: &[u16],
-) -> Outcome
-    requires width_nonzero { (0 < width) × (width ≤ width_limit) }
-    requires same_lengths { SameLengths (rules dvals.now dlens.now svals.now slens.now actions.now) }
-    ensures { result ≡ outcome
-        (each_rule_tests width links (rules dvals.now dlens.now svals.now slens.now actions.now) 0
-        (length dvals.now)) }
+fn rules_outcome(width: u32, links: u16, rules: RuleLists) -> Result<(), Refusal>
+    requires width { width ≤ width_limit }
+    requires same_lengths { SameLengths (lent rules) }
+    ensures { result ≡ outcome (each_rule_tests width links (lent rules.entry) 0 (rule_count (lent rules.entry))) }
 {
-    let n = dvals.len();
-    let mut i = 0;
-    while i < n {
-        let r = rule_outcome(width, links, dvals, dlens, svals, slens, actions, i);
-        if let Outcome::Refused { number, detail } = r {
-            return Outcome::Refused { number, detail };
-        }
-        i += 1;
+    for i in 0..rules.dvals.len() {
+        rule_outcome(width, links, rules, i)?;
     }
-    Outcome::Accepted
+    Ok(())
 }
 
-// Says whether five lists are rules of the width for a gateway with so many links: accepted, or the first refusal among 1, 3, 4 (detail:
-// the rule's index) and 5 (the same). It changes nothing.
-pub fn check_rules(
-    width: u32,
-    links: u16,
-    dvals: &[u32],
-    dlens: &[u8],
-    svals: &[u32],
-    slens: &[u8],
-    actions: &[u16],
-) -> Outcome
-    ensures exact { result ≡ check_rules_of width links (rules dvals.now dlens.now svals.now slens.now actions.now) }
-    ensures meaning { Gives (rule_tests width links (rules dvals.now dlens.now svals.now slens.now actions.now)) result }
+// Says whether five lists are rules of the width for a gateway with so many links: accepted, or the first refusal among 1, 3, 4
+// (the rule's index) and 5 (the same). It changes nothing.
+#[tactic(auto, using(table::proofs::Table::width_is, crate::proofs::Rules::lengths_are, crate::proofs::Rules::check_rules_width, crate::proofs::Rules::check_rules_shape, crate::proofs::Rules::check_rules_each, crate::proofs::Rules::check_rules_gives))]
+pub fn check_rules(width: u32, links: u16, rules: RuleLists) -> Result<(), Refusal>
+    ensures exact { result ≡ check_rules_of width links (lent rules.entry) }
+    ensures meaning { Gives (rule_tests width links (lent rules.entry)) result }
 {
     if is_outside(width, WIDTH) {
-        return Outcome::Refused {
-            number: 1,
-            detail: 0,
-        };
+        return Err(Refusal::Width);
     }
-    if rules_shape_bad(dvals, dlens, svals, slens, actions) {
-        return Outcome::Refused {
-            number: 3,
-            detail: 0,
-        };
+    if rules_shape_bad(rules) {
+        return Err(Refusal::Shape);
     }
-    rules_outcome(width, links, dvals, dlens, svals, slens, actions)
+    rules_outcome(width, links, rules)
 }

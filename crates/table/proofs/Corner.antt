@@ -8,9 +8,10 @@ use Rattle.table.specs.Refusals.{outcome}
 use Rattle.table.specs.Table.{at, shape_bad, tests_at, each_tests, order_bad, entry_bad, list_tests, table_tests, check_of}
 use Rattle.table.specs.Longest.{longer, best, of_winner, matches, winner, longest, matched}
 use Rattle.table.specs.Corner.{corner_values, corner_lengths, corner_hops, corner_addresses, corner_matches, corner_matched}
-use Rattle.table.specs.declared.entry.Outcome.TheVariants.{Accepted, Refused}
+use Rattle.std.specs.Prelude.{Ok, Err}
+use Rattle.table.specs.declared.refusal.Refusal.TheVariants.{BadEntry}
 
-pub corner_accepted : (check_of 4 1 corner_values corner_lengths corner_hops ≡ Accepted) × (check_of 4 0 corner_values corner_lengths corner_hops ≡ Refused 4 0)
+pub corner_accepted : (check_of 4 1 corner_values corner_lengths corner_hops ≡ Ok tt) × (check_of 4 0 corner_values corner_lengths corner_hops ≡ Err (BadEntry 0))
 unfolding outside prefix_bad unlinked hop_refused below outcome shape_bad tests_at each_tests order_bad entry_bad list_tests table_tests check_of
 corner_accepted = (refl, refl)
 

@@ -1,6 +1,6 @@
 -- An answer is its number, hop, length and reads, and the case that they make.
-use Prim.Native.Nat.{ℕ, ◌*◌, ◌/◌, ◌%◌, ◌<◌}
-use mathlib.Core.Path.{◌≡◌, refl, sym, ap, subst, ◌∙◌}
+use Prim.Native.Nat.{ℕ, ◌/◌, ◌%◌, ◌<◌}
+use mathlib.Core.Path.{◌≡◌, refl, sym, ap, ◌∙◌}
 use mathlib.Core.Bool.{Bool, true, false, cond}
 use mathlib.Core.List.{List, [], ◌∷◌}
 use mathlib.Core.Logic.{◌↔◌}
@@ -10,13 +10,13 @@ use native.Mathlib.Decide.{dec_le}
 use lib.Dec.{eqb}
 use borrow.Author.Tests.{eqb-true, eqb-false, ne_eqb}
 use Rattle.table.specs.Limits.{discard_hop}
-use Rattle.walk.specs.declared.walk.Answer.{Answer}
-use Rattle.walk.specs.declared.walk.Answer.TheVariants.{Match, Discard, NoRoute, Refused}
+use Rattle.walk.specs.Cases.{Answer}
+use Rattle.walk.specs.Cases.{Match, Discard, NoRoute, Refused}
 use Rattle.walk.specs.declared.numbers.AnswerNumbers.{AnswerNumbers}
 use Rattle.walk.specs.Rows.{Row}
 use Rattle.walk.specs.Answers.{number_of, hop_of, length_of, reads_of, Case, HopLength, floor_best, row_best, new_best, latest, answer, answer_numbers, answer_of}
 use Rattle.walk.specs.Limits.{HOPS}
-use Rattle.walk.specs.Packed.{packed, unpacked, NoHopNoLength, IsPacked}
+use Rattle.walk.specs.Packed.{packed, unpacked, NoHopNoLength}
 
 -- ---- the best
 -- with no hop there is no length
@@ -40,14 +40,6 @@ packed_best row best {b} h e = rw e (go (eqb row.hop 0))
 
 pub packed_floor : (floor : ℕ) → floor < HOPS → unpacked floor ≡ floor_best floor
 packed_floor floor h = let p : floor % HOPS ≡ floor = omega arith in let q : floor / HOPS ≡ 0 = omega arith in rw (p, q) refl
-
-pub still_packed : (row : Row) (best : ℕ) {b : ℕ} → row.hop < HOPS → row.len < 256 → b ≡ cond (eqb row.hop 0) best (packed row.hop row.len)
-    → IsPacked best → IsPacked b
-still_packed row best {b} h l e p = (rw e (go (eqb row.hop 0)), subst NoHopNoLength (sym (packed_best row best h e)) (new_best_no_hop row (unpacked best) p.1))
-  where
-    go : (z : Bool) → cond z best (packed row.hop row.len) < HOPS * 256
-    go true = p.0
-    go false = omega arith
 
 pub latest_no_hop : (at : ℕ → Row) (best : HopLength) (rs : List ℕ) → NoHopNoLength best → NoHopNoLength (latest at best rs)
 unfolding latest

@@ -1,8 +1,7 @@
 -- Shift and mask at any machine width w: what the machine's `x & ((1 << s) - 1)` is, where s is below w.
-use Prim.Native.Nat.{ℕ, ◌-◌, ◌*◌, ◌/◌, ◌%◌, ◌^◌, ◌≤◌, ◌<◌}
+use Prim.Native.Nat.{ℕ, ◌-◌, ◌*◌, ◌%◌, ◌^◌, ◌≤◌, ◌<◌}
 use mathlib.Core.Path.{◌≡◌, ap, ◌∙◌}
 use mathlib.Core.Bool.{false}
-use native.Mathlib.Nat.{le_trans, mod-le, div-le_self}
 use native.Mathlib.Omega.{arith}
 use lib.Bits.{bit_and, and_mask}
 use lib.Dec.{leb}
@@ -12,10 +11,6 @@ use Rattle.table.proofs.Shifts.{one_shl}
 
 pub and_shl : (w s x : ℕ) → s < w → bit_and x ((1 * 2 ^ s) % 2 ^ w - 1) ≡ x % 2 ^ s
 and_shl w s x h = ap (λ (m : ℕ). bit_and x (m - 1)) (one_shl w s h) ∙ and_mask x s
-
--- bits cut out of a number are no larger than it
-pub cut_le : (a m n : ℕ) → a / m % n ≤ a
-cut_le a m n = le_trans (mod-le (a / m) n) (div-le_self a m)
 
 -- a number that w bits hold is below every wider power
 pub held_below : (w s x : ℕ) → x < 2 ^ w → w ≤ s → leb (2 ^ s) x ≡ false

@@ -6,3 +6,4 @@ pub mod Walks
 pub mod Paths
 pub mod Looked
 pub mod Reading
+pub mod Told

@@ -11,8 +11,8 @@ use lib.Dec.{eqb}
 use lib.ListN.{length}
 use borrow.Author.Tests.{eqb-true, eqb-false}
 use Rattle.walk.specs.declared.record.Record.{Record}
-use Rattle.walk.specs.declared.walk.Answer.{Answer}
-use Rattle.walk.specs.declared.walk.Answer.TheVariants.{Refused}
+use Rattle.walk.specs.Cases.{Answer}
+use Rattle.walk.specs.Cases.{Refused}
 use Rattle.walk.specs.Limits.{LEVELS, Within}
 use Rattle.walk.specs.Refusals.{fails, passes}
 use Rattle.walk.specs.Rows.{Lists, shortest, row_at, root}

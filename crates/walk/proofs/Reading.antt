@@ -10,7 +10,7 @@ use native.Mathlib.Decide.{dec_le}
 use lib.Dec.{eqb}
 use lib.ListN.{length}
 use Rattle.walk.specs.declared.record.Record.{Record}
-use Rattle.walk.specs.declared.walk.Answer.{Answer}
+use Rattle.walk.specs.Cases.{Answer}
 use Rattle.walk.specs.Rows.{Lists, shortest, row_at, root}
 use Rattle.walk.specs.Answers.{number_of, hop_of, length_of, reads_of, NotRefused, Carries, floor_best, latest}
 use Rattle.walk.specs.Lookup.{Trail, ended, tell, from_root, path_of, path_rows, lookup_of}

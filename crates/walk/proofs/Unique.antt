@@ -8,7 +8,7 @@ use native.Mathlib.Omega.{arith}
 use native.Mathlib.Decide.{dec_le}
 use lib.ListN.{length}
 use Rattle.walk.specs.declared.record.Record.{Record}
-use Rattle.walk.specs.declared.walk.Answer.{Answer}
+use Rattle.walk.specs.Cases.{Answer}
 use Rattle.walk.specs.Refusals.{RefuseBy, fails, passes}
 use Rattle.walk.specs.Rows.{Row, Lists, row_at, row_of}
 use Rattle.walk.specs.declared.numbers.AnswerNumbers.{AnswerNumbers}

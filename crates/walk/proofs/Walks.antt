@@ -7,7 +7,7 @@ use native.Mathlib.Omega.{arith}
 use lib.Dec.{leb, ltb, eqb}
 use borrow.Author.Tests.{eq-eqb, ne_eqb, ltb-true, ltb-false, leb-true, leb-false}
 use Rattle.walk.specs.declared.record.Record.{Record}
-use Rattle.walk.specs.declared.walk.Answer.TheVariants.{Refused}
+use Rattle.walk.specs.Cases.{Refused}
 use Rattle.walk.specs.Rows.{Row, Lists, shortest, row_at, root, row_of}
 use Rattle.walk.specs.Answers.{HopLength, floor_best, new_best, latest, answer}
 use Rattle.walk.specs.Lookup.{readable, Trail, ended, behind, trail, tell, walk, from_root, path_of, refusal_of, first_refusal, lookup_of}

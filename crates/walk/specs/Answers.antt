@@ -3,8 +3,8 @@
 -- from no route"; 02, [5]: "each match or discard carries" the matched length, "0 for the floor"); how rows are taken; and the answer
 -- in numbers, as C is told it.
 use Rattle.std.specs.Prelude.{ℕ, ◌<◌, ◌≡◌, cond, List, [], ◌∷◌, eqb}
-use Rattle.walk.specs.declared.walk.Answer.{Answer}
-use Rattle.walk.specs.declared.walk.Answer.TheVariants.{Match, Discard, NoRoute, Refused}
+use Rattle.walk.specs.Cases.{Answer}
+use Rattle.walk.specs.Cases.{Match, Discard, NoRoute, Refused}
 use Rattle.walk.specs.declared.numbers.AnswerNumbers.{AnswerNumbers}
 use Rattle.table.specs.Limits.{discard_hop}
 use Rattle.walk.specs.Rows.{Row}

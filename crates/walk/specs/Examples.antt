@@ -1,7 +1,7 @@
 -- The run of document 01 (width 3, two levels, 1 to hop 1 and 101 to hop 2), by computation from its record and its rows; 02's
 -- discarded corner ([4]); lengths as they are found ([5]); and both ends of the level limit (01, refusal 2; 02, [2]).
 use Rattle.std.specs.Prelude.{◌≡◌, refl, true, false, [], ◌∷◌, ℕ, ◌-◌, replicate}
-use Rattle.walk.specs.declared.walk.Answer.TheVariants.{Match, Discard, NoRoute, Refused}
+use Rattle.walk.specs.Cases.{Match, Discard, NoRoute, Refused}
 use Rattle.walk.specs.declared.record.Record.{Record}
 use Rattle.walk.specs.Limits.{WIDTH, LEVELS}
 use Rattle.table.specs.Limits.{outside}

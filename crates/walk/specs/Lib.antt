@@ -9,3 +9,6 @@ pub mod Examples
 -- The rule as a function (exact), which the meaning does without; and how the code keeps the best so far.
 pub mod Lookup
 pub mod Packed
+pub mod Lent
+pub mod Told
+pub mod Cases

@@ -2,8 +2,8 @@
 -- First the rows that the rule reads (links and strides lead there), then what they say (hop and length, and how many they are).
 -- The widest address allowed is `most`.
 use Rattle.std.specs.Prelude.{ℕ, zero, suc, ◌+◌, ◌-◌, ◌^◌, Bool, true, false, cond, not, ◌&&◌, ◌||◌, List, [], ◌∷◌, length, leb, ltb, eqb}
-use Rattle.walk.specs.declared.walk.Answer.{Answer}
-use Rattle.walk.specs.declared.walk.Answer.TheVariants.{Refused}
+use Rattle.walk.specs.Cases.{Answer}
+use Rattle.walk.specs.Cases.{Refused}
 use Rattle.walk.specs.declared.record.Record.{Record}
 use Rattle.walk.specs.Limits.{LEVELS}
 use Rattle.table.specs.Limits.{outside}

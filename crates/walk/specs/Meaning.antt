@@ -4,7 +4,7 @@
 -- E is not; or on the path a stride is 0 or exceeds the bits left, a row read is at or past E, or a block after the k-th
 -- is called for. (Root stride 0 with E = 0 is the empty trie.)"
 use Rattle.std.specs.Prelude.{ℕ, zero, suc, ◌-◌, ◌^◌, ◌≤◌, ◌<◌, ◌≡◌, Bool, true, false, List, [], ◌∷◌, length}
-use Rattle.walk.specs.declared.walk.Answer.{Answer}
+use Rattle.walk.specs.Cases.{Answer}
 use Rattle.walk.specs.declared.record.Record.{Record}
 use Rattle.walk.specs.Limits.{LEVELS, Outside, Within}
 use Rattle.walk.specs.Refusals.{RefuseBy, NoMore}

@@ -12,10 +12,10 @@ pub fn is_beyond(address: u32, width: u32) -> bool
     if WIDTH < width {
         return false;
     }
-    1u64 << width <= address as u64
+    1u64 << width <= u64::from(address)
 }
 
-// The s bits of the address that stand above its lowest `rest` bits.
+// The s bits of the address that stand above its lowest `rest` bits. (Casts: no `From` makes a usize of a u32.)
 pub(crate) fn cut(address: u32, rest: u32, s: u32) -> usize
     requires { (rest ≤ WIDTH) × (s ≤ WIDTH) }
     ensures { result ≡ address / 2 ^ rest % 2 ^ s }

@@ -6,10 +6,12 @@ mod address;
 mod limits;
 mod numbers;
 mod record;
+mod rows;
 mod walk;
 
 pub use address::is_beyond;
 pub use limits::LEVELS;
-pub use numbers::{AnswerNumbers, hop_numbers, refusal_numbers};
+pub use numbers::{AnswerNumbers, Found, LookupRefusal};
 pub use record::Record;
-pub use walk::{Answer, answer_of, lookup, lookup_numbers};
+pub use rows::{Rows, RowsMut};
+pub use walk::{Answer, find, lookup};

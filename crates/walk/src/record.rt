@@ -2,7 +2,7 @@
 // floor, and the strides (unused places 0; a variable build fills only the first, the root's).
 use crate::limits::LEVELS;
 
-#[derive(Clone, Copy)]
+#[derive(Clone, Copy, Debug, Default, PartialEq, Eq)]
 #[repr(C)]
 pub struct Record {
     pub width: u32,

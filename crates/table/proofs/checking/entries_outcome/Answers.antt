@@ -1,23 +1,16 @@
 use mathlib.Core.Path.{sym, ◌∙◌}
-use native.Mathlib.Nat.{sub-zero}
-use native.Mathlib.Omega.{arith}
+use Rattle.table.proofs.Refusals.{handed_on}
 use Rattle.table.proofs.Table.{each_end, each_refused, each_next}
 use Rattle.table.proofs.checking.entries_outcome.Goals as goal
 
-pub loop-i-init : goal.loop-i-init
-loop-i-init c = (omega arith, rw sub-zero)
-
-pub returns-in-Refused : goal.returns-in-Refused
-returns-in-Refused c =
-    sym (c.loop-i.invariant.1
-    ∙ each_refused _ _ c.loop-i.i _ c.loop-i-test.true (sym c.entry_outcome-r.ensures ∙ c.in-Refused.is))
+pub returns-in_err-entry_outcome : goal.returns-in_err-entry_outcome
+returns-in_err-entry_outcome c =
+    handed_on _ c.from_residual.ensures.1
+    ∙ sym (c.loop-i.invariant ∙ each_refused _ _ c.loop-i.i _ c.loop-i-test.true (sym c.entry_outcome.ensures ∙ c.in_err-entry_outcome.was))
 
 pub loop-i-preserved : goal.loop-i-preserved
-loop-i-preserved c = (
-  omega arith,
-  c.loop-i.invariant.1
-      ∙ each_next _ _ c.loop-i.i _ c.loop-i-test.true (sym c.entry_outcome-r.ensures ∙ c.in_default.is),
-)
+loop-i-preserved c =
+    c.loop-i.invariant ∙ each_next _ _ c.loop-i.i _ c.loop-i-test.true (sym c.entry_outcome.ensures ∙ c.in_ok-entry_outcome.was)
 
 pub returns : goal.returns
-returns c = sym (c.loop-i.invariant.1 ∙ each_end _ _ c.loop-i.i _ c.loop-i-test.false)
+returns c = sym (c.loop-i.invariant ∙ each_end _ _ c.loop-i.i _ c.loop-i-test.false)
