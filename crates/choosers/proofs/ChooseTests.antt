@@ -1,4 +1,4 @@
--- The tests 1 to 6 of a chooser: what each return of `choose_outcome` says of them, and what is known where all of them pass.
+-- The tests 1 to 6 of a chooser: what each return of `tested` says of them, and what is known where all of them pass.
 use mathlib.Core.Path.{◌≡◌, ap, sym, ◌∙◌}
 use mathlib.Core.Bool.{true, false}
 use mathlib.Core.List.{List, [], ◌∷◌, ◌++◌}
@@ -7,12 +7,13 @@ use native.Mathlib.Nat.{le_refl}
 use native.Mathlib.Omega.{arith}
 use lib.ListN.{length}
 use borrow.Author.Tests.{lt-ltb, le-ltb, ltb-false}
+use Rattle.std.specs.Prelude.{Ok, Err}
 use Rattle.table.specs.Entry.{hop_refused}
 use Rattle.table.specs.Limits.{outside}
-use Rattle.table.specs.Refusals.{outcome, Numbered, and_then}
+use Rattle.table.specs.declared.refusal.Refusal.{Refusal}
+use Rattle.table.specs.declared.refusal.Refusal.TheVariants.{Width, Levels, Scratch}
+use Rattle.table.specs.Refusals.{Outcome, outcome, Numbered, and_then}
 use Rattle.table.specs.Table.{at, width_test, list_tests, table_tests, check_of, Table, Linked}
-use Rattle.table.specs.declared.entry.Outcome.{Outcome}
-use Rattle.table.specs.declared.entry.Outcome.TheVariants.{Accepted, Refused}
 use Rattle.table.proofs.Refusals.{outcome_fails, outcome_passes, outcome_append, accepted_passes, accepted_parts}
 use Rattle.table.proofs.Table.{width_is, accepted_table, accepted_linked, entries_rise}
 use Rattle.table.proofs.Numbered.{numbered_append, numbered_lists}
@@ -20,7 +21,7 @@ use Rattle.strides.specs.Trie.{size}
 use Rattle.strides.specs.Insertion.{node_count}
 use Rattle.strides.proofs.Counting.{node_count_lem}
 use Rattle.walk.specs.Limits.{WIDTH, LEVELS, Within}
-use Rattle.choosers.specs.Scratch.{ROW, MARKS}
+use Rattle.choosers.specs.Scratch.{ROW}
 use Rattle.layout.specs.Marks.{entry_marks}
 use Rattle.layout.specs.Laid.{table_trie}
 use Rattle.choosers.specs.Making.{Prefixes}
@@ -44,12 +45,12 @@ unfolding outside
 within_levels k most e = width_is most k e
 
 module _ (W k links : ℕ) (vs ls hs : List ℕ) (words : ℕ) where
-  pub tests_width : outside W WIDTH ≡ true → outcome (choose_tests W k links vs ls hs words) ≡ Refused 1 0
+  pub tests_width : outside W WIDTH ≡ true → outcome (choose_tests W k links vs ls hs words) ≡ Err Width
   unfolding choose_tests outside
   tests_width e = outcome_fails (width_test W) (levels_test k ∷ (list_tests (hop_refused links) W vs ls hs ++ (scratch_test W vs ls hs words ∷ []))) e
 
   module _ (w : outside W WIDTH ≡ false) where
-    pub tests_levels : outside k LEVELS ≡ true → outcome (choose_tests W k links vs ls hs words) ≡ Refused 2 0
+    pub tests_levels : outside k LEVELS ≡ true → outcome (choose_tests W k links vs ls hs words) ≡ Err Levels
     unfolding choose_tests outside
     tests_levels e =
         outcome_passes (width_test W) (levels_test k ∷ (list_tests (hop_refused links) W vs ls hs ++ (scratch_test W vs ls hs words ∷ []))) w
@@ -65,7 +66,7 @@ module _ (W k links : ℕ) (vs ls hs : List ℕ) (words : ℕ) where
           ∙ outcome_append (list_tests (hop_refused links) W vs ls hs) (scratch_test W vs ls hs words ∷ [])
           ∙ ap (λ (o : Outcome). and_then o (outcome (scratch_test W vs ls hs words ∷ []))) (sym (outcome_passes (width_test W) (list_tests (hop_refused links) W vs ls hs) w))
 
-      pub tests_table : {n d : ℕ} → check_of W links vs ls hs ≡ Refused n d → outcome (choose_tests W k links vs ls hs words) ≡ Refused n d
+      pub tests_table : {r : Refusal} → check_of W links vs ls hs ≡ Err r → outcome (choose_tests W k links vs ls hs words) ≡ Err r
       unfolding and_then
       tests_table e = tests_rest ∙ rw e
 
@@ -75,13 +76,13 @@ module _ (W k links : ℕ) (vs ls hs : List ℕ) (words : ℕ) where
           let p = table_prefixes W vs ls hs t in
           e ∙ node_count_lem W (at vs) (at ls) (length vs) p.prefix p.rises (entry_marks ls hs) (length vs) (le_refl (length vs))
 
-      pub tests_scratch : check_of W links vs ls hs ≡ Accepted → (c : ℕ) → c ≡ node_count W (at vs) (at ls) (length vs) → words / ROW < c
-          → outcome (choose_tests W k links vs ls hs words) ≡ Refused 6 c
+      pub tests_scratch : check_of W links vs ls hs ≡ Ok tt → (c : ℕ) → c ≡ node_count W (at vs) (at ls) (length vs) → words / ROW < c
+          → outcome (choose_tests W k links vs ls hs words) ≡ Err (Scratch c)
       unfolding and_then outcome
       tests_scratch e c q h = tests_rest ∙ rw (e, ← count_size (accepted_table W links vs ls hs e) c q, lt-ltb (words / ROW) c h)
 
-      pub tests_pass : check_of W links vs ls hs ≡ Accepted → (c : ℕ) → c ≡ node_count W (at vs) (at ls) (length vs) → c ≤ words / ROW
-          → outcome (choose_tests W k links vs ls hs words) ≡ Accepted
+      pub tests_pass : check_of W links vs ls hs ≡ Ok tt → (c : ℕ) → c ≡ node_count W (at vs) (at ls) (length vs) → c ≤ words / ROW
+          → outcome (choose_tests W k links vs ls hs words) ≡ Ok tt
       unfolding and_then outcome
       tests_pass e c q h = tests_rest ∙ rw (e, ← count_size (accepted_table W links vs ls hs e) c q, le-ltb (words / ROW) c h)
 
@@ -93,14 +94,14 @@ numbered_choose most h W k links vs ls hs words =
     ((omega arith, omega arith), ((omega arith, omega arith), lists))
 
 -- what acceptance says
-pub accepted_levels : (W k links : ℕ) (vs ls hs : List ℕ) (words : ℕ) → outcome (choose_tests W k links vs ls hs words) ≡ Accepted → Within k LEVELS
+pub accepted_levels : (W k links : ℕ) (vs ls hs : List ℕ) (words : ℕ) → outcome (choose_tests W k links vs ls hs words) ≡ Ok tt → Within k LEVELS
 unfolding choose_tests
 accepted_levels W k links vs ls hs words e =
     let p = accepted_passes (width_test W) (levels_test k ∷ (list_tests (hop_refused links) W vs ls hs ++ (scratch_test W vs ls hs words ∷ []))) e in
     within_levels k LEVELS (accepted_passes (levels_test k) (list_tests (hop_refused links) W vs ls hs ++ (scratch_test W vs ls hs words ∷ [])) p.1).0
 
-module _ (W k links : ℕ) (vs ls hs : List ℕ) (words : ℕ) (e : outcome (choose_tests W k links vs ls hs words) ≡ Accepted) where
-  accepted_check : check_of W links vs ls hs ≡ Accepted
+module _ (W k links : ℕ) (vs ls hs : List ℕ) (words : ℕ) (e : outcome (choose_tests W k links vs ls hs words) ≡ Ok tt) where
+  accepted_check : check_of W links vs ls hs ≡ Ok tt
   unfolding choose_tests check_of table_tests
   accepted_check =
       let p = accepted_passes (width_test W) (levels_test k ∷ (list_tests (hop_refused links) W vs ls hs ++ (scratch_test W vs ls hs words ∷ []))) e in
@@ -114,10 +115,10 @@ module _ (W k links : ℕ) (vs ls hs : List ℕ) (words : ℕ) (e : outcome (cho
   pub accepted_tests_linked : Linked links hs
   accepted_tests_linked = accepted_linked W links vs ls hs accepted_check
 
-pub accepted_plan : (W k links : ℕ) (vs ls hs scratch : List ℕ) → ((i : ℕ) → entry_marks ls hs i < MARKS) → outcome (choose_tests W k links vs ls hs (length scratch)) ≡ Accepted
+pub accepted_plan : (W k links : ℕ) (vs ls hs scratch : List ℕ) → outcome (choose_tests W k links vs ls hs (length scratch)) ≡ Ok tt
     → PlanIn W k vs ls hs scratch
 unfolding choose_tests check_of table_tests
-accepted_plan W k links vs ls hs scratch small e =
+accepted_plan W k links vs ls hs scratch e =
     let p = accepted_passes (width_test W) (levels_test k ∷ (list_tests (hop_refused links) W vs ls hs ++ (scratch_test W vs ls hs (length scratch) ∷ []))) e in
     let q = accepted_passes (levels_test k) (list_tests (hop_refused links) W vs ls hs ++ (scratch_test W vs ls hs (length scratch) ∷ [])) p.1 in
     let r = accepted_parts (list_tests (hop_refused links) W vs ls hs) (scratch_test W vs ls hs (length scratch) ∷ []) q.1 in
@@ -126,5 +127,4 @@ accepted_plan W k links vs ls hs scratch small e =
       table = accepted_tests_table W k links vs ls hs (length scratch) e;
       levels = within_levels k LEVELS q.0;
       room = omega (arith, ltb-false (length scratch / ROW) (size (table_trie W vs ls hs)) s.0);
-      small = small;
     }

@@ -4,9 +4,9 @@ use mathlib.Core.List.{List, []}
 use mathlib.Core.Logic.{⊎_elim}
 use Prim.Native.Nat.{ℕ, ◌≤◌}
 use lib.ListN.{length, replicate}
-use Rattle.table.specs.Refusals.{outcome, Gives}
-use Rattle.table.specs.declared.entry.Outcome.{Outcome}
-use Rattle.table.specs.declared.entry.Outcome.TheVariants.{Accepted, Refused}
+use Rattle.std.specs.Prelude.{Ok, Err}
+use Rattle.table.specs.declared.refusal.Refusal.{Refusal}
+use Rattle.table.specs.Refusals.{Outcome, outcome, Gives}
 use Rattle.table.proofs.Refusals.{outcome_gives, gives_unique, refused_not_accepted, accepted_or}
 use Rattle.table.specs.Lists.{padded}
 use Rattle.strides.specs.Trie.{Trie}
@@ -19,32 +19,32 @@ use Rattle.strides.proofs.Cheapest.{least_cheapest, strides_named, cheapest_uniq
 use Rattle.walk.specs.Limits.{LEVELS}
 use Rattle.layout.specs.Laid.{table_trie}
 use Rattle.choosers.specs.Chooser.{choose_tests, if_accepted, ChosenIs, Chooses}
-use Rattle.choosers.specs.Plans.{Planned, PlanMade, PlanIs, Plans}
+use Rattle.choosers.specs.Plans.{Planned, PlanIs, Plans}
 use Rattle.choosers.proofs.ChooseTests.{accepted_levels}
 
 -- ---- where an outcome accepts, and where it does not
 
-accepted_value : {A : Type 0} {o : Outcome} → o ≡ Accepted → (x y : A) → if_accepted o x y ≡ x
+accepted_value : {A : Type 0} {o : Outcome} → o ≡ Ok tt → (x y : A) → if_accepted o x y ≡ x
 unfolding if_accepted
-accepted_value {o = Accepted} e x y = refl
-accepted_value {o = Refused n d} e x y = absurd (refused_not_accepted e)
+accepted_value {o = (Ok tt)} e x y = refl
+accepted_value {o = Err r} e x y = absurd (refused_not_accepted e)
 
-refused_value : {A : Type 0} {o : Outcome} → (o ≡ Accepted → ⊥) → (x y : A) → if_accepted o x y ≡ y
+refused_value : {A : Type 0} {o : Outcome} → (o ≡ Ok tt → ⊥) → (x y : A) → if_accepted o x y ≡ y
 unfolding if_accepted
-refused_value {o = Accepted} ne x y = absurd (ne refl)
-refused_value {o = Refused n d} ne x y = refl
+refused_value {o = (Ok tt)} ne x y = absurd (ne refl)
+refused_value {o = Err r} ne x y = refl
 
-levels_some : (W k links : ℕ) (vs ls hs scratch : List ℕ) {out : Outcome} → out ≡ outcome (choose_tests W k links vs ls hs (length scratch)) → out ≡ Accepted → 1 ≤ k
+levels_some : (W k links : ℕ) (vs ls hs scratch : List ℕ) {out : Outcome} → out ≡ outcome (choose_tests W k links vs ls hs (length scratch)) → out ≡ Ok tt → 1 ≤ k
 levels_some W k links vs ls hs scratch t e = (accepted_levels W k links vs ls hs (length scratch) (sym t ∙ e)).0
 
 -- ---- a plan: the exact answer
 
-pub plan_refused : (kind : Kind) (W k links : ℕ) (vs ls hs scratch : List ℕ) {out tested : Outcome} {n d cost root : ℕ} {strides plan : List ℕ}
-    → tested ≡ outcome (choose_tests W k links vs ls hs (length scratch)) → tested ≡ Refused n d → out ≡ Refused n d
+pub plan_refused : (kind : Kind) (W k links : ℕ) (vs ls hs scratch : List ℕ) {out tested : Outcome} {r : Refusal} {cost root : ℕ} {strides plan : List ℕ}
+    → tested ≡ outcome (choose_tests W k links vs ls hs (length scratch)) → tested ≡ Err r → out ≡ Err r
     → (cost ≡ 0) × (strides ≡ padded LEVELS []) → (plan ≡ padded LEVELS []) × (root ≡ 0)
     → PlanIs kind W k links vs ls hs scratch out cost strides plan root scratch
 plan_refused kind W k links vs ls hs scratch {out} e f o z r =
-    let ne : out ≡ Accepted → ⊥ = λ a. refused_not_accepted (sym o ∙ a) in
+    let ne : out ≡ Ok tt → ⊥ = λ a. refused_not_accepted (sym o ∙ a) in
     record {
       chosen = record {
         tests = o ∙ sym f ∙ e;
@@ -56,25 +56,24 @@ plan_refused kind W k links vs ls hs scratch {out} e f o z r =
       refused = λ _. record { no_plan = r.0; no_root = r.1; kept = refl };
     }
 
-pub plan_accepted : (kind : Kind) (W k links : ℕ) (vs ls hs scratch : List ℕ) {out : Outcome} {cost root : ℕ} {strides plan scratch' : List ℕ}
-    → outcome (choose_tests W k links vs ls hs (length scratch)) ≡ Accepted → PlanMade kind W k vs ls hs out cost strides plan root scratch'
-    → PlanIs kind W k links vs ls hs scratch out cost strides plan root scratch'
+pub plan_accepted : (kind : Kind) (W k links : ℕ) (vs ls hs scratch : List ℕ) {cost root : ℕ} {strides plan scratch' : List ℕ}
+    → outcome (choose_tests W k links vs ls hs (length scratch)) ≡ Ok tt → Planned kind W k vs ls hs cost strides plan root scratch'
+    → PlanIs kind W k links vs ls hs scratch (Ok tt) cost strides plan root scratch'
 plan_accepted kind W k links vs ls hs scratch e p =
-    let a = p.accepted in
     record {
       chosen = record {
-        tests = a ∙ sym e;
-        costs = p.made.least ∙ sym (accepted_value a _ _);
-        named = p.made.named ∙ ap (padded LEVELS) (sym (accepted_value a _ _));
+        tests = sym e;
+        costs = p.least ∙ sym (accepted_value refl _ _);
+        named = p.named ∙ ap (padded LEVELS) (sym (accepted_value refl _ _));
         after = refl;
       };
-      holds = λ _. p.made.holds;
-      refused = λ ne. absurd (ne a);
+      holds = λ _. p.holds;
+      refused = λ ne. absurd (ne refl);
     }
 
 -- where it accepts: what the planning past the tests gave
 pub plan_made : {kind : Kind} {W k links : ℕ} {vs ls hs scratch : List ℕ} {out : Outcome} {cost root : ℕ} {strides plan scratch' : List ℕ}
-    → PlanIs kind W k links vs ls hs scratch out cost strides plan root scratch' → out ≡ Accepted → Planned kind W k vs ls hs cost strides plan root scratch'
+    → PlanIs kind W k links vs ls hs scratch out cost strides plan root scratch' → out ≡ Ok tt → Planned kind W k vs ls hs cost strides plan root scratch'
 plan_made p e = record {
   least = p.chosen.costs ∙ accepted_value e _ _;
   named = p.chosen.named ∙ ap (padded LEVELS) (accepted_value e _ _);
@@ -83,9 +82,9 @@ plan_made p e = record {
 
 -- ---- a chooser: the exact answer
 
-pub refused_is : {kind : Kind} {W k links : ℕ} {vs ls hs scratch : List ℕ} {out : Outcome} {n d cost root : ℕ} {strides plan scratch' : List ℕ}
-    → PlanIs kind W k links vs ls hs scratch out cost strides plan root scratch' → out ≡ Refused n d
-    → ChosenIs kind W k links vs ls hs scratch (Refused n d) 0 (replicate LEVELS 0) scratch'
+pub refused_is : {kind : Kind} {W k links : ℕ} {vs ls hs scratch : List ℕ} {out : Outcome} {r : Refusal} {cost root : ℕ} {strides plan scratch' : List ℕ}
+    → PlanIs kind W k links vs ls hs scratch out cost strides plan root scratch' → out ≡ Err r
+    → ChosenIs kind W k links vs ls hs scratch (Err r) 0 (padded LEVELS []) scratch'
 unfolding if_accepted padded
 refused_is p f = record {
   tests = sym f ∙ p.chosen.tests;
@@ -95,8 +94,8 @@ refused_is p f = record {
 }
 
 pub chosen_is : {kind : Kind} {W k links : ℕ} {vs ls hs scratch : List ℕ} {out : Outcome} {cost root : ℕ} {strides plan rows rows' : List ℕ}
-    → PlanIs kind W k links vs ls hs scratch out cost strides plan root rows → out ≡ Accepted → rows' ≡ replicate (length scratch) 0
-    → ChosenIs kind W k links vs ls hs scratch Accepted cost strides rows'
+    → PlanIs kind W k links vs ls hs scratch out cost strides plan root rows → out ≡ Ok tt → rows' ≡ replicate (length scratch) 0
+    → ChosenIs kind W k links vs ls hs scratch (Ok tt) cost strides rows'
 unfolding if_accepted
 chosen_is p e z =
     let m = plan_made p e in
@@ -130,19 +129,19 @@ pub chooses_unique : (kind : Kind) (W k links : ℕ) (vs ls hs scratch : List �
 chooses_unique kind W k links vs ls hs scratch {out} {out'} {cost} {cost'} {strides} {strides'} {scratch'} {scratch''} c d =
     let o : out ≡ out' = gives_unique (choose_tests W k links vs ls hs (length scratch)) out out' c.tested d.tested in
     let rest : (cost ≡ cost') × (strides ≡ strides') × (scratch' ≡ scratch'')
-    = ⊎_elim (λ (e : out ≡ Accepted). accepted e (sym o ∙ e)) (λ (ne : out ≡ Accepted → ⊥). not_accepted ne (λ (e : out' ≡ Accepted). ne (o ∙ e))) (accepted_or out) in
+    = ⊎_elim (λ (e : out ≡ Ok tt). accepted e (sym o ∙ e)) (λ (ne : out ≡ Ok tt → ⊥). not_accepted ne (λ (e : out' ≡ Ok tt). ne (o ∙ e))) (accepted_or out) in
     (o, rest.0, rest.1, rest.2)
   where
     t : Trie
     t = table_trie W vs ls hs
 
-    accepted : out ≡ Accepted → out' ≡ Accepted → (cost ≡ cost') × (strides ≡ strides') × (scratch' ≡ scratch'')
+    accepted : out ≡ Ok tt → out' ≡ Ok tt → (cost ≡ cost') × (strides ≡ strides') × (scratch' ≡ scratch'')
     accepted e e' =
         let n = c.named e in
         let n' = d.named e' in
         (cheapest_unique kind k t (c.cheapest e) (d.cheapest e'), n.2 ∙ ap (padded LEVELS) (named_unique kind k t n.0 n'.0 n.1 n'.1) ∙ sym n'.2, c.zeroed e ∙ sym (d.zeroed e'))
 
-    not_accepted : (out ≡ Accepted → ⊥) → (out' ≡ Accepted → ⊥) → (cost ≡ cost') × (strides ≡ strides') × (scratch' ≡ scratch'')
+    not_accepted : (out ≡ Ok tt → ⊥) → (out' ≡ Ok tt → ⊥) → (cost ≡ cost') × (strides ≡ strides') × (scratch' ≡ scratch'')
     not_accepted ne ne' =
         let r = c.refused ne in
         let r' = d.refused ne' in
@@ -157,14 +156,14 @@ module _ (kind : Kind) (W k links : ℕ) (vs ls hs scratch : List ℕ) {out out'
   plans_unique = let one = chooses_unique kind W k links vs ls hs scratch c.chooses d.chooses in (one.0, one.1, one.2)
 
   -- refused: the same plan, root and scratch
-  pub no_plans_unique : (out ≡ Accepted → ⊥) → (plan ≡ plan') × (root ≡ root') × (scratch' ≡ scratch'')
+  pub no_plans_unique : (out ≡ Ok tt → ⊥) → (plan ≡ plan') × (root ≡ root') × (scratch' ≡ scratch'')
   no_plans_unique ne =
       let a = c.refused ne in
       let b = d.refused (λ e. ne (plans_unique.0 ∙ e)) in
       (a.no_plan ∙ sym b.no_plan, a.no_root ∙ sym b.no_root, a.kept ∙ sym b.kept)
 
   -- accepted: the strides that are read are the same wherever a block begins
-  pub plans_read : (e : out ≡ Accepted) (e' : out' ≡ Accepted) → let t = table_trie W vs ls hs in
+  pub plans_read : (e : out ≡ Ok tt) (e' : out' ≡ Ok tt) → let t = table_trie W vs ls hs in
       SameBlocks t 0 (choice_by (c.holds e).σ t 0 k) (choice_by (d.holds e').σ t 0 k)
   plans_read e e' =
       follows_unique kind k (table_trie W vs ls hs) (c.holds e).σ (d.holds e').σ (c.holds e).follows (d.holds e').follows

@@ -3,17 +3,14 @@ use mathlib.Core.Path.{◌≡◌, refl}
 use Prim.Native.Nat.{ℕ, zero, suc, min, ◌+◌, ◌-◌, ◌*◌, ◌≤◌, ◌<◌}
 use native.Mathlib.Numerals.{add-one}
 use native.Mathlib.Omega.{arith}
+use Rattle.std.specs.Prelude.{Result, Ok}
 use Rattle.table.specs.Shared.{shared}
-use Rattle.table.specs.declared.sharing.Shared.{Shared}
-use Rattle.table.specs.declared.sharing.Shared.TheVariants.{Length}
+use Rattle.table.specs.declared.refusal.Refusal.{Refusal}
 use Rattle.strides.specs.Insertion.{new_after, new_nodes, node_count}
 use Rattle.walk.specs.Limits.{WIDTH}
 
-pub same_length : {s r : ℕ} → Length s ≡ Length r → s ≡ r
-same_length e = cc
-
-pub not_refused : {s n d : ℕ} → Shared.Refused n d ≡ Length s → ⊥
-not_refused e = let z : ◌≡◌ {A = ℕ} 0 1 = cc in omega arith
+pub same_shared : {s r : ℕ} → ◌≡◌ {A = Result ℕ Refusal} (Ok s) (Ok r) → s ≡ r
+same_shared e = cc
 
 pub new_after_lem : (W a k b l : ℕ) {s m r : ℕ} → s ≡ shared W a b (min k l) → m ≡ min k l → r ≡ min (s + 1) m → l - r ≡ new_after W a k b l
 unfolding new_after

@@ -37,16 +37,6 @@ module _ (n d i : ℕ) (costs strides : List ℕ) where
   abbrev lower : List ℕ → ℕ → ℕ → ℕ
   lower table r = column ((i + 1) * LEVELS + r - 1) LEVELS table
 
-  pub fill_start : RowFilled 0 n d i costs strides costs strides
-  fill_start = record {
-    long_costs = refl;
-    long_strides = refl;
-    cost = λ r h. absurd (omega arith);
-    stride = λ r h. absurd (omega arith);
-    costs_below = λ x h. refl;
-    strides_below = λ x h. refl;
-  }
-
   pub fill_next : (costs1 strides1 : List ℕ) (m c s : ℕ) → m < LEVELS → (i + 1) * LEVELS ≤ length costs → (i + 1) * LEVELS ≤ length strides → RowFilled m n d i costs strides costs1 strides1
       → c ≡ best_cost (lower costs1 m) n d m → s ≡ best_stride (lower costs1 m) n d m
       → RowFilled (m + 1) n d i costs strides (set costs1 (i * LEVELS + m) c) (set strides1 (i * LEVELS + m) s)

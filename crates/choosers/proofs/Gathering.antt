@@ -4,7 +4,6 @@ use mathlib.Core.Path.{◌≡◌, refl, ap, sym, subst, ◌∙◌}
 use mathlib.Core.List.{List}
 use mathlib.Core.Logic.{◌⊎◌, inl, inr, ⊎_elim}
 use Prim.Native.Nat.{ℕ, zero, suc, max, ◌+◌, ◌-◌, ◌*◌, ◌≤◌, ◌<◌}
-use native.Mathlib.Nat.{le_refl}
 use native.Mathlib.Decide.{dec_le}
 use native.Mathlib.Omega.{arith}
 use lib.ListN.{length, get_or, set, replicate, length-set, length-replicate}
@@ -21,43 +20,9 @@ use Rattle.choosers.specs.Costs.{held, COLUMNS, Pass, sum_cells, slot, SmallSums
 pub same? : (a b : ℕ) → (a ≡ b) ⊎ (a ≡ b → ⊥)
 same? a b = elim (dec_le a b) [ yes p ↦ elim (dec_le b a) [ yes q ↦ inl (omega arith) | no q ↦ inr (λ e. omega arith) ] | no p ↦ inr (λ e. omega arith) ]
 
--- ---- one row
-
-module _ (from : ℕ) (rows : List ℕ) (k j : ℕ) (sums : List ℕ) where
-  pub add_start : RowAdded from (max from 1) rows k j sums sums
-  add_start = record { here = λ r some lo hi. absurd (omega arith); before = λ i h. refl; after = λ i h. refl; small = λ s. s }
-
-  pub add_next : (sums1 sums2 : List ℕ) (m v : ℕ) → from ≤ m → m < from + COLUMNS → (j + 1) * COLUMNS ≤ length sums1 → RowAdded from m rows k j sums sums1
-      → v ≡ ask rows k (before_costs + m) → sums2 ≡ set sums1 (j * COLUMNS + (m - from)) (held (get_or sums1 (j * COLUMNS + (m - from)) 0 + v))
-      → RowAdded from (m + 1) rows k j sums sums2
-  add_next sums1 sums2 m v lo hi fit a e f =
-      let place = j * COLUMNS + (m - from) in
-      let new : slot sums2 j (m - from) ≡ held (slot sums1 j (m - from) + v) = ap (λ (l : List ℕ). get_or l place 0) f ∙ get_or-set_same sums1 place _ 0 (omega arith) in
-      let far : (i : ℕ) → (i ≡ place → ⊥) → get_or sums2 i 0 ≡ get_or sums1 i 0 = λ i ne. ap (λ (l : List ℕ). get_or l i 0) f ∙ get_or-set_other sums1 place i _ 0 ne in
-      record {
-        here = λ r some g h. ⊎_elim
-            (λ (z : r ≡ m). subst (λ (x : ℕ). slot sums2 j (x - from) ≡ held (slot sums j (x - from) + ask rows k (before_costs + x))) (sym z)
-            (new ∙ omega (arith, a.after place (le_refl place))))
-            (λ (z : r ≡ m → ⊥). far (j * COLUMNS + (r - from)) (λ q. omega arith) ∙ a.here r some g (omega arith)) (same? r m);
-        before = λ i h. far i (λ q. omega arith) ∙ a.before i h;
-        after = λ i h. far i (λ q. omega arith) ∙ a.after i (omega arith);
-        small = λ s i. ⊎_elim (λ (z : i ≡ place). subst (λ (x : ℕ). get_or sums2 x 0 ≤ cost_cap) (sym z) (omega (arith, new)))
-            (λ (z : i ≡ place → ⊥). omega (arith, far i z, a.small s i)) (same? i place);
-      }
-
 -- ---- lines handed up
 
 module _ (sums : List ℕ) (up down : ℕ) where
-  pub lift_start : Lifted sums up down 0 sums
-  lift_start = record {
-    lifted = λ i h. absurd (omega arith);
-    gone = λ i h. absurd (omega arith);
-    before = λ i h. refl;
-    between = λ i h g. refl;
-    after = λ i h. refl;
-    small = λ s. s;
-  }
-
   pub lift_next : (sums1 : List ℕ) (n m v : ℕ) → up + n ≤ down → down + n ≤ length sums1 → m < n → Lifted sums up down m sums1
       → v ≡ held (get_or sums1 (up + m) 0 + get_or sums1 (down + m) 0) → Lifted sums up down (m + 1) (set (set sums1 (up + m) v) (down + m) 0)
   lift_next sums1 n m v h fit hm a e =

@@ -7,6 +7,7 @@ use native.Mathlib.Nat.{le_refl, add-zero, add-suc}
 use native.Mathlib.Omega.{arith}
 use native.Mathlib.Numerals.{sub-one, add-one}
 use lib.ListN.{length, get_or}
+use borrow.Author.Count.{below_more}
 use Rattle.table.specs.Prefix.{start, IsPrefix}
 use Rattle.table.specs.Table.{at}
 use Rattle.strides.specs.Trie.{bit, depth, size, sum_by, nodes_at}
@@ -17,7 +18,7 @@ use Rattle.strides.proofs.Insertion.{trie_insert, trie_empty, insert_size, met_w
 use Rattle.strides.proofs.Counting.{node_count_lem}
 use Rattle.walk.specs.Limits.{WIDTH}
 use Rattle.choosers.specs.Limits.{WORD}
-use Rattle.choosers.specs.Scratch.{ROW, DEPTH}
+use Rattle.choosers.specs.Scratch.{ROW, DEPTH, MARKS}
 use Rattle.choosers.specs.Trees.{Tree, nil, fork, shape, link_of, row_for, next, side, set_side, set_mark, lt, rt, lmark, rmark, Stand, Deepens}
 use Rattle.choosers.specs.Trees.{insert_r, count_r, add_entry, tree_of}
 use Rattle.choosers.specs.Inserting.{InsertIn, Inserted}
@@ -197,6 +198,7 @@ module _ (W : ℕ) (vs ls hs : List ℕ) where
 
   -- after the first i entries
   pub record Made (i used : ℕ) (rows counts : List ℕ) : Type 0 where
+    pub small : (j : ℕ) → j < i → entry_marks ls hs j < MARKS
     pub laid : InRows rows (tree i)
     pub count : used ≡ size (shape (tree i))
     pub counted : CountsOf counts (shape (tree i))
@@ -204,6 +206,7 @@ module _ (W : ℕ) (vs ls hs : List ℕ) where
   pub make_start : (rows counts : List ℕ) → ((i : ℕ) → get_or rows i 0 ≡ 0) → length counts ≡ WIDTH → ((j : ℕ) → at counts j ≡ 0) → Made 0 0 rows counts
   unfolding tree_of shape size nodes_at sum_by
   make_start rows counts z long clear = record {
+    small = λ j h. absurd (omega arith);
     laid = record { stand = tt; deep = tt; apart = tt; under = λ y h. absurd h; rooted = refl; bare = λ y c lo hi. z (y * ROW + c); blank = λ i h. z i };
     count = refl;
     counted = record { long = long; nodes = λ j h. clear j };
@@ -235,14 +238,15 @@ module _ (W : ℕ) (vs ls hs : List ℕ) where
       can = counts_can counts (shape (tree i)) m.counted;
     }
 
-    pub make_next : (rows rows' counts counts' : List ℕ) (i used used' : ℕ) → Made i used rows counts
+    pub make_next : (rows rows' counts counts' : List ℕ) (i used used' : ℕ) → Made i used rows counts → entry_marks ls hs i < MARKS
         → AddCounted rows counts used W (at vs i) (at ls i) (entry_marks ls hs i) used' rows' counts' → Made (i + 1) used' rows' counts'
     unfolding tree_of
-    make_next rows rows' counts counts' i used used' m d =
+    make_next rows rows' counts counts' i used used' m here d =
         let o = d.added (tree i) m.laid m.count in
         let c = counts_next counts counts' (shape (tree i)) (at ls i) (start W (at ls i) (at vs i)) (entry_marks ls hs i) m.counted (d.levels (tree i) m.laid m.count) in
         let e : add_entry (at ls i) used (tree i) (start W (at ls i) (at vs i)) (entry_marks ls hs i) ≡ tree (i + 1) = tree_next i used m.count in
         record {
+          small = below_more (λ (j : ℕ). entry_marks ls hs j < MARKS) i m.small here;
           laid = rw e at o.laid;
           count = rw e at o.count;
           counted = subst (CountsOf counts') (sym (add_shape (at ls i) used (tree i) (start W (at ls i) (at vs i)) (entry_marks ls hs i)) ∙ ap shape e) c;
@@ -258,7 +262,7 @@ module _ (W : ℕ) (vs ls hs : List ℕ) where
         let e = m.count in
         let l = link_one t m.laid.rooted in
         let k : root ≡ link_of t = ⊎_elim (λ z. nil' z ∙ sym (l.1 (sym e ∙ z))) (λ q. one q ∙ sym (l.0 (rw e at q))) (zero_or used) in
-        record { counted = rw (← h) m.counted; laid = rw (← h) m.laid; link = rw (← h) k }
+        record { small = rw (← h) m.small; counted = rw (← h) m.counted; laid = rw (← h) m.laid; link = rw (← h) k }
       where
         zero_or : (u : ℕ) → (u ≡ 0) ⊎ (0 < u)
         zero_or zero = inl refl

@@ -50,9 +50,6 @@ module _ (W k : ℕ) (vs ls hs scratch : List ℕ) (g : PlanIn W k vs ls hs scra
   tree_trie : shape tree ≡ trie
   tree_trie = tree_shape W (at vs) (at ls) (entry_marks ls hs) (length vs) plan_prefixes.prefix
 
-  small_marks : AllMarks Small (shape tree)
-  small_marks = rw tree_trie (trie_marks Small (omega arith) W (at vs) (at ls) (entry_marks ls hs) (length vs) (λ i h. g.small i))
-
   plan_depth_width : depth trie ≤ W
   plan_depth_width = trie_depth_width W (at vs) (at ls) (entry_marks ls hs) (length vs) plan_prefixes.prefix
 
@@ -76,6 +73,9 @@ module _ (W k : ℕ) (vs ls hs scratch : List ℕ) (g : PlanIn W k vs ls hs scra
   }
 
   module _ (root : ℕ) (rows counts : List ℕ) (m : MakeOut W vs ls hs root rows counts) (len : length rows ≡ length scratch) where
+    small_marks : AllMarks Small (shape tree)
+    small_marks = rw tree_trie (trie_marks Small (omega arith) W (at vs) (at ls) (entry_marks ls hs) (length vs) m.small)
+
     rows_fit : (y : ℕ) → HasRow y tree → (y + 1) * ROW ≤ length rows
     rows_fit y h = omega (arith, m.laid.under y h, ap size tree_trie, g.room)
 

@@ -1,25 +1,17 @@
 -- The cheapest stride: a scan over the strides turn by turn, and that a row's choices are the recurrence's.
-use mathlib.Core.Path.{◌≡◌, refl, ap, ap₂, sym, subst, ◌∙◌}
+use mathlib.Core.Path.{◌≡◌, refl, ap, ap₂, sym, ◌∙◌}
 use mathlib.Core.Bool.{Bool, true, false, cond}
-use mathlib.Core.List.{List}
-use mathlib.Core.Logic.{⊎_elim}
-use Prim.Native.Nat.{ℕ, zero, suc, pred, max, ◌+◌, ◌-◌, ◌*◌, ◌^◌, ◌≤◌, ◌<◌}
-use native.Mathlib.Nat.{le_refl, one-mul, mul-le-mul}
+use Prim.Native.Nat.{ℕ, zero, suc, pred, max, ◌+◌, ◌-◌, ◌^◌, ◌≤◌, ◌<◌}
+use native.Mathlib.Nat.{le_refl, one-mul}
 use native.Mathlib.Numerals.{add-one}
 use native.Mathlib.Omega.{arith}
 use lib.Dec.{leb}
-use lib.ListN.{length, get_or, set}
-use lib.Seq.{get_or-set_same, get_or-set_other}
 use borrow.Author.Tests.{leb-true, leb-false}
 use Rattle.strides.specs.Trie.{Trie, node, depth, sum_below}
 use Rattle.strides.specs.Recurrence.{keeps, scan, with_first, opt_by, pick_by}
 use Rattle.strides.proofs.Capped.{sum_capped, opt_capped}
-use Rattle.walk.specs.Limits.{LEVELS}
-use Rattle.choosers.specs.Limits.{ENTRIES, cost_cap}
-use Rattle.choosers.specs.Scratch.{ROW, COST, STRIDE}
-use Rattle.choosers.specs.Trees.{col}
-use Rattle.choosers.specs.Costs.{held, price, best_cost, best_stride, column, COLUMNS, Stored}
-use Rattle.choosers.proofs.Gathering.{same?}
+use Rattle.choosers.specs.Limits.{cost_cap}
+use Rattle.choosers.specs.Costs.{held, price, best_cost, best_stride}
 
 -- ---- the scan
 
@@ -41,10 +33,6 @@ scan_same g h zero e = ap (λ (x : ℕ). (0, x)) (e 0 (le_refl 0))
 scan_same g h (suc n) e = rw (scan_same g h n (λ j l. e j (omega arith)), e (suc n) (le_refl (suc n)))
 
 -- ---- the choices are the recurrence's
-
--- a machine word holds what the blocks of a level cost together
-pub blocks_fit : (n p x : ℕ) → n ≤ ENTRIES → p ≡ held x → n * p ≤ ENTRIES * cost_cap
-blocks_fit n p x h e = let le : p ≤ cost_cap = omega arith in omega (arith, mul-le-mul h le)
 
 held_sum : (x y : ℕ) → held (x + y) ≡ held (held x + held y)
 held_sum x y = omega arith
@@ -79,42 +67,3 @@ pub choice_more : (below : ℕ → ℕ) (n d r : ℕ) → (r ≡ 0 → ⊥)
 unfolding best_cost best_stride
 choice_more below n d zero ne = absurd (ne refl)
 choice_more below n d (suc q) ne = let f : d - 1 ≡ pred d = omega arith in rw f (refl, add-one (scan (price below n) (pred d)).0)
-
--- ---- storing them, number by number
-
-module _ (from : ℕ) (rows : List ℕ) (x d first : ℕ) (sums : List ℕ) where
-  pub store_start : Stored from from rows x d first sums rows
-  store_start = record {
-    cost = λ r h g. absurd (omega arith);
-    stride = λ r h g. absurd (omega arith);
-    before = λ i h. refl;
-    between = λ i h g. refl;
-    after = λ i h. refl;
-  }
-
-  abbrev below : ℕ → ℕ → ℕ
-  below r = column (first + (r - from)) COLUMNS sums
-
-  pub store_next : (rows1 rows2 rows3 : List ℕ) (m c s : ℕ) → from ≤ m → m < LEVELS → (x + 1) * ROW ≤ length rows1 → (x + 1) * ROW ≤ length rows2
-      → Stored from m rows x d first sums rows1 → c ≡ best_cost (below m) 1 d m → s ≡ best_stride (below m) 1 d m
-      → rows2 ≡ set rows1 (x * ROW + (COST + m)) c → rows3 ≡ set rows2 (x * ROW + (STRIDE + m)) s → Stored from (m + 1) rows x d first sums rows3
-  store_next rows1 rows2 rows3 m c s lo hm f1 f2 st ec es e2 e3 =
-      let one : (i : ℕ) → (i ≡ x * ROW + (COST + m) → ⊥) → get_or rows2 i 0 ≡ get_or rows1 i 0
-      = λ i ne. ap (λ (l : List ℕ). get_or l i 0) e2 ∙ get_or-set_other rows1 (x * ROW + (COST + m)) i c 0 ne in
-      let two : (i : ℕ) → (i ≡ x * ROW + (STRIDE + m) → ⊥) → get_or rows3 i 0 ≡ get_or rows2 i 0
-      = λ i ne. ap (λ (l : List ℕ). get_or l i 0) e3 ∙ get_or-set_other rows2 (x * ROW + (STRIDE + m)) i s 0 ne in
-      let far : (i : ℕ) → (i ≡ x * ROW + (COST + m) → ⊥) → (i ≡ x * ROW + (STRIDE + m) → ⊥) → get_or rows3 i 0 ≡ get_or rows1 i 0
-      = λ i n1 n2. two i n2 ∙ one i n1 in
-      let cost : col rows3 x (COST + m) ≡ best_cost (below m) 1 d m
-      = two (x * ROW + (COST + m)) (λ q. omega arith) ∙ ap (λ (l : List ℕ). get_or l (x * ROW + (COST + m)) 0) e2 ∙ get_or-set_same rows1 (x * ROW + (COST + m)) c 0 (omega arith) ∙ ec in
-      let stride : col rows3 x (STRIDE + m) ≡ best_stride (below m) 1 d m
-      = ap (λ (l : List ℕ). get_or l (x * ROW + (STRIDE + m)) 0) e3 ∙ get_or-set_same rows2 (x * ROW + (STRIDE + m)) s 0 (omega arith) ∙ es in
-      record {
-        cost = λ r g h. ⊎_elim (λ (z : r ≡ m). subst (λ (y : ℕ). col rows3 x (COST + y) ≡ best_cost (below y) 1 d y) (sym z) cost)
-            (λ (z : r ≡ m → ⊥). far (x * ROW + (COST + r)) (λ q. omega arith) (λ q. omega arith) ∙ st.cost r g (omega arith)) (same? r m);
-        stride = λ r g h. ⊎_elim (λ (z : r ≡ m). subst (λ (y : ℕ). col rows3 x (STRIDE + y) ≡ best_stride (below y) 1 d y) (sym z) stride)
-            (λ (z : r ≡ m → ⊥). far (x * ROW + (STRIDE + r)) (λ q. omega arith) (λ q. omega arith) ∙ st.stride r g (omega arith)) (same? r m);
-        before = λ i h. far i (λ q. omega arith) (λ q. omega arith) ∙ st.before i h;
-        between = λ i h g. far i (λ q. omega arith) (λ q. omega arith) ∙ st.between i (omega arith) g;
-        after = λ i h. far i (λ q. omega arith) (λ q. omega arith) ∙ st.after i (omega arith);
-      }

@@ -276,9 +276,6 @@ module _ {from to : ℕ} (pass : Pass from to) {rows : List ℕ} {k d : ℕ} whe
 -- ---- pass after pass
 
 module _ (rows : List ℕ) (k : ℕ) where
-  pub passes_start : TreeDone 0 0 rows k 0 rows
-  passes_start t g = record { stand = g.stand; depths = g.depths; priced = g.priced; above = λ y i h lo hi. (refl, refl); others = λ y h c hc. refl }
-
   module _ (from : ℕ) (rows1 : List ℕ) (len : length rows1 ≡ length rows) (done : TreeDone 0 from rows k 0 rows1) where
     then : (t : Tree) → TreeIn 0 rows k 0 t → TreeIn from rows1 k 0 t
     then t g =

@@ -1,11 +1,10 @@
 -- The stride choosers (01, "Stride choices" and "Refusals"): tests 1 to 6; accepted, the least cost and the record's strides,
 -- and all scratch zero; refused, cost 0, zero strides and nothing changed.
-use Rattle.std.specs.Prelude.{◌≡◌, List, [], ◌∷◌, ◌++◌, ℕ, ◌/◌, ltb, length, replicate}
+use Rattle.std.specs.Prelude.{◌≡◌, List, [], ◌∷◌, ◌++◌, ℕ, ◌/◌, ltb, length, replicate, Ok, Err}
 use Rattle.table.specs.Entry.{hop_refused}
-use Rattle.table.specs.Refusals.{Test, test, outcome, Gives}
+use Rattle.table.specs.Refusals.{Outcome, Test, test, outcome, Gives}
 use Rattle.table.specs.Table.{width_test, list_tests}
-use Rattle.table.specs.declared.entry.Outcome.{Outcome}
-use Rattle.table.specs.declared.entry.Outcome.TheVariants.{Accepted, Refused}
+use Rattle.table.specs.declared.refusal.Refusal.TheVariants.{Levels, Scratch}
 use Rattle.strides.specs.Trie.{size}
 use Rattle.strides.specs.Cheapest.{Kind, Cheapest, Named}
 use Rattle.strides.specs.Recurrence.{plain, least_by, strides_by}
@@ -19,11 +18,11 @@ use Rattle.layout.specs.Laid.{table_trie}
 
 -- 2: k is 0 or above the most levels
 abbrev pub levels_test : ℕ → Test
-levels_test k = test 2 0 (outside k LEVELS)
+levels_test k = test Levels (outside k LEVELS)
 
 -- 6: scratch of so many numbers has fewer whole rows than 1-bit nodes; the detail is the rows needed
 abbrev pub scratch_test : ℕ → List ℕ → List ℕ → List ℕ → ℕ → Test
-scratch_test W vs ls hs words = test 6 (size (table_trie W vs ls hs)) (ltb (words / ROW) (size (table_trie W vs ls hs)))
+scratch_test W vs ls hs words = test (Scratch (size (table_trie W vs ls hs))) (ltb (words / ROW) (size (table_trie W vs ls hs)))
 
 -- 1, 2, 3, 4, 5, 6; 4 by the number of links that the caller states (02, [7])
 unfoldable pub choose_tests : (W k links : ℕ) → List ℕ → List ℕ → List ℕ → ℕ → List Test
@@ -33,8 +32,8 @@ choose_tests W k links vs ls hs words = width_test W ∷ levels_test k ∷ (list
 
 -- x where the outcome accepts, else y
 unfoldable pub if_accepted : {A : Type 0} → Outcome → A → A → A
-if_accepted Accepted x y = x
-if_accepted (Refused n d) x y = y
+if_accepted (Ok _) x y = x
+if_accepted (Err r) x y = y
 
 -- the exact answer, and what scratch then holds
 pub record ChosenIs (kind : Kind) (W k links : ℕ) (vs ls hs scratch : List ℕ) (out : Outcome) (cost : ℕ) (strides scratch' : List ℕ) : Type 0 where
@@ -47,7 +46,7 @@ pub record ChosenIs (kind : Kind) (W k links : ℕ) (vs ls hs scratch : List ℕ
 -- that the tie rule names, and scratch all zero
 pub record Chooses (kind : Kind) (W k links : ℕ) (vs ls hs scratch : List ℕ) (out : Outcome) (cost : ℕ) (strides scratch' : List ℕ) : Type 0 where
   pub tested : Gives (choose_tests W k links vs ls hs (length scratch)) out
-  pub cheapest : out ≡ Accepted → Cheapest kind k (table_trie W vs ls hs) cost
-  pub named : out ≡ Accepted → (ss : List ℕ) × Named kind k (table_trie W vs ls hs) ss × (strides ≡ padded LEVELS ss)
-  pub zeroed : out ≡ Accepted → scratch' ≡ replicate (length scratch) 0
-  pub refused : (out ≡ Accepted → ⊥) → (cost ≡ 0) × (strides ≡ padded LEVELS []) × (scratch' ≡ scratch)
+  pub cheapest : out ≡ Ok tt → Cheapest kind k (table_trie W vs ls hs) cost
+  pub named : out ≡ Ok tt → (ss : List ℕ) × Named kind k (table_trie W vs ls hs) ss × (strides ≡ padded LEVELS ss)
+  pub zeroed : out ≡ Ok tt → scratch' ≡ replicate (length scratch) 0
+  pub refused : (out ≡ Ok tt → ⊥) → (cost ≡ 0) × (strides ≡ padded LEVELS []) × (scratch' ≡ scratch)

@@ -11,4 +11,6 @@ pub mod Inserting
 pub mod LevelCounts
 pub mod Making
 pub mod Costs
+pub mod Columns
 pub mod FixedChoice
+pub mod Answered

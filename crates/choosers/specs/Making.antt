@@ -10,7 +10,7 @@ use Rattle.strides.specs.Insertion.{met}
 use Rattle.walk.specs.Limits.{WIDTH}
 use Rattle.layout.specs.Marks.{entry_marks}
 use Rattle.choosers.specs.LevelCounts.{CanCount, LevelsAdded, CountsOf}
-use Rattle.choosers.specs.Scratch.{DEPTH, ROW}
+use Rattle.choosers.specs.Scratch.{DEPTH, ROW, MARKS}
 use Rattle.choosers.specs.Trees.{Tree, shape, link_of, row_for, col, Stand, Deep, Apart, Under, add_entry, tree_of}
 
 -- a table's prefixes, as far as its trie goes by them: they may repeat
@@ -66,6 +66,7 @@ pub record MakeIn (W : ℕ) (vs ls hs rows counts : List ℕ) : Type 0 where
   pub room : size (trie_of W (at vs) (at ls) (entry_marks ls hs) (length vs)) * ROW ≤ length rows
 
 pub record MakeOut (W : ℕ) (vs ls hs : List ℕ) (root : ℕ) (rows' counts' : List ℕ) : Type 0 where
+  pub small : (i : ℕ) → i < length vs → entry_marks ls hs i < MARKS
   pub counted : CountsOf counts' (shape (tree_of W (at vs) (at ls) (entry_marks ls hs) (length vs)))
   pub laid : InRows rows' (tree_of W (at vs) (at ls) (entry_marks ls hs) (length vs))
   pub link : root ≡ link_of (tree_of W (at vs) (at ls) (entry_marks ls hs) (length vs))

@@ -1,5 +1,5 @@
-// What the choosers count with: a sum and a power of two that never wrap, each held at the cap, and the larger of two numbers.
-ghost use Rattle.std.specs.Prelude.{◌≡◌, ◌+◌, ◌^◌, max};
+// What the choosers count with: a sum and a power of two that never wrap, each held at the cap.
+ghost use Rattle.std.specs.Prelude.{◌≡◌, ◌+◌, ◌^◌};
 ghost use Rattle.strides.specs.Recurrence.{at_cap};
 
 // a + b, held at the cap.
@@ -27,10 +27,4 @@ pub(crate) fn capped_power(s: u64, cap: u64) -> u64
         return cap;
     }
     p
-}
-
-pub(crate) fn larger(a: usize, b: usize) -> usize
-    ensures { result ≡ max a b }
-{
-    if a < b { b } else { a }
 }

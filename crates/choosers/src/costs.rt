@@ -6,22 +6,31 @@ ghost use Rattle.strides.specs.Recurrence.{scan};
 ghost use Rattle.walk.specs.Limits.{WIDTH, LEVELS};
 ghost use Rattle.choosers.specs.Limits.{ENTRIES};
 ghost use Rattle.choosers.specs.Scratch.{ROW, DEPTH, ask};
-ghost use Rattle.choosers.specs.Costs.{held, column, price, best_cost, best_stride, Pass, COLUMNS};
+ghost use Rattle.choosers.specs.Costs.{held, price, best_cost, best_stride, Pass as IsPass, COLUMNS};
+ghost use Rattle.choosers.specs.Columns.{numbers};
 ghost use Rattle.choosers.specs.Costs.{Stored, RowAdded, Lifted, HandedUp, SettleIn, TreeAsk, TreeDone, SumsIn, SumsDone};
 
-use crate::caps::{capped_power, capped_sum, larger};
+use crate::caps::{capped_power, capped_sum};
 use crate::limits::COST_CAP;
 use crate::scratch::{BEFORE_COSTS, COST, DEPTH, STRIDE, asked, put};
-use table::{WIDTH, smaller};
+use table::WIDTH;
 
-// What n blocks of stride j + 1 cost, where what the blocks below cost stands at place `first` of the sums for stride 1, and `pitch`
-// places later for each stride more.
-fn price_at(sums: &[u64], first: usize, pitch: usize, n: usize, j: usize) -> u64
-    requires { (j * pitch + first < length sums.now) × (n ≤ ENTRIES) × (j < WIDTH) }
-    ensures { result ≡ price (column first pitch sums.now) n j }
+// Numbers of a list: the first stands at place `first`, and each next one `pitch` places later.
+#[derive(Clone, Copy)]
+pub(crate) struct Column<'a> {
+    pub(crate) list: &'a [u64],
+    pub(crate) first: usize,
+    pub(crate) pitch: usize,
+}
+
+// What n blocks of stride j + 1 cost, where what the blocks below them cost is number j of `below`.
+#[tactic(auto, unfolding(crate::specs::Costs::price))]
+fn price_at(below: Column, n: usize, j: usize) -> u64
+    requires { (j * below.pitch + below.first < length below.list.now) × (n ≤ ENTRIES) × (j < WIDTH) }
+    ensures { result ≡ price (numbers below.entry) n j }
 {
     let blocks = n as u64 * capped_power(j as u64 + 1, COST_CAP);
-    capped_sum(blocks, sums[j * pitch + first], COST_CAP)
+    capped_sum(blocks, below.list[j * below.pitch + below.first], COST_CAP)
 }
 
 // A stride, less one, and its cost.
@@ -44,35 +53,27 @@ fn cheaper(b: Best, j: usize, c: u64) -> Best
 }
 
 // The cheapest stride from 1 to `depth` for n nodes, the smallest of equals.
-fn cheapest(sums: &[u64], first: usize, pitch: usize, n: usize, depth: usize) -> Best
-    requires { ((j : ℕ) → j < depth → j * pitch + first < length sums.now) × (n ≤ ENTRIES) × (1 ≤ depth) × (depth ≤ WIDTH) }
-    ensures cost { result.cost ≡ (scan (price (column first pitch sums.now) n) (depth - 1)).1 }
-    ensures place { result.place ≡ (scan (price (column first pitch sums.now) n) (depth - 1)).0 }
+fn cheapest(below: Column, n: usize, depth: usize) -> Best
+    requires { ((j : ℕ) → j < depth → j * below.pitch + below.first < length below.list.now) × (n ≤ ENTRIES) × (1 ≤ depth) × (depth ≤ WIDTH) }
+    ensures cost { result.cost ≡ (scan (price (numbers below.entry) n) (depth - 1)).1 }
+    ensures place { result.place ≡ (scan (price (numbers below.entry) n) (depth - 1)).0 }
 {
     let mut b = Best {
         place: 0,
-        cost: price_at(sums, first, pitch, n, 0),
+        cost: price_at(below, n, 0),
     };
-    let mut j = 0;
-    while j + 1 < depth {
-        j += 1;
-        b = cheaper(b, j, price_at(sums, first, pitch, n, j));
+    for j in 0..depth - 1 {
+        b = cheaper(b, j + 1, price_at(below, n, j + 1));
     }
     b
 }
 
 // The choice for n nodes of the depth, with r + 1 levels left: with one level the stride reaches the bottom.
-pub(crate) fn choice(
-    sums: &[u64],
-    first: usize,
-    pitch: usize,
-    n: usize,
-    r: usize,
-    depth: usize,
-) -> Best
-    requires { ((j : ℕ) → j < depth → j * pitch + first < length sums.now) × (n ≤ ENTRIES) × (1 ≤ depth) × (depth ≤ WIDTH) }
-    ensures cost { result.cost ≡ best_cost (column first pitch sums.now) n depth r }
-    ensures place { result.place + 1 ≡ best_stride (column first pitch sums.now) n depth r }
+#[tactic(auto, using(crate::proofs::Pricing::choice_more, strides::proofs::Scan::scanned), unfolding(crate::specs::Costs::best_cost, crate::specs::Costs::best_stride))]
+pub(crate) fn choice(below: Column, n: usize, r: usize, depth: usize) -> Best
+    requires { ((j : ℕ) → j < depth → j * below.pitch + below.first < length below.list.now) × (n ≤ ENTRIES) × (1 ≤ depth) × (depth ≤ WIDTH) }
+    ensures cost { result.cost ≡ best_cost (numbers below.entry) n depth r }
+    ensures place { result.place + 1 ≡ best_stride (numbers below.entry) n depth r }
     ensures small { result.place < WIDTH }
 {
     if r == 0 {
@@ -81,7 +82,7 @@ pub(crate) fn choice(
             cost: capped_sum(n as u64 * capped_power(depth as u64, COST_CAP), 0, COST_CAP),
         }
     } else {
-        cheapest(sums, first, pitch, n, depth)
+        cheapest(below, n, depth)
     }
 }
 
@@ -94,26 +95,32 @@ const SUM_LINES: usize = WIDTH as usize * (WIDTH as usize + 1) / 2 + 1;
 
 const SUM_CELLS: usize = SUM_LINES * COLUMNS;
 
-// Stores the choices of row x with from + 1 to `to` levels left. What the blocks below cost with r levels left stands in the column
-// of the sums that begins r - from places after `first`.
-fn store(
-    rows: &mut [u64],
-    x: usize,
-    depth: usize,
+// A pass: from + 1 to `to` levels left.
+#[derive(Clone, Copy)]
+struct Pass {
     from: usize,
     to: usize,
-    first: usize,
-    sums: &[u64],
-)
-    requires { Pass from to × ((x + 1) * ROW ≤ length rows.old) × (1 ≤ depth) × (depth ≤ WIDTH) × (first + depth * COLUMNS ≤ length sums.now) }
-    ensures { Stored from to rows.old x depth first sums.now rows.new }
+    ghost few: { IsPass from to },
+}
+
+// (From here on rows, link, pass, line and sums stay parameters: rows and sums are lent to be written, and a struct of them would be made
+// and taken apart at each call.)
+
+// Stores the choices of row x with from + 1 to `to` levels left. What the blocks below cost with r levels left stands in the column
+// of the sums that begins r - from places after `first`.
+fn store(rows: &mut [u64], x: usize, depth: usize, pass: Pass, first: usize, sums: &[u64])
+    requires { ((x + 1) * ROW ≤ length rows.old) × (1 ≤ depth) × (depth ≤ WIDTH) × (first + depth * COLUMNS ≤ length sums.now) }
+    ensures { Stored pass.from pass.to rows.old x depth first sums.now rows.new }
 {
-    let mut r = from;
-    while r < to {
-        let b = choice(sums, first + (r - from), COLUMNS, 1, r, depth);
+    for r in pass.from..pass.to {
+        let below = Column {
+            list: sums,
+            first: first + (r - pass.from),
+            pitch: COLUMNS,
+        };
+        let b = choice(below, 1, r, depth);
         put(rows, x, COST + r, b.cost as usize);
         put(rows, x, STRIDE + r, b.place + 1);
-        r += 1;
     }
 }
 
@@ -126,18 +133,16 @@ fn bump(sums: &mut [u64], i: usize, v: usize)
 }
 
 // Adds the costs of the row at link k to a line of the sums: with r levels left at place r - from. With no level left there is none.
-fn add_row(rows: &[u64], k: usize, from: usize, to: usize, line: usize, sums: &mut [u64])
-    requires { Pass from to × (0 < k) × (k * ROW ≤ length rows.now) × ((line + 1) * COLUMNS ≤ length sums.old) }
-    ensures { RowAdded from to rows.now k line sums.old sums.new }
+fn add_row(rows: &[u64], k: usize, pass: Pass, line: usize, sums: &mut [u64])
+    requires { (0 < k) × (k * ROW ≤ length rows.now) × ((line + 1) * COLUMNS ≤ length sums.old) }
+    ensures { RowAdded pass.from pass.to rows.now k line sums.old sums.new }
 {
-    let mut r = larger(from, 1);
-    while r < to {
+    for r in pass.from.max(1)..pass.to {
         bump(
             sums,
-            line * COLUMNS + (r - from),
+            line * COLUMNS + (r - pass.from),
             asked(rows, k, BEFORE_COSTS + r),
         );
-        r += 1;
     }
 }
 
@@ -146,83 +151,66 @@ fn lift(sums: &mut [u64], up: usize, down: usize, n: usize)
     requires { (up + n ≤ down) × (down + n ≤ length sums.old) }
     ensures { Lifted sums.old up down n sums.new }
 {
-    let mut i = 0;
-    while i < n {
+    for i in 0..n {
         sums[up + i] = capped_sum(sums[up + i], sums[down + i], COST_CAP);
         sums[down + i] = 0;
-        i += 1;
     }
 }
 
 // Adds the m lines of sums below a node, which stand from line `below` on, to its own from `line` on, one line later, and clears
 // them; then the costs of the node itself, at link k.
+#[tactic(auto, using(crate::proofs::Gathering::handed_up))]
 fn hand_up(
     rows: &[u64],
     k: usize,
-    from: usize,
-    to: usize,
+    pass: Pass,
     line: usize,
     below: usize,
     m: usize,
     sums: &mut [u64],
 )
-    requires { Pass from to × (0 < k) × (k * ROW ≤ length rows.now) × (line + m < below) × ((below + m) * COLUMNS ≤ length sums.old) }
-    ensures { HandedUp from to rows.now k line below m sums.old sums.new }
+    requires { (0 < k) × (k * ROW ≤ length rows.now) × (line + m < below) × ((below + m) * COLUMNS ≤ length sums.old) }
+    ensures { HandedUp pass.from pass.to rows.now k line below m sums.old sums.new }
 {
     lift(sums, (line + 1) * COLUMNS, below * COLUMNS, m * COLUMNS);
-    add_row(rows, k, from, to, line, sums);
+    add_row(rows, k, pass, line, sums);
 }
 
 // Settles the row at link k from the sums that stand from line `below` on, and hands them up to `line`.
-fn settle_row(
-    rows: &mut [u64],
-    k: usize,
-    from: usize,
-    to: usize,
-    line: usize,
-    below: usize,
-    sums: &mut [u64],
-)
-    requires { SettleIn from to rows.old k line below sums.old }
-    ensures stored { Stored from to rows.old (k - 1) (ask rows.old k DEPTH) (below * COLUMNS) sums.old rows.new }
-    ensures handed { HandedUp from to rows.new k line below (ask rows.old k DEPTH - 1) sums.old sums.new }
+fn settle_row(rows: &mut [u64], k: usize, pass: Pass, line: usize, below: usize, sums: &mut [u64])
+    requires { SettleIn pass.from pass.to rows.old k line below sums.old }
+    ensures stored { Stored pass.from pass.to rows.old (k - 1) (ask rows.old k DEPTH) (below * COLUMNS) sums.old rows.new }
+    ensures handed { HandedUp pass.from pass.to rows.new k line below (ask rows.old k DEPTH - 1) sums.old sums.new }
 {
     let depth = asked(rows, k, DEPTH);
-    store(rows, k - 1, depth, from, to, below * COLUMNS, sums);
-    hand_up(rows, k, from, to, line, below, depth - 1, sums);
+    store(rows, k - 1, depth, pass, below * COLUMNS, sums);
+    hand_up(rows, k, pass, line, below, depth - 1, sums);
 }
 
 // Settles every row of the tree at link k, which stands at level d, from the bottom up, and adds what its nodes cost to the sums from
 // `line` on, a line for each level. What stands below it is summed in the lines after those, which are 0 before and after.
-fn settle_tree(
-    rows: &mut [u64],
-    k: usize,
-    d: usize,
-    from: usize,
-    to: usize,
-    line: usize,
-    sums: &mut [u64],
-)
-    requires tree_ask { TreeAsk from rows.old k d × Pass from to }
+fn settle_tree(rows: &mut [u64], k: usize, d: usize, pass: Pass, line: usize, sums: &mut [u64])
+    requires tree_ask { TreeAsk pass.from rows.old k d }
     requires sums_in { SumsIn line (WIDTH - d) sums.old }
-    ensures rows { TreeDone from to rows.old k d rows.new }
-    ensures sums { SumsDone from to rows.old k d line sums.old sums.new }
+    ensures rows { TreeDone pass.from pass.to rows.old k d rows.new }
+    ensures sums { SumsDone pass.from pass.to rows.old k d line sums.old sums.new }
 {
     if k != 0 {
         let below = line + (WIDTH as usize - d);
-        settle_tree(rows, asked(rows, k, 0), d + 1, from, to, below, sums);
-        settle_tree(rows, asked(rows, k, 1), d + 1, from, to, below, sums);
-        settle_row(rows, k, from, to, line, below, sums);
+        settle_tree(rows, asked(rows, k, 0), d + 1, pass, below, sums);
+        settle_tree(rows, asked(rows, k, 1), d + 1, pass, below, sums);
+        settle_row(rows, k, pass, line, below, sums);
     }
 }
 
 // One pass over the tree at link k.
-fn settle_pass(rows: &mut [u64], k: usize, from: usize, to: usize)
-    requires { TreeAsk from rows.old k 0 × Pass from to }
-    ensures { TreeDone from to rows.old k 0 rows.new }
+#[tactic(auto, using(crate::proofs::Gathering::sums_start))]
+fn settle_pass(rows: &mut [u64], k: usize, pass: Pass)
+    requires { TreeAsk pass.from rows.old k 0 }
+    ensures { TreeDone pass.from pass.to rows.old k 0 rows.new }
 {
     let mut sums = [0u64; SUM_CELLS];
-    settle_tree(rows, k, 0, from, to, 0, &mut sums);
+    settle_tree(rows, k, 0, pass, 0, &mut sums);
 }
 
 // Settles every row of the tree at link k, for 1 to `levels` levels left.
@@ -231,9 +219,10 @@ pub(crate) fn settle_all(rows: &mut [u64], k: usize, levels: usize)
     ensures { TreeDone 0 levels rows.old k 0 rows.new }
 {
     let mut from = 0;
+    // Passes of COLUMNS levels and a shorter last one: `from` is where each ends, so that no step by a number is plainer.
     while from < levels {
-        let to = smaller(from + COLUMNS, levels);
-        settle_pass(rows, k, from, to);
+        let to = (from + COLUMNS).min(levels);
+        settle_pass(rows, k, Pass { from, to });
         from = to;
     }
 }

@@ -1,6 +1,6 @@
 // The fixed choice: one stride for all blocks of a level (source document 000). From the nodes of each level, counted as the rows are
 // made, and from the last level up, the cheapest strides for the levels from there on.
-ghost use Rattle.std.specs.Prelude.{◌≡◌, ℕ, ◌+◌, ◌-◌, ◌*◌, ◌<◌, ◌≤◌, length, get_or};
+ghost use Rattle.std.specs.Prelude.{◌≡◌, ℕ, ◌+◌, ◌-◌, ◌*◌, ◌≤◌, length, get_or};
 ghost use Rattle.table.specs.Table.{at};
 ghost use Rattle.table.specs.Lists.{padded};
 ghost use Rattle.strides.specs.Entries.{longest_length};
@@ -10,23 +10,23 @@ ghost use Rattle.choosers.specs.Limits.{ENTRIES};
 ghost use Rattle.choosers.specs.Costs.{held};
 ghost use Rattle.choosers.specs.FixedChoice.{level_cells, Filled, RowFilled, StridesFilled, SomeNodes, CanChoose, FixedOut};
 
-use crate::caps::larger;
-use crate::costs::choice;
+use crate::chooser::Chosen;
+use crate::costs::{Column, choice};
 use crate::limits::{BYTE, SLOTS};
 use table::WIDTH;
 
-// Places of the table of fixed strides: every level and one past the last, and every number of levels left.
+// Places of the table of fixed strides: every level and one past the last, and every number of levels left. Costs and strides are flat
+// lists, since `Column` reads a list from a place on by a pitch.
 const LEVEL_CELLS: usize = (WIDTH as usize + 1) * SLOTS;
 
 // The longest length: how many levels the trie has.
+#[tactic(auto, using(crate::proofs::FixedChoice::longest_next), unfolding(strides::specs::Entries::longest_length))]
 pub(crate) fn longest_length(lens: &[u8]) -> usize
     ensures { result ≡ longest_length (at lens.now) (length lens.now) }
 {
     let mut longest = 0;
-    let mut i = 0;
-    while i < lens.len() {
-        longest = larger(lens[i] as usize, longest);
-        i += 1;
+    for l in lens {
+        longest = longest.max(usize::from(*l));
     }
     longest
 }
@@ -37,14 +37,17 @@ fn fill_row(n: usize, i: usize, d: usize, levels: usize, costs: &mut [u64], stri
     requires n_bound { (n ≤ ENTRIES) × (1 ≤ d) × (i + d ≤ WIDTH) × (levels ≤ LEVELS) }
     ensures { RowFilled levels n d i costs.old strides.old costs.new strides.new }
 {
-    let mut r = 0;
-    while r < levels {
+    for r in 0..levels {
         // The costs of the levels after i, with one level less; not read where r is 0.
-        let b = choice(costs, (i + 1) * SLOTS + r - 1, SLOTS, n, r, d);
+        let below = Column {
+            list: costs,
+            first: (i + 1) * SLOTS + r - 1,
+            pitch: SLOTS,
+        };
+        let b = choice(below, n, r, d);
         let at = i * SLOTS + r;
         costs[at] = b.cost;
         strides[at] = b.place as u64 + 1;
-        r += 1;
     }
 }
 
@@ -54,9 +57,7 @@ fn fill_table(nodes: &[u64], levels: usize, depth: usize, costs: &mut [u64], str
     requires filled { Filled (at nodes.now) levels depth depth costs.old strides.old }
     ensures { Filled (at nodes.now) levels depth 0 costs.new strides.new }
 {
-    let mut i = depth;
-    while 0 < i {
-        i -= 1;
+    for i in (0..depth).rev() {
         fill_row(nodes[i] as usize, i, depth - i, levels, costs, strides);
     }
 }
@@ -68,32 +69,23 @@ fn read_list(strides: &[u64], levels: usize, depth: usize) -> [u8; SLOTS]
 {
     let mut list = [0u8; SLOTS];
     let mut i = 0;
-    let mut p = 0;
-    while p < levels {
+    for p in 0..levels {
         let s = strides[i * SLOTS + (levels - 1 - p)] as usize;
         list[p] = (s % BYTE) as u8;
         i += s;
-        p += 1;
     }
     list
 }
 
-// What the fixed choice costs, and its strides.
-#[derive(Clone, Copy)]
-pub(crate) struct FixedFound {
-    pub(crate) cost: u64,
-    pub(crate) strides: [u8; SLOTS],
-}
-
 // The cheapest fixed choice for a trie of `depth` levels, whose nodes are counted level by level.
-pub(crate) fn fixed_choice(nodes: &[u64], depth: usize, levels: usize) -> FixedFound
+pub(crate) fn fixed_choice(nodes: &[u64], depth: usize, levels: usize) -> Chosen
     requires { CanChoose nodes.now depth levels }
     ensures { FixedOut nodes.now depth levels result.cost result.strides }
 {
     let mut costs = [0u64; LEVEL_CELLS];
     let mut strides = [0u64; LEVEL_CELLS];
     fill_table(nodes, levels, depth, &mut costs, &mut strides);
-    FixedFound {
+    Chosen {
         cost: costs[levels - 1],
         strides: read_list(&strides, levels, depth),
     }

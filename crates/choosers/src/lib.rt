@@ -11,6 +11,6 @@ mod limits;
 mod rows;
 mod scratch;
 
-pub use chooser::{Chosen, Kind, Plan, choose_fixed, choose_variable, plan_choice};
+pub use chooser::{Chosen, Kind, Plan, choose, plan_choice};
 pub use limits::LENGTHS;
 pub use scratch::{BEFORE_STRIDES, DEPTH, ROW};

@@ -1,7 +1,7 @@
 // The 1-bit trie of a table, made in scratch rows that are all 0: one entry after the other. Each row on an entry's way is told how
 // deep the trie then is below it.
 ghost use Rattle.std.specs.Prelude.{◌≡◌, ◌+◌, ◌*◌, ◌<◌, ◌≤◌, max, length, set};
-ghost use Rattle.choosers.specs.Scratch.{ROW, DEPTH};
+ghost use Rattle.choosers.specs.Scratch.{ROW, DEPTH, MARKS};
 ghost use Rattle.choosers.specs.Trees.{col};
 ghost use Rattle.choosers.specs.Inserting.{Downed, InsertIn, Inserted};
 ghost use Rattle.walk.specs.Limits.{WIDTH};
@@ -10,9 +10,9 @@ ghost use Rattle.choosers.specs.Limits.{GROWS};
 ghost use Rattle.choosers.specs.LevelCounts.{CanCount, LevelsAdded};
 ghost use Rattle.choosers.specs.Making.{AddIn, Added, CountIn, AddCounted, MakeIn, MakeOut};
 
-use crate::caps::larger;
 use crate::limits::LENGTHS;
 use crate::scratch::{DEPTH, ROW, put};
+use table::Entries;
 
 // The row of the child at side s of row x; where there is none, the row `used` is taken for it.
 fn down(rows: &mut [u64], x: usize, s: usize, used: usize) -> usize
@@ -33,7 +33,7 @@ fn raise(rows: &mut [u64], x: usize, d: usize)
     requires { (x + 1) * ROW ≤ length rows.old }
     ensures { rows.new ≡ set rows.old (x * ROW + DEPTH) (max (col rows.old x DEPTH) d) }
 {
-    let depth = larger(rows[x * ROW + DEPTH] as usize, d);
+    let depth = (rows[x * ROW + DEPTH] as usize).max(d);
     put(rows, x, DEPTH, depth);
 }
 
@@ -71,6 +71,7 @@ fn opened(used: usize) -> usize
 
 // Lays one entry, the first l bits of v with the mark h, into the first `used` rows; the result is the number of rows
 // then used. A length 0 entry makes no node.
+#[tactic(auto, using(crate::proofs::Making::add_none, crate::proofs::Making::add_out), unfolding(table::specs::Prefix::start))]
 fn add(rows: &mut [u64], used: usize, width: usize, v: usize, l: usize, h: usize) -> usize
     requires { AddIn rows.old used width v l h }
     ensures { Added rows.old used width v l h result rows.new }
@@ -86,10 +87,8 @@ fn add_levels(counts: &mut [u64], from: usize, to: usize)
     requires { (from ≤ to) × (to ≤ WIDTH) × CanCount counts.old }
     ensures { LevelsAdded counts.old from to counts.new }
 {
-    let mut j = from;
-    while j < to {
+    for j in from..to {
         counts[j] += 1;
-        j += 1;
     }
 }
 
@@ -121,33 +120,25 @@ fn root_link(used: usize) -> usize
 
 // The mark of an entry: its hop and its length in one number.
 fn mark_of(hop: u16, len: u8) -> usize
-    ensures { result ≡ entry_mark hop len }
+    ensures value { result ≡ entry_mark hop len }
+    ensures small { result < MARKS }
 {
-    hop as usize * LENGTHS + len as usize
+    usize::from(hop) * LENGTHS + usize::from(len)
 }
 
 // Makes the rows of a table's 1-bit trie in rows that are all 0, counts its nodes level by level in counts that are all 0, and
 // returns the root's link.
-pub(crate) fn make_rows(
-    rows: &mut [u64],
-    counts: &mut [u64],
-    width: u32,
-    vals: &[u32],
-    lens: &[u8],
-    hops: &[u16],
-) -> usize
-    requires { MakeIn width vals.now lens.now hops.now rows.old counts.old }
-    ensures { MakeOut width vals.now lens.now hops.now result rows.new counts.new }
+pub(crate) fn make_rows(rows: &mut [u64], counts: &mut [u64], width: u32, entries: Entries) -> usize
+    requires { MakeIn width entries.value.now entries.length.now entries.hop.now rows.old counts.old }
+    ensures { MakeOut width entries.entry.value.now entries.entry.length.now entries.entry.hop.now result rows.new counts.new }
 {
-    let n = vals.len();
+    let Entries { value, length, hop } = entries;
     let w = width as usize;
     let mut used = 0;
-    let mut i = 0;
-    while i < n {
-        let l = lens[i];
-        let mark = mark_of(hops[i], l);
-        used = add_counted(rows, counts, used, w, vals[i] as usize, l as usize, mark);
-        i += 1;
+    for i in 0..value.len() {
+        let l = length[i];
+        let mark = mark_of(hop[i], l);
+        used = add_counted(rows, counts, used, w, value[i] as usize, l as usize, mark);
     }
     root_link(used)
 }

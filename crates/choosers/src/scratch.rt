@@ -1,5 +1,6 @@
 // The scratch rows of the 1-bit trie (specs/Scratch.antt has their columns): how a number of a row is read, by its link, and written. A
-// link is a row and one, 0 is none. Costs and choices go through these; the making of rows, which knows its row, reads in place.
+// link is a row and one, 0 is none, and so is a mark 0, which no entry has: that is how the lent numbers hold them, and an Option would be
+// made and unmade at each read. Costs and choices go through these; the making of rows, which knows its row, reads in place.
 ghost use Rattle.std.specs.Prelude.{◌≡◌, ◌+◌, ◌*◌, ◌<◌, ◌≤◌, length, set};
 ghost use Rattle.choosers.specs.Scratch.{ROW, ask};
 
@@ -21,6 +22,7 @@ pub const BEFORE_STRIDES: usize = STRIDE - 1;
 pub const ROW: usize = STRIDE + SLOTS;
 
 // Column c of the row that the link k names; 0 where it names none.
+#[tactic(auto, unfolding(crate::specs::Scratch::ask))]
 pub(crate) fn asked(rows: &[u64], k: usize, c: usize) -> usize
     requires { (k * ROW ≤ length rows.now) × (c < ROW) }
     ensures { result ≡ ask rows.now k c }

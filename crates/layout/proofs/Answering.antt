@@ -16,7 +16,8 @@ use Rattle.strides.specs.Trie.{Trie, none, node, Some, left, right, kid, bit, ma
 use Rattle.strides.specs.Strides.{Good}
 use Rattle.strides.proofs.Paths.{bit_mod, bit_shr, some?, SameBits, sub_none, mark_none, sub_split, mark_same, sub_same, mark_newer, mark_split}
 use Rattle.walk.specs.declared.record.Record.{Record}
-use Rattle.walk.specs.Rows.{Row, Lists, shortest, row_at, root, row_of}
+use Rattle.walk.specs.Rows.{Row}
+use Rattle.walk.specs.Rows.{Lists, shortest, row_at, root, row_of}
 use Rattle.walk.specs.Answers.{HopLength, floor_best, row_best, new_best, latest, answer}
 use Rattle.walk.specs.Lookup.{path_rows, lookup_of}
 use Rattle.walk.specs.Meaning.{Passed, Readable, Path, last, on, OnPath, empty, walked}

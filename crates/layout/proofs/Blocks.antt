@@ -8,7 +8,8 @@ use native.Mathlib.Decide.{dec_le}
 use lib.ListN.{length, length-append}
 use Rattle.strides.specs.Trie.{Trie, none, node, Some, left, right, kid, bit, depth, sub_along}
 use Rattle.strides.proofs.Paths.{bit_shr, SameBits}
-use Rattle.walk.specs.Rows.{Row, Lists, row_at}
+use Rattle.walk.specs.Rows.{Row}
+use Rattle.walk.specs.Rows.{Lists, row_at}
 use Rattle.layout.specs.Blocks.{Strides, wide, left_of, list_of, block_rows, level_rows, first_row, levels_rows, rows_of, row_count, Hold}
 
 -- ---- rows that the lists hold

@@ -15,7 +15,7 @@ use Rattle.strides.specs.Entries.{floor_of}
 use Rattle.strides.specs.Strides.{cost_by}
 use Rattle.strides.proofs.Longest.{mark_block, last_mark_is_longest}
 use Rattle.walk.specs.declared.record.Record.{Record}
-use Rattle.walk.specs.declared.walk.Answer.TheVariants.{NoRoute}
+use Rattle.walk.specs.Cases.{NoRoute}
 use Rattle.walk.specs.Rows.{Lists, shortest, row_at}
 use Rattle.walk.specs.Answers.{hop_of, length_of, reads_of, NotRefused, HopLength, floor_best, row_best, answer}
 use Rattle.walk.specs.Lookup.{path_rows, lookup_of}

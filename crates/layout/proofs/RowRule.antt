@@ -15,7 +15,8 @@ use Rattle.strides.specs.Trie.{Trie, Some, sub_along, bit}
 use Rattle.strides.specs.Strides.{Good}
 use Rattle.strides.proofs.Paths.{bit_mod, SameBits, sub_same}
 use Rattle.walk.specs.declared.record.Record.{Record}
-use Rattle.walk.specs.Rows.{Row, Lists, row_at}
+use Rattle.walk.specs.Rows.{Row}
+use Rattle.walk.specs.Rows.{Lists, row_at}
 use Rattle.walk.specs.Answers.{HopLength}
 use Rattle.layout.specs.Blocks.{Strides, left_of, link_to, stride_of, row_below, block_rows, first_row, rows_of, row_count, Hold, block_row}
 use Rattle.layout.specs.PathBlocks.{node_on, BlockAt, at_root, after, row_path}

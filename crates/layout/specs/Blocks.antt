@@ -4,7 +4,8 @@
 -- node t with r levels left is σ r t. Where c stands beside a trie, its next block begins c levels lower (0: here).
 use Rattle.std.specs.Prelude.{ℕ, zero, suc, pred, ◌+◌, ◌^◌, ◌≤◌, ◌≡◌, List, [], ◌∷◌, ◌++◌, map, length}
 use Rattle.strides.specs.Trie.{Trie, none, node, left, kid, bit, mark_along, sub_along}
-use Rattle.walk.specs.Rows.{Row, Lists, row_at, row_of}
+use Rattle.walk.specs.Rows.{Row}
+use Rattle.walk.specs.Rows.{Lists, row_at, row_of}
 use Rattle.layout.specs.Marks.{hop_in, length_in}
 
 abbrev pub Strides : Type 0

@@ -6,7 +6,8 @@ use Rattle.table.specs.Eight.{eight_values, eight_lengths, eight_hops}
 use Rattle.table.specs.Corner.{corner_values, corner_lengths, corner_hops}
 use Rattle.strides.specs.Trie.{Trie, depth, bit, mark_along, sub_along}
 use Rattle.strides.specs.Entries.{node_if, trie_below, beyond, proper_start, whole_entry, some_start, mark_at, trie_of}
-use Rattle.walk.specs.Rows.{Row, row_of}
+use Rattle.walk.specs.Rows.{Row}
+use Rattle.walk.specs.Rows.{row_of}
 use Rattle.layout.specs.Blocks.{Strides, wide, left_of, row_below, list_of, block_rows, level_rows, first_row, levels_rows}
 use Rattle.layout.specs.Blocks.{rows_of, row_count, blocks_along, block_row, rows_along}
 use Rattle.layout.specs.Laid.{table_trie}

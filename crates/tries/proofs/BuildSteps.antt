@@ -8,11 +8,12 @@ use native.Mathlib.Nat.{le_refl, sub-zero, mod-eq_of_lt}
 use native.Mathlib.Omega.{arith}
 use lib.Dec.{ltb, eqb}
 use lib.ListN.{length, get_or, replicate, take, length-take}
-use borrow.Author.Tests.{ne_eqb, lt-ltb, le-ltb, ltb-false}
-use Rattle.table.specs.Refusals.{Test, outcome, Gives, Numbered, and_then}
+use borrow.Author.Tests.{ne_eqb, ltb-false}
+use Rattle.std.specs.Prelude.{Ok, Err}
+use Rattle.table.specs.declared.refusal.Refusal.{Refusal}
+use Rattle.table.specs.declared.refusal.Refusal.TheVariants.{Room}
+use Rattle.table.specs.Refusals.{Outcome, Test, outcome, Gives, Numbered, and_then}
 use Rattle.table.specs.Table.{at, Table}
-use Rattle.table.specs.declared.entry.Outcome.{Outcome}
-use Rattle.table.specs.declared.entry.Outcome.TheVariants.{Accepted, Refused}
 use Rattle.table.proofs.Bools.{or_false}
 use Rattle.table.proofs.Refusals.{outcome_fails, outcome_passes, outcome_append, outcome_gives, gives_outcome, refused_not_accepted}
 use Rattle.table.proofs.Numbered.{numbered_append}
@@ -38,7 +39,7 @@ use Rattle.layout.specs.Laid.{table_trie, table_floor, Laid}
 use Rattle.tries.specs.Filling.{LayAsks, LayGives, Lays}
 use Rattle.choosers.specs.Chooser.{choose_tests, if_accepted}
 use Rattle.choosers.specs.Plans.{PlanIs}
-use Rattle.tries.specs.Build.{room_test, build_tests, NoRecord, RowsAre, BuildIs, Builds}
+use Rattle.tries.specs.Build.{room_test, build_tests, record_of, RowsAre, BuildIs, Builds}
 use Rattle.tries.specs.FromPlan.{PlanFor, RowsBuilt}
 use Rattle.layout.proofs.Cost.{count_cost}
 use Rattle.layout.proofs.Agreeing.{same_agree, stride_same, laid_agree}
@@ -87,18 +88,12 @@ floor_first W (v ∷ vs) ls hs t h =
 
 -- ---- the tests
 
-pub crowded : (room e most : ℕ) → room < e → true ≡ (ltb room e || ltb most e)
-crowded room e most h = rw (lt-ltb room e h) refl
-
-pub roomy : (room e most : ℕ) → e ≤ room → ltb most e ≡ (ltb room e || ltb most e)
-roomy room e most h = rw (le-ltb room e h) refl
-
-pub early : (W k links : ℕ) (vs ls hs : List ℕ) (words room least : ℕ) {n d : ℕ} → outcome (choose_tests W k links vs ls hs words) ≡ Refused n d
-    → outcome (build_tests W k links vs ls hs words room least) ≡ Refused n d
+pub early : (W k links : ℕ) (vs ls hs : List ℕ) (words room least : ℕ) {r : Refusal} → outcome (choose_tests W k links vs ls hs words) ≡ Err r
+    → outcome (build_tests W k links vs ls hs words room least) ≡ Err r
 unfolding build_tests and_then
 early W k links vs ls hs words room least e = outcome_append (choose_tests W k links vs ls hs words) (room_test least room ∷ []) ∙ ap (λ (o : Outcome). and_then o (outcome (room_test least room ∷ []))) e
 
-pub late : (W k links : ℕ) (vs ls hs : List ℕ) (words room least : ℕ) → outcome (choose_tests W k links vs ls hs words) ≡ Accepted
+pub late : (W k links : ℕ) (vs ls hs : List ℕ) (words room least : ℕ) → outcome (choose_tests W k links vs ls hs words) ≡ Ok tt
     → outcome (build_tests W k links vs ls hs words room least) ≡ outcome (room_test least room ∷ [])
 unfolding build_tests and_then
 late W k links vs ls hs words room least e = outcome_append (choose_tests W k links vs ls hs words) (room_test least room ∷ []) ∙ ap (λ (o : Outcome). and_then o (outcome (room_test least room ∷ []))) e
@@ -108,8 +103,10 @@ unfolding build_tests
 numbered_build W k links vs ls hs words room least =
     numbered_append 7 (choose_tests W k links vs ls hs words) (room_test least room ∷ []) (numbered_choose 7 (omega arith) W k links vs ls hs words) ((omega arith, omega arith), tt)
 
-pub few_rows : (room e : ℕ) → (ltb room e || ltb ELEMENTS e) ≡ false → e ≤ ELEMENTS
-few_rows room e f = ltb-false ELEMENTS e (or_false (ltb room e) (ltb ELEMENTS e) f).1
+-- test 7, by the room that was found
+pub room_is : (rows : Lists) (e : ℕ) {room : ℕ} {t b : Bool} → room ≡ shortest rows → t ≡ (ltb room e || ltb ELEMENTS e) → t ≡ b
+    → (ltb (shortest rows) e || ltb ELEMENTS e) ≡ b
+room_is rows e r t b = sym (rw r at t) ∙ b
 
 -- ---- the first stride that the record names is the root's
 
@@ -198,66 +195,73 @@ module _ {kind : Kind} {W k : ℕ} {vs ls hs : List ℕ} {cost root : ℕ} {stri
 -- ---- the three answers
 
 -- refused: nothing is written
-nothing_written : (kind : Kind) (W k : ℕ) (vs ls hs : List ℕ) (lent : Lists) {out : Outcome} {n d : ℕ} {rec : Record} → out ≡ Refused n d → NoRecord rec
-    → RowsAre kind W k vs ls hs lent out rec lent
-nothing_written kind W k vs ls hs lent e z = record {
-  laid = λ a. absurd (refused_not_accepted (sym e ∙ a));
-  named = λ a. absurd (refused_not_accepted (sym e ∙ a));
-  keeps = record { hops = refl; lens = refl; links = refl; strides = refl; later = λ a. absurd (refused_not_accepted (sym e ∙ a)); refused = λ ne. (z, refl) };
+nothing_written : (kind : Kind) (W k : ℕ) (vs ls hs : List ℕ) (lent : Lists) (r : Refusal) → RowsAre kind W k vs ls hs lent (Err r) (record_of (Err r)) lent
+nothing_written kind W k vs ls hs lent r = record {
+  laid = λ a. absurd (refused_not_accepted a);
+  named = λ a. absurd (refused_not_accepted a);
+  keeps = record {
+    hops = refl;
+    lens = refl;
+    links = refl;
+    strides = refl;
+    later = λ a. absurd (refused_not_accepted a);
+    refused = λ ne. (record { width = refl; levels = refl; elements = refl; floor = refl; strides = refl }, refl);
+  };
 }
 
 module _ {kind : Kind} {W k : ℕ} {vs ls hs : List ℕ} {cost root : ℕ} {strides plan rows : List ℕ} (g : PlanFor kind W k vs ls hs cost strides plan root rows)
-    (lent : Lists) {out : Outcome} {rec : Record} where
+    (lent : Lists) where
   -- refused by 7
-  pub crowded_is : (ltb (shortest lent) cost || ltb ELEMENTS cost) ≡ true → out ≡ Refused 7 cost → NoRecord rec → RowsBuilt kind W k vs ls hs lent out rec lent
+  pub crowded_is : (ltb (shortest lent) cost || ltb ELEMENTS cost) ≡ true
+      → RowsBuilt kind W k vs ls hs lent (Err (Room cost)) (record_of (Err (Room cost))) lent
   unfolding outcome
-  crowded_is f e z = record {
-    tests = e ∙ sym (rw (sym g.planned.least) (outcome_fails (room_test cost (shortest lent)) [] f));
-    written = nothing_written kind W k vs ls hs lent e z;
+  crowded_is f = record {
+    tests = sym (rw (sym g.planned.least) (outcome_fails (room_test cost (shortest lent)) [] f));
+    written = nothing_written kind W k vs ls hs lent (Room cost);
   }
 
   -- built: what `lay` gave, with the record's fields
-  pub built_is : (lent' : Lists) {e : ℕ} → (ltb (shortest lent) cost || ltb ELEMENTS cost) ≡ false → Lays rows (take k plan) root W k lent e lent'
+  pub built_is : {rec : Record} (lent' : Lists) {e : ℕ} → (ltb (shortest lent) cost || ltb ELEMENTS cost) ≡ false → Lays rows (take k plan) root W k lent e lent'
       → length lent'.hop ≡ length lent.hop → length lent'.len ≡ length lent.len → length lent'.link ≡ length lent.link → length lent'.stride ≡ length lent.stride
       → rec.width ≡ W → rec.levels ≡ k → rec.elements ≡ cost → rec.floor ≡ table_floor W vs ls hs → rec.strides ≡ strides
-      → out ≡ Accepted → RowsBuilt kind W k vs ls hs lent out rec lent'
+      → RowsBuilt kind W k vs ls hs lent (Ok tt) rec lent'
   unfolding outcome
-  built_is lent' {e} f lays sh se sl ss ew ek ee ef es o =
+  built_is {rec} lent' {e} f lays sh se sl ss ew ek ee ef es =
       let asks = may_lay g lent f in
       let gives = lays _ _ asks in
       let same : shortest lent' ≡ shortest lent = omega arith in
       let count : cost ≡ e = sym (count_cost_is g) ∙ sym gives.count in
       record {
-        tests = o ∙ sym (rw (sym g.planned.least) (outcome_passes (room_test cost (shortest lent)) [] f));
+        tests = sym (rw (sym g.planned.least) (outcome_passes (room_test cost (shortest lent)) [] f));
         written = record {
           laid = λ a. accepted_laid g rec asks gives same ew ek ee ef es;
           named = λ a. es ∙ g.planned.named;
-          keeps = record { hops = sh; lens = se; links = sl; strides = ss; later = λ a i h. gives.after i (omega (arith, count, ee)); refused = λ ne. absurd (ne o) };
+          keeps = record { hops = sh; lens = se; links = sl; strides = ss; later = λ a i h. gives.after i (omega (arith, count, ee)); refused = λ ne. absurd (ne refl) };
         };
       }
 
 module _ {kind : Kind} {W k links : ℕ} {vs ls hs scratch : List ℕ} {planned : Outcome} {cost root : ℕ} {strides plan rows : List ℕ}
     (p : PlanIs kind W k links vs ls hs scratch planned cost strides plan root rows) where
   -- an accepted plan is one for this table
-  pub plan_for : planned ≡ Accepted → PlanFor kind W k vs ls hs cost strides plan root rows
+  pub plan_for : planned ≡ Ok tt → PlanFor kind W k vs ls hs cost strides plan root rows
   plan_for e =
       let a = sym p.chosen.tests ∙ e in
       record { table = accepted_tests_table W k links vs ls hs (length scratch) a; levels = accepted_levels W k links vs ls hs (length scratch) a; planned = plan_made p e }
 
-  module _ (lent : Lists) {out : Outcome} {rec : Record} where
+  module _ (lent : Lists) where
     -- refused by 1 to 6
-    pub early_is : {n d : ℕ} → planned ≡ Refused n d → out ≡ Refused n d → NoRecord rec → BuildIs kind W k links vs ls hs scratch lent out rec rows lent
+    pub early_is : {r : Refusal} → planned ≡ Err r → BuildIs kind W k links vs ls hs scratch lent (Err r) (record_of (Err r)) rows lent
     unfolding if_accepted
-    early_is f o z =
+    early_is {r} f =
         let t = sym p.chosen.tests ∙ f in
         record {
-          tests = o ∙ sym (early W k links vs ls hs (length scratch) (shortest lent) (least_by plain kind k (table_trie W vs ls hs)) t);
+          tests = sym (early W k links vs ls hs (length scratch) (shortest lent) (least_by plain kind k (table_trie W vs ls hs)) t);
           after = (p.refused (λ a. refused_not_accepted (sym f ∙ a))).kept ∙ rw t refl;
-          written = nothing_written kind W k vs ls hs lent o z;
+          written = nothing_written kind W k vs ls hs lent r;
         }
 
     -- past them
-    pub past_is : {scratch' : List ℕ} {lent' : Lists} → planned ≡ Accepted → RowsBuilt kind W k vs ls hs lent out rec lent' → scratch' ≡ replicate (length scratch) 0
+    pub past_is : {out : Outcome} {rec : Record} {scratch' : List ℕ} {lent' : Lists} → planned ≡ Ok tt → RowsBuilt kind W k vs ls hs lent out rec lent' → scratch' ≡ replicate (length scratch) 0
         → BuildIs kind W k links vs ls hs scratch lent out rec scratch' lent'
     unfolding if_accepted
     past_is f b z =
@@ -278,10 +282,10 @@ module _ (kind : Kind) (W k links : ℕ) (vs ls hs : List ℕ) where
     where
       go : (o : Outcome) → outcome (choose_tests W k links vs ls hs words) ≡ o
           → outcome (build_tests W k links vs ls hs words room (least_by plain kind k (table_trie W vs ls hs))) ≡ outcome (build_tests W k links vs ls hs words room least)
-      go Accepted e =
+      go (Ok tt) e =
           let some = (accepted_levels W k links vs ls hs words e).0 in
           ap (λ (m : ℕ). outcome (build_tests W k links vs ls hs words room m)) (cheapest_unique kind k (table_trie W vs ls hs) (least_cheapest kind k (table_trie W vs ls hs) some) (c some))
-      go (Refused n d) e = early W k links vs ls hs words room (least_by plain kind k (table_trie W vs ls hs)) e ∙ sym (early W k links vs ls hs words room least e)
+      go (Err r) e = early W k links vs ls hs words room (least_by plain kind k (table_trie W vs ls hs)) e ∙ sym (early W k links vs ls hs words room least e)
 
 module _ {kind : Kind} {W k links : ℕ} {vs ls hs scratch : List ℕ} {rows : Lists} {out : Outcome} {rec : Record} {scratch' : List ℕ} {rows' : Lists}
     (b : BuildIs kind W k links vs ls hs scratch rows out rec scratch' rows') where
@@ -291,7 +295,7 @@ module _ {kind : Kind} {W k links : ℕ} {vs ls hs scratch : List ℕ} {rows : L
   abbrev tests : List Test
   tests = choose_tests W k links vs ls hs (length scratch)
 
-  some_levels : out ≡ Accepted → 1 ≤ k
+  some_levels : out ≡ Ok tt → 1 ≤ k
   some_levels e = let l = b.written.laid e in omega (arith, l.levels, l.built.levels.0)
 
   pub build_means : Builds kind W k links vs ls hs scratch rows out rec scratch' rows'
@@ -302,11 +306,11 @@ module _ {kind : Kind} {W k links : ℕ} {vs ls hs scratch : List ℕ} {rows : L
         (outcome_gives (build_tests W k links vs ls hs (length scratch) (shortest rows) least));
     laid = λ e. (chosen_by plain kind k T, chosen_follows kind k T (some_levels e), b.written.laid e);
     named = λ e. (strides_by plain kind k T, strides_named kind k T (some_levels e), b.written.named e);
-    zeroed = λ a. b.after ∙ rw (sym (gives_outcome tests Accepted a));
+    zeroed = λ a. b.after ∙ rw (sym (gives_outcome tests (Ok tt) a));
     untouched = λ ne. b.after ∙ kept (outcome tests) refl ne;
     keeps = b.written.keeps;
   }
     where
-      kept : (o : Outcome) → outcome tests ≡ o → (Gives tests Accepted → ⊥) → if_accepted o (replicate (length scratch) 0) scratch ≡ scratch
-      kept Accepted e ne = absurd (ne (subst (Gives tests) e (outcome_gives tests)))
-      kept (Refused n d) e ne = refl
+      kept : (o : Outcome) → outcome tests ≡ o → (Gives tests (Ok tt) → ⊥) → if_accepted o (replicate (length scratch) 0) scratch ≡ scratch
+      kept (Ok tt) e ne = absurd (ne (subst (Gives tests) e (outcome_gives tests)))
+      kept (Err r) e ne = refl

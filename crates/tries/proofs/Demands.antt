@@ -13,18 +13,17 @@ use lib.Dec.{ltb}
 use lib.ListN.{length, replicate}
 use denote.Ref.{Bor}
 use borrow.Author.Tests.{lt-ltb, le-ltb}
-use Rattle.table.specs.Refusals.{Test, outcome, Gives}
+use Rattle.std.specs.Prelude.{Result, Ok, Err}
+use Rattle.table.specs.declared.refusal.Refusal.{Refusal}
+use Rattle.table.specs.declared.refusal.Refusal.TheVariants.{Room}
+use Rattle.table.specs.Refusals.{Outcome, Test, outcome, outcome_number, outcome_of, Gives}
 use Rattle.table.specs.Prefix.{start}
 use Rattle.table.specs.Longest.{of_winner, winner_in, NoPrefix, LongestEntry, LongestDiscards}
 use Rattle.table.specs.Entry.{unlinked}
 use Rattle.table.specs.Table.{at, table_tests, Linked}
 use Rattle.table.specs.Zone.{PartOf}
-use Rattle.table.specs.Answers.{shared_outcome, shared_tests, Shares, span_outcome, span_index, span_count, zone_tests, Spans, PartFor, HandsBack}
-use Rattle.table.specs.declared.entry.Outcome.{Outcome}
-use Rattle.table.specs.declared.entry.Outcome.TheVariants.{Accepted, Refused}
-use Rattle.table.specs.declared.sharing.Shared.{Shared}
+use Rattle.table.specs.Answers.{shared_tests, Shares, zone_tests, Spans, PartFor, HandsBack}
 use Rattle.table.specs.declared.zoning.Span.{Span}
-use Rattle.table.specs.declared.zoning.Span.TheVariants.{Part}
 use Rattle.table.proofs.Refusals.{outcome_gives, outcome_fails, outcome_passes, gives_outcome, gives_unique, given_exactly, refused_not_accepted}
 use Rattle.table.proofs.Numbered.{refused_number}
 use Rattle.table.proofs.Unique.{longest_discards, longest_linked}
@@ -38,8 +37,7 @@ use Rattle.strides.proofs.Cheapest.{least_cheapest, cheapest_unique}
 use Rattle.strides.proofs.Marks.{trie_nodes, cheapest_same}
 use Rattle.strides.proofs.Follows.{follows_cheapest}
 use Rattle.walk.specs.declared.record.Record.{Record}
-use Rattle.walk.specs.declared.walk.Answer.{Answer}
-use Rattle.walk.specs.declared.walk.Answer.TheVariants.{Discard, NoRoute}
+use Rattle.walk.specs.Cases.{Answer, Discard, NoRoute}
 use Rattle.walk.specs.Limits.{WIDTH, LEVELS}
 use Rattle.tries.specs.Limits.{ELEMENTS}
 use Rattle.walk.specs.Rows.{Lists, shortest, row_at}
@@ -68,22 +66,22 @@ pub check_first : (W links : ℕ) (vs ls hs : List ℕ) {out : Outcome} → Give
     → (out ≡ o) ↔ Gives (table_tests W links vs ls hs) o
 check_first W links vs ls hs = given_exactly (table_tests W links vs ls hs)
 
-pub shared_first : (W a l b m : ℕ) {r : Shared} → Shares W a l b m r → (o : Outcome) → (shared_outcome r ≡ o) ↔ Gives (shared_tests W a l b m) o
+pub shared_first : (W a l b m : ℕ) {r : Result ℕ Refusal} → Shares W a l b m r → (o : Outcome) → (outcome_of r ≡ o) ↔ Gives (shared_tests W a l b m) o
 shared_first W a l b m s = given_exactly (shared_tests W a l b m) s.tested
 
-pub span_first : (W links : ℕ) (vs ls hs : List ℕ) (p b : ℕ) {r : Span} → Spans W links vs ls hs p b r → (o : Outcome)
-    → (span_outcome r ≡ o) ↔ Gives (zone_tests W links vs ls hs p b) o
+pub span_first : (W links : ℕ) (vs ls hs : List ℕ) (p b : ℕ) {r : Result Span Refusal} → Spans W links vs ls hs p b r → (o : Outcome)
+    → (outcome_of r ≡ o) ↔ Gives (zone_tests W links vs ls hs p b) o
 span_first W links vs ls hs p b s = given_exactly (zone_tests W links vs ls hs p b) s.tested
 
 -- refused, the part handed back is the empty part at 0
-pub zone_refused : (W links : ℕ) (v : Bor (List ℕ)) (ls hs : List ℕ) (p b n d : ℕ) {r : Bor (List ℕ)} → HandsBack W links v ls hs p b r
-    → Gives (zone_tests W links v.now ls hs p b) (Refused n d) → PartOf v r 0 0
-unfolding span_outcome span_index span_count
-zone_refused W links v ls hs p b n d {r} h g = go h.0 (gives_unique (zone_tests W links v.now ls hs p b) _ _ h.1.tested g) h.2
+pub zone_refused : (W links : ℕ) (v : Bor (List ℕ)) (ls hs : List ℕ) (p b : ℕ) (e : Refusal) {r : Bor (List ℕ)} → HandsBack W links v ls hs p b r
+    → Gives (zone_tests W links v.now ls hs p b) (Err e) → PartOf v r 0 0
+unfolding outcome_of
+zone_refused W links v ls hs p b e {r} h g = go h.0 (gives_unique (zone_tests W links v.now ls hs p b) _ _ h.1.tested g) h.2
   where
-    go : (z : Span) → span_outcome z ≡ Refused n d → PartFor v r z → PartOf v r 0 0
-    go (Part i k) e q = absurd (refused_not_accepted (sym e))
-    go (Span.Refused x y) e q = q
+    go : (z : Result Span Refusal) → outcome_of z ≡ Err e → PartFor v r z → PartOf v r 0 0
+    go (Ok s) f q = absurd (refused_not_accepted (sym f))
+    go (Err x) f q = q
 
 module _ {kind : Kind} {W k links : ℕ} {vs ls hs scratch : List ℕ} {out : Outcome} {cost : ℕ} {strides s : List ℕ}
     (c : Chooses kind W k links vs ls hs scratch out cost strides s) where
@@ -91,10 +89,10 @@ module _ {kind : Kind} {W k links : ℕ} {vs ls hs scratch : List ℕ} {out : Ou
   choose_first = given_exactly (choose_tests W k links vs ls hs (length scratch)) c.tested
 
   -- refused, it answers cost 0 and zero strides and changes nothing; accepted, it zeroes all scratch
-  pub choose_refused : {n d : ℕ} → out ≡ Refused n d → (cost ≡ 0) × (strides ≡ padded LEVELS []) × (s ≡ scratch)
+  pub choose_refused : {r : Refusal} → out ≡ Err r → (cost ≡ 0) × (strides ≡ padded LEVELS []) × (s ≡ scratch)
   choose_refused e = c.refused (λ a. refused_not_accepted (sym e ∙ a))
 
-  pub choose_accepted : out ≡ Accepted → s ≡ replicate (length scratch) 0
+  pub choose_accepted : out ≡ Ok tt → s ≡ replicate (length scratch) 0
   choose_accepted = c.zeroed
 
 module _ {kind : Kind} {W k links : ℕ} {vs ls hs scratch : List ℕ} {rows : Lists} {out : Outcome} {rec : Record} {s : List ℕ} {rows' : Lists}
@@ -107,49 +105,46 @@ module _ {kind : Kind} {W k links : ℕ} {vs ls hs scratch : List ℕ} {rows : L
       → (out ≡ o) ↔ Gives (build_tests W k links vs ls hs (length scratch) (shortest rows) least) o
   build_first least c = given_exactly (build_tests W k links vs ls hs (length scratch) (shortest rows) least) (b.tested least c)
 
-  passes : Gives tests Accepted → (least : ℕ) → Cheapest kind k (table_trie W vs ls hs) least → out ≡ outcome (room_test least (shortest rows) ∷ [])
+  passes : Gives tests (Ok tt) → (least : ℕ) → Cheapest kind k (table_trie W vs ls hs) least → out ≡ outcome (room_test least (shortest rows) ∷ [])
   passes g least c =
       gives_outcome (build_tests W k links vs ls hs (length scratch) (shortest rows) least) out (b.tested least (λ h. c))
-      ∙ late W k links vs ls hs (length scratch) (shortest rows) least (sym (gives_outcome tests Accepted g))
+      ∙ late W k links vs ls hs (length scratch) (shortest rows) least (sym (gives_outcome tests (Ok tt) g))
 
   -- refusals 1 to 6 change no list
-  pub refused_early : {n d : ℕ} → Gives tests (Refused n d) → (out ≡ Refused n d) × NoRecord rec × (s ≡ scratch) × (rows' ≡ rows)
-  refused_early {n} {d} g =
+  pub refused_early : {r : Refusal} → Gives tests (Err r) → (out ≡ Err r) × NoRecord rec × (s ≡ scratch) × (rows' ≡ rows)
+  refused_early {r} g =
       let least = least_by plain kind k (table_trie W vs ls hs) in
-      let e : out ≡ Refused n d =
+      let e : out ≡ Err r =
       gives_outcome (build_tests W k links vs ls hs (length scratch) (shortest rows) least) out (b.tested least (least_cheapest kind k (table_trie W vs ls hs)))
-      ∙ early W k links vs ls hs (length scratch) (shortest rows) least (sym (gives_outcome tests (Refused n d) g)) in
+      ∙ early W k links vs ls hs (length scratch) (shortest rows) least (sym (gives_outcome tests (Err r) g)) in
       let kept = b.keeps.refused (λ a. refused_not_accepted (sym e ∙ a)) in
-      (e, kept.0, b.untouched (λ a. refused_not_accepted (gives_unique tests (Refused n d) Accepted g a)), kept.1)
+      (e, kept.0, b.untouched (λ a. refused_not_accepted (gives_unique tests (Err r) (Ok tt) g a)), kept.1)
 
   -- refusal 7 is given past tests 1 to 6
-  room_tested : {d : ℕ} → out ≡ Refused 7 d → Gives tests Accepted
+  room_tested : {d : ℕ} → out ≡ Err (Room d) → Gives tests (Ok tt)
   room_tested {d} e = go (outcome tests) refl
     where
-      seven : {n x : ℕ} → Refused n x ≡ Refused 7 d → n ≡ 7
-      seven q = cc
-
-      go : (o : Outcome) → outcome tests ≡ o → Gives tests Accepted
-      go Accepted p = subst (Gives tests) p (outcome_gives tests)
-      go (Refused n x) p =
+      go : (o : Outcome) → outcome tests ≡ o → Gives tests (Ok tt)
+      go (Ok tt) p = subst (Gives tests) p (outcome_gives tests)
+      go (Err r) p =
           let g = subst (Gives tests) p (outcome_gives tests) in
-          absurd (omega (arith, refused_number 6 tests n x (numbered_choose 6 (omega arith) W k links vs ls hs (length scratch)) g, seven (sym (refused_early g).0 ∙ e)))
+          absurd (omega (arith, refused_number 6 tests r (numbered_choose 6 (omega arith) W k links vs ls hs (length scratch)) g, ap outcome_number (sym (refused_early g).0 ∙ e)))
 
   -- refusal 7 zeroes all scratch and changes no element
-  pub refused_room : {d : ℕ} → out ≡ Refused 7 d → NoRecord rec × (s ≡ replicate (length scratch) 0) × (rows' ≡ rows)
+  pub refused_room : {d : ℕ} → out ≡ Err (Room d) → NoRecord rec × (s ≡ replicate (length scratch) 0) × (rows' ≡ rows)
   refused_room e =
       let kept = b.keeps.refused (λ a. refused_not_accepted (sym e ∙ a)) in
       (kept.0, b.zeroed (room_tested e), kept.1)
 
   -- an accepted build passes 1 to 6, zeroes all scratch, writes rows 0 to E - 1 and keeps later rows
-  all_passed : out ≡ Accepted → Gives tests Accepted
+  all_passed : out ≡ Ok tt → Gives tests (Ok tt)
   all_passed e = go (outcome tests) refl
     where
-      go : (o : Outcome) → outcome tests ≡ o → Gives tests Accepted
-      go Accepted p = subst (Gives tests) p (outcome_gives tests)
-      go (Refused n x) p = absurd (refused_not_accepted (sym (refused_early (subst (Gives tests) p (outcome_gives tests))).0 ∙ e))
+      go : (o : Outcome) → outcome tests ≡ o → Gives tests (Ok tt)
+      go (Ok tt) p = subst (Gives tests) p (outcome_gives tests)
+      go (Err r) p = absurd (refused_not_accepted (sym (refused_early (subst (Gives tests) p (outcome_gives tests))).0 ∙ e))
 
-  pub build_accepted : out ≡ Accepted → (s ≡ replicate (length scratch) 0) × ((i : ℕ) → rec.elements ≤ i → row_at rows' i ≡ row_at rows i)
+  pub build_accepted : out ≡ Ok tt → (s ≡ replicate (length scratch) 0) × ((i : ℕ) → rec.elements ≤ i → row_at rows' i ≡ row_at rows i)
   build_accepted e = (b.zeroed (all_passed e), b.keeps.later e)
 
 -- a lookup gives number n exactly when test n is the first that fails, 0 when none does; refused, it has no hop, no length and 0 reads
@@ -165,7 +160,7 @@ module _ {most : ℕ} {rec : Record} {ls : Lists} {a : ℕ} where
 module _ {kind : Kind} {W k links : ℕ} {vs ls hs scratch : List ℕ} {rows : Lists} {out : Outcome} {rec : Record} {s : List ℕ} {rows' : Lists}
     (b : Builds kind W k links vs ls hs scratch rows out rec s rows') where
   -- ---- demand 3: the build uses the fewest elements that any stride choice of the kind with at most k levels needs
-  pub build_fewest : out ≡ Accepted → Cheapest kind k (table_trie W vs ls hs) rec.elements
+  pub build_fewest : out ≡ Ok tt → Cheapest kind k (table_trie W vs ls hs) rec.elements
   build_fewest e =
       let l = b.laid e in
       let some : 1 ≤ k = omega (arith, l.2.levels, l.2.built.levels.0) in
@@ -173,8 +168,8 @@ module _ {kind : Kind} {W k links : ℕ} {vs ls hs scratch : List ℕ} {rows : L
 
   -- for a well-formed table, an allowed k and enough scratch, it is refused for room exactly when that least number exceeds the room
   -- lent or the most elements
-  pub room_refused : {least : ℕ} → Cheapest kind k (table_trie W vs ls hs) least → Gives (choose_tests W k links vs ls hs (length scratch)) Accepted
-      → (out ≡ Refused 7 least) ↔ ((shortest rows < least) ⊎ (ELEMENTS < least))
+  pub room_refused : {least : ℕ} → Cheapest kind k (table_trie W vs ls hs) least → Gives (choose_tests W k links vs ls hs (length scratch)) (Ok tt)
+      → (out ≡ Err (Room least)) ↔ ((shortest rows < least) ⊎ (ELEMENTS < least))
   unfolding outcome
   room_refused {least} c g = (
     λ e. over e,
@@ -189,10 +184,10 @@ module _ {kind : Kind} {W k links : ℕ} {vs ls hs scratch : List ℕ} {rows : L
       or_true true = refl
       or_true false = refl
 
-      refuses : (ltb (shortest rows) least || ltb ELEMENTS least) ≡ true → out ≡ Refused 7 least
+      refuses : (ltb (shortest rows) least || ltb ELEMENTS least) ≡ true → out ≡ Err (Room least)
       refuses f = is ∙ outcome_fails (room_test least (shortest rows)) [] f
 
-      over : out ≡ Refused 7 least → (shortest rows < least) ⊎ (ELEMENTS < least)
+      over : out ≡ Err (Room least) → (shortest rows < least) ⊎ (ELEMENTS < least)
       over e = elim (dec_le least (shortest rows)) [
         | no l ↦ inl (omega arith)
         | yes l ↦ elim (dec_le least ELEMENTS) [
@@ -202,14 +197,14 @@ module _ {kind : Kind} {W k links : ℕ} {vs ls hs scratch : List ℕ} {rows : L
       ]
 
   -- and the detail of 7 is that least number
-  pub room_detail : {least d : ℕ} → Cheapest kind k (table_trie W vs ls hs) least → out ≡ Refused 7 d → d ≡ least
+  pub room_detail : {least d : ℕ} → Cheapest kind k (table_trie W vs ls hs) least → out ≡ Err (Room d) → d ≡ least
   unfolding outcome
   room_detail {least} {d} c e = same (ltb (shortest rows) least || ltb ELEMENTS least) refl
     where
-      is : Refused 7 d ≡ outcome (room_test least (shortest rows) ∷ [])
+      is : ◌≡◌ {A = Outcome} (Err (Room d)) (outcome (room_test least (shortest rows) ∷ []))
       is = sym e ∙ passes b (room_tested b e) least c
 
-      detail : Refused 7 d ≡ Refused 7 least → d ≡ least
+      detail : ◌≡◌ {A = Outcome} (Err (Room d)) (Err (Room least)) → d ≡ least
       detail q = cc
 
       same : (t : Bool) → (ltb (shortest rows) least || ltb ELEMENTS least) ≡ t → d ≡ least
@@ -217,7 +212,7 @@ module _ {kind : Kind} {W k links : ℕ} {vs ls hs scratch : List ℕ} {rows : L
       same false f = absurd (refused_not_accepted (is ∙ outcome_passes (room_test least (shortest rows)) [] f))
 
   -- every row of every block holds what the row rule says (`row_rule`, layout)
-  pub build_rows : (e : out ≡ Accepted) (x n d : ℕ) → x < 2 ^ W → BlockAt (b.laid e).0 W k (table_trie W vs ls hs) x n d
+  pub build_rows : (e : out ≡ Ok tt) (x n d : ℕ) → x < 2 ^ W → BlockAt (b.laid e).0 W k (table_trie W vs ls hs) x n d
       → (i : ℕ) → i < 2 ^ (b.laid e).0 (k - n) (node_on W (table_trie W vs ls hs) x d)
       → let σ = (b.laid e).0 in
       let t = table_trie W vs ls hs in
@@ -233,10 +228,10 @@ module _ {kind : Kind} {W k links : ℕ} {vs ls hs scratch : List ℕ} {rows : L
   build_rows e = row_rule (b.laid e).2
 
   -- ---- the gateway has every hop of a table that is accepted (02, [7])
-  pub build_linked : out ≡ Accepted → Linked links hs
-  build_linked e = accepted_tests_linked W k links vs ls hs (length scratch) (sym (gives_outcome (choose_tests W k links vs ls hs (length scratch)) Accepted (all_passed b e)))
+  pub build_linked : out ≡ Ok tt → Linked links hs
+  build_linked e = accepted_tests_linked W k links vs ls hs (length scratch) (sym (gives_outcome (choose_tests W k links vs ls hs (length scratch)) (Ok tt) (all_passed b e)))
 
-  module _ (e : out ≡ Accepted) (a : ℕ) (h : a < 2 ^ W) {r : Answer} (l : Looked WIDTH rec rows' a r) where
+  module _ (e : out ≡ Ok tt) (a : ℕ) (h : a < 2 ^ W) {r : Answer} (l : Looked WIDTH rec rows' a r) where
     is_looked : r ≡ lookup_of WIDTH rec rows' a
     is_looked = looked_unique l (looked WIDTH rec rows' a)
 
@@ -293,14 +288,14 @@ module _ {kind : Kind} {W k links : ℕ} {vs ls hs scratch : List ℕ} {rows : L
 
 -- one table gives one answer, however it is built: any kinds, any k, any numbers of links, any room
 pub one_table : {kind kind' : Kind} {W k k' links links' : ℕ} {vs ls hs scratch scratch' : List ℕ} {rows rows' : Lists} {out out' : Outcome} {rec rec' : Record} {s s' : List ℕ} {rows1 rows2 : Lists}
-    → Builds kind W k links vs ls hs scratch rows out rec s rows1 → Builds kind' W k' links' vs ls hs scratch' rows' out' rec' s' rows2 → out ≡ Accepted → out' ≡ Accepted
+    → Builds kind W k links vs ls hs scratch rows out rec s rows1 → Builds kind' W k' links' vs ls hs scratch' rows' out' rec' s' rows2 → out ≡ Ok tt → out' ≡ Ok tt
     → (a : ℕ) → a < 2 ^ W → {r r' : Answer} → Looked WIDTH rec rows1 a r → Looked WIDTH rec' rows2 a r' → (hop_of r ≡ hop_of r') × (length_of r ≡ length_of r')
 one_table b c e e' a h l l' = rw (is_looked b e a h l, is_looked c e' a h l') (one_answer (b.laid e).2 (c.laid e').2 a h)
 
 -- an entry counts by its prefix, whatever its hop is, a discard's too: two accepted builds of one kind and k, of tables with the same
 -- prefixes, have as many elements (02, [4])
 pub build_hops_free : {kind : Kind} {W k links links' : ℕ} {vs ls hs hs' scratch scratch' : List ℕ} {rows rows' : Lists} {out out' : Outcome} {rec rec' : Record} {s s' : List ℕ} {rows1 rows2 : Lists}
-    → Builds kind W k links vs ls hs scratch rows out rec s rows1 → Builds kind W k links' vs ls hs' scratch' rows' out' rec' s' rows2 → out ≡ Accepted → out' ≡ Accepted
+    → Builds kind W k links vs ls hs scratch rows out rec s rows1 → Builds kind W k links' vs ls hs' scratch' rows' out' rec' s' rows2 → out ≡ Ok tt → out' ≡ Ok tt
     → rec.elements ≡ rec'.elements
 build_hops_free {kind} {W} {k} {vs} {ls} {hs} {hs'} {rec = rec} b c e e' =
     let same = trie_nodes W (at vs) (at ls) (entry_marks ls hs) (entry_marks ls hs') (length vs) in

@@ -6,8 +6,10 @@ use mathlib.Core.List.{List}
 use native.Mathlib.Omega.{arith}
 use native.Mathlib.Nat.{zero-add, add-zero, add_assoc, one-mul, pow-suc, div-eq_of_lt}
 use native.Mathlib.Decide.{dec_le}
-use lib.ListN.{length, get_or, set}
+use lib.ListN.{length, get_or, set, replicate}
 use lib.Seq.{get_or-set_same, get_or-set_other}
+use borrow.Rule.Slice.PartMut.{mid_of, put_mid}
+use Rattle.std.proofs.lemmas.Grind.{common_steps}
 use lib.Pow.{pow_mono, low, high}
 use Rattle.table.specs.Longest.{newer}
 use Rattle.strides.specs.Trie.{Trie, none, left, right, left_mark, right_mark, bit, mark_along, sub_along}
@@ -139,6 +141,11 @@ module _ {σ : Strides} {t : Trie} {rows plan : List ℕ} {k r base free : ℕ} 
         }
 
 -- ---- no node: all rows are alike
+pub spread_part : {base end v : ℕ} {l ys : List ℕ} → base ≤ end → end ≤ length l → ys ≡ replicate (length (mid_of base (end - base) l)) v
+    → Spread base end v l (put_mid base (end - base) l ys)
+spread_part h g e = record { wrote = grind (arith, common_steps); before = grind (arith, common_steps); after = grind (arith, common_steps) }
+
+-- the same place by place
 pub spread_none : {base v : ℕ} {l : List ℕ} → Spread base base v l l
 spread_none = record { wrote = λ i h k. absurd (omega arith); before = λ i h. refl; after = λ i h. refl }
 
@@ -166,9 +173,6 @@ unfolding wide
 wide_none σ c r = refl
 
 module _ {σ : Strides} {t : Trie} {rows plan : List ℕ} {k c r base free : ℕ} {ls : Lists} (g : FillAsks σ t rows plan k c r base free ls) where
-  pub bare_end : {p : ℕ} → p ≡ 2 ^ c → (base + p ≤ shortest ls) × (base + p ≤ ELEMENTS)
-  bare_end e = (omega (arith, g.own, g.room.fits), omega (arith, g.own, g.room.few))
-
   pub bare_gives : {p best : ℕ} {ls' : Lists} → k ≡ 0 → p ≡ 2 ^ c → Bare base (base + p) best ls ls' → FillGives σ t c r base best free ls free ls'
   bare_gives {p} {best} z e b =
       let n = trunk_none g.trunk z in
@@ -184,15 +188,6 @@ module _ {σ : Strides} {t : Trie} {rows plan : List ℕ} {k c r base free : ℕ
             let q : base + p ≤ i = omega arith in
             rw (b.hop.after i q, b.len.after i q, b.link.after i q, b.stride.after i q);
       }
-
--- ---- no bit left
-pub at_leaf : {σ : Strides} {t : Trie} {rows plan : List ℕ} {k c r base free : ℕ} {ls : Lists} → c ≡ 0
-    → FillAsks σ t rows plan k c r base free ls → FillAsks σ t rows plan k 0 r base free ls
-at_leaf z g = rw z at g
-
-pub from_leaf : {σ : Strides} {t : Trie} {c r base best free free' : ℕ} {ls ls' : Lists} → c ≡ 0
-    → FillGives σ t 0 r base best free ls free' ls' → FillGives σ t c r base best free ls free' ls'
-from_leaf z o = rw z o
 
 -- ---- the two halves
 pub record HalfBounds (rows : List ℕ) (k c base : ℕ) : Type 0 where

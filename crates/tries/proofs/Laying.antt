@@ -10,7 +10,8 @@ use lib.Seq.{ext_get_or}
 use Rattle.strides.specs.Trie.{Trie}
 use Rattle.walk.specs.declared.record.Record.{Record}
 use Rattle.walk.specs.Limits.{WIDTH}
-use Rattle.walk.specs.Rows.{Row, Lists, lists, shortest, row_at, root}
+use Rattle.walk.specs.Rows.{Row}
+use Rattle.walk.specs.Rows.{Lists, lists, shortest, row_at, root}
 use Rattle.layout.specs.Blocks.{Strides, stride_of, rows_of}
 use Rattle.tries.specs.Filling.{LayAsks, LayGives}
 use Rattle.layout.specs.Laid.{LaidTrie}

@@ -10,7 +10,8 @@ use lib.ListN.{length}
 use Rattle.strides.specs.Trie.{Trie, none, left, right, depth}
 use Rattle.walk.specs.Limits.{WIDTH, LEVELS}
 use Rattle.tries.specs.Limits.{ELEMENTS}
-use Rattle.walk.specs.Rows.{Row, Lists, shortest, row_at}
+use Rattle.walk.specs.Rows.{Row}
+use Rattle.walk.specs.Rows.{Lists, shortest, row_at}
 use Rattle.choosers.specs.Scratch.{ROW, DEPTH, ask, stride_at}
 use Rattle.layout.specs.Blocks.{Strides, wide, row_below, list_of, block_rows, level_rows, first_row, levels_rows, rows_of, row_count, Hold}
 use Rattle.tries.specs.Filling.{FillAsks, FillGives, LevelAsks, LevelGives, LayAsks, LayGives, CanPass, Passes, begun, between}

@@ -5,9 +5,8 @@ use mathlib.Core.Path.{◌≡◌, refl, sym, ap, subst, ◌∙◌}
 use mathlib.Core.List.{List}
 use mathlib.Core.Logic.{⊎_elim}
 use lib.ListN.{length}
-use Rattle.table.specs.Refusals.{Test, outcome, Gives}
-use Rattle.table.specs.declared.entry.Outcome.{Outcome}
-use Rattle.table.specs.declared.entry.Outcome.TheVariants.{Accepted, Refused}
+use Rattle.std.specs.Prelude.{Ok, Err}
+use Rattle.table.specs.Refusals.{Outcome, Test, outcome, Gives}
 use Rattle.table.proofs.Refusals.{outcome_gives, gives_unique, gives_outcome, refused_not_accepted, accepted_or}
 use Rattle.table.specs.Lists.{padded}
 use Rattle.strides.specs.Trie.{Trie}
@@ -62,10 +61,10 @@ module _ (kind : Kind) (W k links : ℕ) (vs ls hs scratch : List ℕ) (rows : L
     scratch_one = go (outcome tests) refl
       where
         go : (o : Outcome) → outcome tests ≡ o → s ≡ s'
-        go Accepted e = let a = subst (Gives tests) e (outcome_gives tests) in c.zeroed a ∙ sym (d.zeroed a)
-        go (Refused n x) e = let ne : Gives tests Accepted → ⊥ = λ a. refused_not_accepted (sym e ∙ sym (gives_outcome tests Accepted a)) in c.untouched ne ∙ sym (d.untouched ne)
+        go (Ok tt) e = let a = subst (Gives tests) e (outcome_gives tests) in c.zeroed a ∙ sym (d.zeroed a)
+        go (Err r) e = let ne : Gives tests (Ok tt) → ⊥ = λ a. refused_not_accepted (sym e ∙ sym (gives_outcome tests (Ok tt) a)) in c.untouched ne ∙ sym (d.untouched ne)
 
-    accepted_one : out ≡ Accepted → out' ≡ Accepted → (rec ≡ rec') × (rows1 ≡ rows2)
+    accepted_one : out ≡ Ok tt → out' ≡ Ok tt → (rec ≡ rec') × (rows1 ≡ rows2)
     accepted_one e e' =
         let l = c.laid e in
         let l' = d.laid e' in
@@ -82,7 +81,7 @@ module _ (kind : Kind) (W k links : ℕ) (vs ls hs scratch : List ℕ) (rows : L
         let strides = n.2 ∙ ap (padded LEVELS) (named_unique kind k t n.0 n'.0 n.1 n'.1) ∙ sym n'.2 in
         (record_same rec rec' (L.width ∙ sym L'.width) (L.levels ∙ sym L'.levels) one.0 (L.floor ∙ sym L'.floor) strides, one.1)
 
-    refused_one : (out ≡ Accepted → ⊥) → (out' ≡ Accepted → ⊥) → (rec ≡ rec') × (rows1 ≡ rows2)
+    refused_one : (out ≡ Ok tt → ⊥) → (out' ≡ Ok tt → ⊥) → (rec ≡ rec') × (rows1 ≡ rows2)
     refused_one ne ne' =
         let r = c.keeps.refused ne in
         let r' = d.keeps.refused ne' in
@@ -96,5 +95,5 @@ module _ (kind : Kind) (W k links : ℕ) (vs ls hs scratch : List ℕ) (rows : L
     builds_unique =
         let o = outcome_one in
         let rest : (rec ≡ rec') × (rows1 ≡ rows2)
-        = ⊎_elim (λ (e : out ≡ Accepted). accepted_one e (sym o ∙ e)) (λ (ne : out ≡ Accepted → ⊥). refused_one ne (λ (e : out' ≡ Accepted). ne (o ∙ e))) (accepted_or out) in
+        = ⊎_elim (λ (e : out ≡ Ok tt). accepted_one e (sym o ∙ e)) (λ (ne : out ≡ Ok tt → ⊥). refused_one ne (λ (e : out' ≡ Ok tt). ne (o ∙ e))) (accepted_or out) in
         (o, rest.0, scratch_one, rest.1)

@@ -1,9 +1,8 @@
 -- Past test 6, with a plan in scratch: test 7, then the rows. A plan was made for some table, and what is written are the rows of every
 -- table that it was made for, so that nobody has to show that two of them are one.
 use Rattle.std.specs.Prelude.{◌≡◌, List, [], ◌∷◌, ℕ}
-use Rattle.table.specs.Refusals.{outcome}
+use Rattle.table.specs.Refusals.{Outcome, outcome}
 use Rattle.table.specs.Table.{Table}
-use Rattle.table.specs.declared.entry.Outcome.{Outcome}
 use Rattle.strides.specs.Cheapest.{Kind}
 use Rattle.strides.specs.Recurrence.{plain, least_by}
 use Rattle.walk.specs.declared.record.Record.{Record}

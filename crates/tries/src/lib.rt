@@ -6,9 +6,10 @@ mod blocks;
 mod building;
 mod limits;
 mod scratch;
+mod writing;
 
-pub use building::{Built, build, is_crowded};
-pub use choosers::{Chosen, Kind, ROW, choose_fixed, choose_variable};
+pub use building::{build, is_crowded};
+pub use choosers::{Chosen, Kind, ROW, choose};
 pub use limits::ELEMENTS;
-pub use table::WIDTH;
-pub use walk::{Answer, LEVELS, Record, lookup};
+pub use table::{Entries, Refusal, WIDTH};
+pub use walk::{Answer, LEVELS, LookupRefusal, Record, Rows, RowsMut, lookup};

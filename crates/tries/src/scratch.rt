@@ -6,27 +6,38 @@ ghost use Rattle.choosers.specs.Scratch.{ROW, ask, stride_at};
 
 use choosers::{BEFORE_STRIDES, ROW};
 
-// Column c of the row that the link k names; 0 where it names none.
-pub(crate) fn asked(rows: &[u64], k: usize, c: usize) -> usize
-    requires { (k * ROW ≤ length rows.now) × (c < ROW) }
-    ensures { result ≡ ask rows.now k c }
-{
-    if k == 0 {
-        return 0;
-    }
-    rows[(k - 1) * ROW + c] as usize
+// A trie in scratch rows, and the plan: a fixed choice's strides from the front, else 0, as choosers' `Plan` has it.
+#[derive(Clone, Copy)]
+pub(crate) struct Source<'a> {
+    pub(crate) rows: &'a [u64],
+    pub(crate) plan: &'a [u8],
 }
 
-// The stride of a block at link k with r levels left: the plan's, where the choice is fixed, else the row's own.
-pub(crate) fn stride_at(rows: &[u64], plan: &[u8], k: usize, r: usize) -> usize
-    requires { (k * ROW ≤ length rows.now) × (0 < k → 0 < r) × (r ≤ length plan.now) × (length plan.now ≤ LEVELS) }
-    ensures { result ≡ stride_at rows.now plan.now k r }
-{
-    if k == 0 {
-        return 0;
+impl Source<'_> {
+    // Column c of the row that the link k names; 0 where it names none.
+    #[tactic(auto, unfolding(choosers::specs::Scratch::ask))]
+    pub(crate) fn asked(self, k: usize, c: usize) -> usize
+        requires { (k * ROW ≤ length self.rows.now) × (c < ROW) }
+        ensures { result ≡ ask self.entry.rows.now k c }
+    {
+        if k == 0 {
+            return 0;
+        }
+        self.rows[(k - 1) * ROW + c] as usize
     }
-    if plan[0] == 0 {
-        return asked(rows, k, BEFORE_STRIDES + r);
+
+    // The stride of a block at link k with r levels left: the plan's, where the choice is fixed, else the row's own.
+    #[tactic(auto, unfolding(choosers::specs::Scratch::stride_at))]
+    pub(crate) fn stride_at(self, k: usize, r: usize) -> usize
+        requires { (k * ROW ≤ length self.rows.now) × (0 < k → 0 < r) × (r ≤ length self.plan.now) × (length self.plan.now ≤ LEVELS) }
+        ensures { result ≡ stride_at self.entry.rows.now self.entry.plan.now k r }
+    {
+        if k == 0 {
+            return 0;
+        }
+        if self.plan[0] == 0 {
+            return self.asked(k, BEFORE_STRIDES + r);
+        }
+        self.plan[self.plan.len() - r] as usize
     }
-    plan[plan.len() - r] as usize
 }

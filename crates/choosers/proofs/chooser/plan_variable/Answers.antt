@@ -1,16 +1,15 @@
-use mathlib.Core.Path.{refl}
 use native.Mathlib.Omega.{arith}
 use Rattle.choosers.proofs.Plans.{make_in, settle_in, root_fits, plan_variable}
 use Rattle.choosers.proofs.chooser.plan_variable.Goals as goal
 
 pub make_rows-root-requires : goal.make_rows-root-requires
 make_rows-root-requires c =
-    rw c.zero.ensures (make_in c.args.width c.args.levels c.args.vals.now c.args.lens.now c.args.hops.now c.args.scratch.now c.requires)
+    rw c.zero.ensures (make_in _ _ _ _ _ _ c.requires)
 
 pub settle_all-requires : goal.settle_all-requires
 settle_all-requires c =
     let M = c.make_rows-root in (
-      settle_in c.args.width c.args.levels c.args.vals.now c.args.lens.now c.args.hops.now c.args.scratch.now c.requires _ _ _ M.ensures
+      settle_in _ _ _ _ _ _ c.requires _ _ _ M.ensures
           (omega (arith, M.auto)),
       c.requires.levels.1,
     )
@@ -19,7 +18,7 @@ pub asked-requires : goal.asked-requires
 asked-requires c =
     let M = c.make_rows-root in
     let T = c.settle_all in (
-      root_fits c.args.width c.args.levels c.args.vals.now c.args.lens.now c.args.hops.now c.args.scratch.now c.requires _ _ _ M.ensures (omega (arith, M.auto))
+      root_fits _ _ _ _ _ _ c.requires _ _ _ M.ensures (omega (arith, M.auto))
           T.new.rows (omega (arith, T.auto)),
       omega (arith, c.requires.levels.1),
     )
@@ -28,7 +27,7 @@ pub asked-requires-2 : goal.asked-requires-2
 asked-requires-2 c =
     let M = c.make_rows-root in
     let T = c.settle_all in (
-      root_fits c.args.width c.args.levels c.args.vals.now c.args.lens.now c.args.hops.now c.args.scratch.now c.requires _ _ _ M.ensures (omega (arith, M.auto))
+      root_fits _ _ _ _ _ _ c.requires _ _ _ M.ensures (omega (arith, M.auto))
           T.new.rows (omega (arith, T.auto)),
       omega (arith, c.requires.levels.1),
     )
@@ -38,7 +37,6 @@ returns c =
     let M = c.make_rows-root in
     let Z = c.zero in
     let T = c.settle_all in
-    let made = plan_variable c.args.width c.args.levels c.args.vals.now c.args.lens.now c.args.hops.now c.args.scratch.now c.requires _ _ _ M.ensures
+    plan_variable _ _ _ _ _ _ c.requires _ _ _ M.ensures
     (omega (arith, M.auto, Z.auto)) _ _ _ (omega (arith, T.auto))
-    T.ensures c.asked-2.ensures c.asked.ensures in
-    record { accepted = refl; made = made }
+    T.ensures c.asked-2.ensures c.asked.ensures

@@ -1,12 +1,9 @@
 -- The loop's invariant: the numbers of levels passed are added.
-use Prim.Native.Nat.{◌≤◌, ◌-◌}
+use Prim.Native.Nat.{◌≤◌}
 use mathlib.Core.Path.{◌≡◌}
 use lib.ListN.{length}
 use Rattle.choosers.specs.Costs.{RowAdded}
 use Rattle.choosers.proofs.costs.add_row.Given as goal
 
 abbrev pub invariant-loop-r : goal.invariant-loop-r
-invariant-loop-r l = (l.from ≤ l.r) × (l.r ≤ l.to) × (length l.sums ≡ length l.initial.sums) × RowAdded l.from l.r l.rows l.k l.line l.initial.sums l.sums
-
-abbrev pub decreases-loop-r : goal.decreases-loop-r
-decreases-loop-r l = l.to - l.r
+invariant-loop-r l = (l.pass.from ≤ l.r) × (l.r ≤ l.pass.to) × (length l.sums ≡ length l.initial.sums) × RowAdded l.pass.from l.r l.rows l.k l.line l.initial.sums l.sums

@@ -1,5 +1,5 @@
 -- The loop's invariant: the sums passed are lifted, all else is kept.
-use Prim.Native.Nat.{◌≤◌, ◌-◌}
+use Prim.Native.Nat.{◌≤◌}
 use mathlib.Core.Path.{◌≡◌}
 use lib.ListN.{length}
 use Rattle.choosers.specs.Costs.{Lifted}
@@ -7,6 +7,3 @@ use Rattle.choosers.proofs.costs.lift.Given as goal
 
 abbrev pub invariant-loop-i : goal.invariant-loop-i
 invariant-loop-i l = (l.i ≤ l.n) × (length l.sums ≡ length l.initial.sums) × Lifted l.initial.sums l.up l.down l.i l.sums
-
-abbrev pub decreases-loop-i : goal.decreases-loop-i
-decreases-loop-i l = l.n - l.i

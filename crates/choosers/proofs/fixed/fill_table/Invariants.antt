@@ -6,6 +6,3 @@ use Rattle.choosers.proofs.fixed.fill_table.Given as goal
 
 abbrev pub invariant-loop-i : goal.invariant-loop-i
 invariant-loop-i l = (l.i ≤ l.depth) × Filled (at l.nodes) l.levels l.depth l.i l.costs l.strides
-
-abbrev pub decreases-loop-i : goal.decreases-loop-i
-decreases-loop-i l = l.i

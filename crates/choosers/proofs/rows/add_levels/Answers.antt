@@ -1,9 +1,8 @@
-use Prim.Native.Nat.{ℕ, ◌+◌, ◌<◌}
-use mathlib.Core.Path.{◌≡◌, subst, ◌∙◌}
+use Prim.Native.Nat.{◌<◌}
+use mathlib.Core.Path.{◌∙◌}
 use native.Mathlib.Omega.{arith}
-use lib.ListN.{get_or, length-set}
+use lib.ListN.{length-set}
 use Rattle.walk.specs.Limits.{WIDTH}
-use Rattle.choosers.specs.LevelCounts.{in_levels}
 use Rattle.choosers.proofs.LevelCounts.{in_levels_same, in_levels_one, run_next}
 use Rattle.choosers.proofs.rows.add_levels.Goals as goal
 
@@ -20,12 +19,3 @@ pub loop-j-preserved : goal.loop-j-preserved
 loop-j-preserved c =
     let l = c.loop-j in
     (omega arith, omega arith, length-set l.counts l.j _ ∙ l.invariant.2, run_next c.args.counts.now l.counts c.args.from l.j l.invariant.2 (omega arith) l.invariant.0 l.invariant.3)
-
-pub returns : goal.returns
-returns c =
-    let l = c.loop-j in
-    let e : l.j ≡ c.args.to = omega arith in
-    record {
-      long = l.invariant.2;
-      more = subst (λ (x : ℕ). (i : ℕ) → i < WIDTH → get_or l.counts i 0 ≡ get_or c.args.counts.now i 0 + in_levels c.args.from x i) e l.invariant.3;
-    }

@@ -18,26 +18,20 @@ not_own c n e z = go (eqb n 0) refl (rw (eq-eqb c 0 z) at e)
     go true f e = absurd (true≢false e)
     go false f e = omega (arith, eqb-false n 0 f)
 
-pub returns-then-k-eq0 : goal.returns-then-k-eq0
-returns-then-k-eq0 t c = λ σ u g. nothing_gives c.if-k-eq0.true g
+pub returns-then-k-eq0-clause-wrote : goal.returns-then-k-eq0-clause-wrote
+returns-then-k-eq0-clause-wrote t c = λ σ u g. nothing_gives c.if-k-eq0.true g
 
-pub block-requires : goal.block-requires
-block-requires t c =
+pub returns-then-is_own-clause-wrote : goal.returns-then-is_own-clause-wrote
+returns-then-is_own-clause-wrote t c =
     let own : let a = c.args in (a.c ≡ 0) × (a.n ≡ 0) = let z = and_true _ _ (sym c.is_own.ensures ∙ c.if-is_own.true) in (eqb-true _ _ z.0, eqb-true _ _ z.1) in
     let z = own in
-    (omega (arith, c.if-k-eq0.false), (c.args.w, (c.requires.0, c.requires.1, at_own z.1 (at_block z.0 c.requires.2))))
-
-pub returns-then-is_own : goal.returns-then-is_own
-returns-then-is_own t c =
-    let own : let a = c.args in (a.c ≡ 0) × (a.n ≡ 0) = let z = and_true _ _ (sym c.is_own.ensures ∙ c.if-is_own.true) in (eqb-true _ _ z.0, eqb-true _ _ z.1) in
-    let z = own in
-    λ σ u g. from_block z.0 (from_own z.1 (c.block.ensures c.args.w σ u (at_own z.1 (at_block z.0 g))))
+    λ σ u g. from_block z.0 (from_own z.1 (c.block.ensures.wrote c.args.w σ u (at_own z.1 (at_block z.0 g))))
 
 pub is_shallow-requires : goal.is_shallow-requires
 is_shallow-requires t c = (side_bounds c.requires.2 (omega (arith, c.if-k-eq0.false))).0
 
-pub returns-then-is_shallow : goal.returns-then-is_shallow
-returns-then-is_shallow t c = let z = and_true _ _ (sym c.is_shallow.ensures ∙ c.if-is_shallow.true) in
+pub returns-then-is_shallow-clause-wrote : goal.returns-then-is_shallow-clause-wrote
+returns-then-is_shallow-clause-wrote t c = let z = and_true _ _ (sym c.is_shallow.ensures ∙ c.if-is_shallow.true) in
     let e = eqb-true _ _ z.0 in
     λ σ u g. from_block e (shallow_gives refl (leb-true _ _ z.1) (at_block e g))
 
@@ -67,15 +61,15 @@ level-requires t c =
       (c.requires.0, right c.requires.1, only_second_asks h refl c.if-k0-eq0.true c.asked-k0.ensures c.asked-k1.ensures),
     )
 
-pub returns-then-k0-eq0 : goal.returns-then-k0-eq0
-returns-then-k0-eq0 t c =
+pub returns-then-k0-eq0-clause-wrote : goal.returns-then-k0-eq0-clause-wrote
+returns-then-k0-eq0-clause-wrote t c =
     let some : 0 < c.args.k = omega (arith, c.if-k-eq0.false) in
     let p = c.pass-a.ensures in
     let z = c.if-k0-eq0.true in
     let q = c.asked-k0.ensures in
     λ σ u g.
     let h = pass_asks g some p in
-    pass_gives g some p (only_second_gives h refl z q (c.level.ensures σ (right u) (only_second_asks h refl z q c.asked-k1.ensures)))
+    pass_gives g some p (only_second_gives h refl z q (c.level.ensures.wrote σ (right u) (only_second_asks h refl z q c.asked-k1.ensures)))
 
 pub level-then-requires : goal.level-then-requires
 level-then-requires t c =
@@ -84,15 +78,15 @@ level-then-requires t c =
     let h = pass_asks g some c.pass-a.ensures in
     (omega (arith, side_bounds g some, c.decreases), (c.requires.0, left c.requires.1, first_asks h refl c.asked-k0.ensures))
 
-pub returns-then-k1-eq0 : goal.returns-then-k1-eq0
-returns-then-k1-eq0 t c =
+pub returns-then-k1-eq0-clause-wrote : goal.returns-then-k1-eq0-clause-wrote
+returns-then-k1-eq0-clause-wrote t c =
     let some : 0 < c.args.k = omega (arith, c.if-k-eq0.false) in
     let p = c.pass-a.ensures in
     let F = c.level-then in
     λ σ u g.
     let h = pass_asks g some p in
-    let o = F.ensures σ (left u) (first_asks h refl c.asked-k0.ensures) in
-    pass_gives g some p (sides_give h refl (omega (arith, F.auto)) o (nothing_gives c.if-k1-eq0.true (second_asks h refl (omega (arith, F.auto)) o c.asked-k1.ensures)))
+    let o = F.ensures.wrote σ (left u) (first_asks h refl c.asked-k0.ensures) in
+    pass_gives g some p (sides_give h refl (omega (arith, F.ensures.same)) o (nothing_gives c.if-k1-eq0.true (second_asks h refl (omega (arith, F.ensures.same)) o c.asked-k1.ensures)))
 
 pub level-requires-2 : goal.level-requires-2
 level-requires-2 t c =
@@ -100,17 +94,17 @@ level-requires-2 t c =
     let F = c.level-then in
     let g = c.requires.2 in
     let h = pass_asks g some c.pass-a.ensures in
-    let o = F.ensures c.requires.0 (left c.requires.1) (first_asks h refl c.asked-k0.ensures) in (
+    let o = F.ensures.wrote c.requires.0 (left c.requires.1) (first_asks h refl c.asked-k0.ensures) in (
       omega (arith, side_bounds g some, c.decreases),
-      (c.requires.0, right c.requires.1, second_asks h refl (omega (arith, F.auto)) o c.asked-k1.ensures),
+      (c.requires.0, right c.requires.1, second_asks h refl (omega (arith, F.ensures.same)) o c.asked-k1.ensures),
     )
 
-pub returns : goal.returns
-returns t c =
+pub returns-clause-wrote : goal.returns-clause-wrote
+returns-clause-wrote t c =
     let some : 0 < c.args.k = omega (arith, c.if-k-eq0.false) in
     let p = c.pass-a.ensures in
     let F = c.level-then in
     λ σ u g.
     let h = pass_asks g some p in
-    let o = F.ensures σ (left u) (first_asks h refl c.asked-k0.ensures) in
-    pass_gives g some p (sides_give h refl (omega (arith, F.auto)) o (c.level-2.ensures σ (right u) (second_asks h refl (omega (arith, F.auto)) o c.asked-k1.ensures)))
+    let o = F.ensures.wrote σ (left u) (first_asks h refl c.asked-k0.ensures) in
+    pass_gives g some p (sides_give h refl (omega (arith, F.ensures.same)) o (c.level-2.ensures.wrote σ (right u) (second_asks h refl (omega (arith, F.ensures.same)) o c.asked-k1.ensures)))

@@ -31,9 +31,9 @@ overflow_add-end c =
     let p = power_most c.power.ensures (omega (arith, c.stride_at-s.ensures)) in
     omega arith
 
-pub returns : goal.returns
-returns c =
+pub returns-clause-wrote : goal.returns-clause-wrote
+returns-clause-wrote c =
     let b = block_bounds c.requires.1.1.2 c.requires.0 in
     let e : c.args.r ≡ suc (c.args.r - 1) = omega arith in
     let q = c.stride_at-s.ensures in
-    λ w σ t g. own_gives g c.requires.0 q e refl c.power.ensures (c.fill-f.ensures σ t (own_asks g c.requires.0 q e refl))
+    λ w σ t g. own_gives g c.requires.0 q e refl c.power.ensures (c.fill-f.ensures.wrote σ t (own_asks g c.requires.0 q e refl))

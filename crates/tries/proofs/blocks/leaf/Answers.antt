@@ -1,3 +1,5 @@
+use mathlib.Core.Path.{ap}
+use Rattle.walk.specs.Rows.{Lists}
 use native.Mathlib.Omega.{arith}
 use Rattle.tries.proofs.Filling.{power_most, leaf_bounds, leaf_gives}
 use Rattle.tries.proofs.blocks.leaf.Goals as goal
@@ -20,9 +22,9 @@ overflow_add-result c =
     let p = power_most c.power.ensures (omega (arith, c.stride_at-s.ensures)) in
     omega arith
 
-pub returns : goal.returns
-returns c =
-    let W = c.write in
+pub returns-clause-wrote : goal.returns-clause-wrote
+returns-clause-wrote c =
+    let W = c.write.ensures.wrote in
     λ σ t g.
     leaf_gives g c.requires.0 c.args.best c.stride_at-s.ensures c.power.ensures
-    (record { hop = W.ensures.hops; len = W.ensures.lengths; link = W.ensures.links; stride = W.ensures.strides })
+    (record { hop = ap (λ (l : Lists). l.hop) W; len = ap (λ (l : Lists). l.len) W; link = ap (λ (l : Lists). l.link) W; stride = ap (λ (l : Lists). l.stride) W })

@@ -1,23 +1,29 @@
 use Prim.Native.Nat.{ℕ}
-use mathlib.Core.Path.{◌≡◌, ap, ◌∙◌}
+use Rattle.std.proofs.Common.{rules}
+use mathlib.Core.Path.{◌≡◌, ap, refl, ◌∙◌}
 use lib.ListN.{length, replicate}
 use native.Mathlib.Omega.{arith}
-use Rattle.walk.specs.Rows.{lists}
+use Rattle.table.specs.Refusals.{outcome_of}
+use Rattle.table.proofs.Refusals.{handed_on}
+use Rattle.walk.specs.Lent.{held}
 use Rattle.tries.proofs.BuildSteps.{plan_for, early_is, past_is, build_means}
 use Rattle.tries.proofs.building.build.Goals as goal
 
-pub returns-in-Refused : goal.returns-in-Refused
-returns-in-Refused c =
-    let b = early_is c.plan_choice-p.ensures.exact (lists c.args.rowhops.now c.args.rowlens.now c.args.rowlinks.now c.args.rowstrides.now) c.in-Refused.is
-    c.refused.ensures.told c.refused.ensures.empty in record { exact = b; meaning = build_means b }
+pub returns-in_err-p : goal.returns-in_err-p
+unfolding outcome_of
+returns-in_err-p c =
+    let b = early_is c.in_err-p.ensures.exact (held c.args.rows.now) refl in
+    rw (handed_on _ c.from_residual.ensures.1) (record { same = search rules; exact = b; meaning = build_means b })
 
 pub build_rows-built-requires : goal.build_rows-built-requires
-build_rows-built-requires c = (_, _, plan_for c.plan_choice-p.ensures.exact c.in_default.is)
+unfolding outcome_of
+build_rows-built-requires c = (_, _, plan_for c.in_ok-p.ensures.exact refl)
 
 pub returns : goal.returns
+unfolding outcome_of
 returns c =
-    let P = c.plan_choice-p in
-    let told = c.in_default.is in
+    let P = c.plan_choice in
     let e : length P.new.scratch ≡ length c.args.scratch.now = omega (arith, P.auto) in
-    let b = past_is P.ensures.exact (lists c.args.rowhops.now c.args.rowlens.now c.args.rowlinks.now c.args.rowstrides.now) told
-    (c.build_rows-built.ensures _ _ (plan_for P.ensures.exact told)) (c.zero.ensures ∙ ap (λ (n : ℕ). replicate n 0) e) in record { exact = b; meaning = build_means b }
+    let b = past_is c.in_ok-p.ensures.exact (held c.args.rows.now) refl
+    (c.build_rows-built.ensures.done _ _ (plan_for c.in_ok-p.ensures.exact refl)) (c.zero.ensures ∙ ap (λ (n : ℕ). replicate n 0) e) in
+    record { same = search rules; exact = b; meaning = build_means b }
