@@ -9,19 +9,20 @@ use mathlib.Core.Logic.{◌⊎◌, inl, inr, ◌↔◌}
 use native.Mathlib.Omega.{arith}
 use lib.ListN.{length, get_or, replicate}
 use borrow.Author.Tests.{lt-ltb, le-ltb, ltb-true, ltb-false}
-use Rattle.table.specs.Refusals.{Test, outcome, Gives, Numbered, and_then, outcome_number, outcome_detail}
+use Rattle.table.specs.Refusals.{Outcome, Test, outcome, Gives, Numbered, and_then, outcome_number, outcome_detail}
 use Rattle.table.specs.Prefix.{start}
 use Rattle.table.specs.Entry.{unlinked}
 use Rattle.table.specs.Table.{at, table_tests, check_of, Linked}
 use Rattle.table.specs.Longest.{NoPrefix, LongestEntry, LongestDiscards}
-use Rattle.table.specs.declared.entry.Outcome.{Outcome}
-use Rattle.table.specs.declared.entry.Outcome.TheVariants.{Accepted, Refused}
+use Rattle.table.specs.declared.refusal.Refusal.{Refusal}
+use Rattle.table.specs.declared.refusal.Refusal.TheVariants.{Room}
+use Rattle.std.specs.Prelude.{Ok, Err}
 use Rattle.table.proofs.Refusals.{outcome_gives, outcome_append, accepted_parts, gives_outcome, gives_unique, given_exactly, refused_not_accepted}
 use Rattle.table.proofs.Numbered.{refused_number, numbered_append, numbered_table}
 use Rattle.table.proofs.Table.{accepted_linked}
 use Rattle.table.proofs.Unique.{longest_discards, longest_linked}
-use Rattle.walk.specs.declared.walk.Answer.{Answer}
-use Rattle.walk.specs.declared.walk.Answer.TheVariants.{Discard, NoRoute}
+use Rattle.walk.specs.Cases.{Answer}
+use Rattle.walk.specs.Cases.{Discard, NoRoute}
 use Rattle.walk.specs.Limits.{WIDTH}
 use Rattle.walk.specs.Answers.{number_of, hop_of, length_of, reads_of}
 use Rattle.walk.proofs.Answers.{refused_none, discard_by_hop}
@@ -30,7 +31,7 @@ use Rattle.pieces.specs.Maps.{STEP, subtrie_along}
 use Rattle.pieces.specs.Rows.{supernodes_of, bitmap_hops}
 use Rattle.pieces.specs.Depth.{number_on}
 use Rattle.pieces.proofs.RangeCounts.{hops_are_entries}
-use Rattle.visits.specs.declared.looking.Best.{Best}
+use Rattle.visits.specs.Winner.{Best}
 use Rattle.visits.specs.declared.record.Bitmap.{Bitmap}
 use Rattle.visits.specs.Rows.{RowLists, row_room, supernode_at}
 use Rattle.visits.specs.Lookup.{lookup_bitmap_of}
@@ -71,53 +72,53 @@ module _ {W links : ℕ} {vs ls hs scratch : List ℕ} {rows : RowLists} {hops :
   all_tests = gives_outcome (bitmap_tests W links vs ls hs (length scratch) (row_room rows) (length hops)) out b.tested
 
   -- refusals 1 to 6 change no list
-  pub bitmap_refused_early : {n d : ℕ} → Gives tests (Refused n d)
-      → (out ≡ Refused n d) × NoBitmap rec × (s ≡ scratch) × (rows' ≡ rows) × (hops' ≡ hops)
+  pub bitmap_refused_early : {r : Refusal} → Gives tests (Err r)
+      → (out ≡ Err r) × NoBitmap rec × (s ≡ scratch) × (rows' ≡ rows) × (hops' ≡ hops)
   unfolding bitmap_tests and_then
-  bitmap_refused_early {n} {d} g =
-      let t = gives_outcome tests (Refused n d) g in
-      let e : out ≡ Refused n d = all_tests ∙ outcome_append tests room_tests ∙ ap (λ (o : Outcome). and_then o (outcome room_tests)) (sym t) in
+  bitmap_refused_early {r} g =
+      let t = gives_outcome tests (Err r) g in
+      let e : out ≡ Err r = all_tests ∙ outcome_append tests room_tests ∙ ap (λ (o : Outcome). and_then o (outcome room_tests)) (sym t) in
       let kept = b.keeps.refused (λ a. refused_not_accepted (sym e ∙ a)) in
-      (e, kept.0, b.untouched (λ a. refused_not_accepted (gives_unique tests (Refused n d) Accepted g a)), kept.1, kept.2)
+      (e, kept.0, b.untouched (λ a. refused_not_accepted (gives_unique tests (Err r) (Ok tt) g a)), kept.1, kept.2)
 
   -- past them, the outcome is that of the two tests of room
-  pub bitmap_late : Gives tests Accepted → out ≡ outcome room_tests
+  pub bitmap_late : Gives tests (Ok tt) → out ≡ outcome room_tests
   unfolding bitmap_tests and_then
-  bitmap_late g = all_tests ∙ outcome_append tests room_tests ∙ ap (λ (o : Outcome). and_then o (outcome room_tests)) (sym (gives_outcome tests Accepted g))
+  bitmap_late g = all_tests ∙ outcome_append tests room_tests ∙ ap (λ (o : Outcome). and_then o (outcome room_tests)) (sym (gives_outcome tests (Ok tt) g))
 
   -- refusal 7 is given past tests 1 to 6, so it zeroes all scratch; it changes no row and no hop
-  pub bitmap_refused_room : {d : ℕ} → out ≡ Refused 7 d → NoBitmap rec × (s ≡ replicate (length scratch) 0) × (rows' ≡ rows) × (hops' ≡ hops)
+  pub bitmap_refused_room : {d : ℕ} → out ≡ Err (Room d) → NoBitmap rec × (s ≡ replicate (length scratch) 0) × (rows' ≡ rows) × (hops' ≡ hops)
   bitmap_refused_room {d} e =
       let kept = b.keeps.refused (λ a. refused_not_accepted (sym e ∙ a)) in
       (kept.0, b.zeroed (go (outcome tests) refl), kept.1, kept.2)
     where
-      go : (o : Outcome) → outcome tests ≡ o → Gives tests Accepted
-      go Accepted p = subst (Gives tests) p (outcome_gives tests)
-      go (Refused n x) p =
+      go : (o : Outcome) → outcome tests ≡ o → Gives tests (Ok tt)
+      go (Ok tt) p = subst (Gives tests) p (outcome_gives tests)
+      go (Err x) p =
           let g = subst (Gives tests) p (outcome_gives tests) in
-          absurd (omega (arith, refused_number 6 tests n x (numbered_scratch 6 (omega arith) W links vs ls hs (length scratch)) g, ap outcome_number (sym (bitmap_refused_early g).0 ∙ e)))
+          absurd (omega (arith, refused_number 6 tests x (numbered_scratch 6 (omega arith) W links vs ls hs (length scratch)) g, ap outcome_number (sym (bitmap_refused_early g).0 ∙ e)))
 
   -- an accepted build passes 1 to 6, zeroes all scratch, writes the rows and hops that its record counts, and keeps later ones
-  all_passed : out ≡ Accepted → Gives tests Accepted
+  all_passed : out ≡ Ok tt → Gives tests (Ok tt)
   all_passed e = go (outcome tests) refl
     where
-      go : (o : Outcome) → outcome tests ≡ o → Gives tests Accepted
-      go Accepted p = subst (Gives tests) p (outcome_gives tests)
-      go (Refused n x) p = absurd (refused_not_accepted (sym (bitmap_refused_early (subst (Gives tests) p (outcome_gives tests))).0 ∙ e))
+      go : (o : Outcome) → outcome tests ≡ o → Gives tests (Ok tt)
+      go (Ok tt) p = subst (Gives tests) p (outcome_gives tests)
+      go (Err x) p = absurd (refused_not_accepted (sym (bitmap_refused_early (subst (Gives tests) p (outcome_gives tests))).0 ∙ e))
 
-  pub bitmap_accepted : out ≡ Accepted → (s ≡ replicate (length scratch) 0) × ((i : ℕ) → rec.supernodes ≤ i → supernode_at rows' i ≡ supernode_at rows i)
+  pub bitmap_accepted : out ≡ Ok tt → (s ≡ replicate (length scratch) 0) × ((i : ℕ) → rec.supernodes ≤ i → supernode_at rows' i ≡ supernode_at rows i)
       × ((i : ℕ) → rec.hops ≤ i → get_or hops' i 0 ≡ get_or hops i 0)
   bitmap_accepted e = (b.zeroed (all_passed e), b.keeps.later e, b.keeps.later_hop e)
 
   -- the gateway has every hop of a table that is accepted (02, [7])
-  pub bitmap_linked : out ≡ Accepted → Linked links hs
+  pub bitmap_linked : out ≡ Ok tt → Linked links hs
   unfolding up_to_scratch check_of
   bitmap_linked e =
-      accepted_linked W links vs ls hs (accepted_parts (table_tests W links vs ls hs) (nodes_test (table_binary W vs ls hs) (length scratch) ∷ []) (sym (gives_outcome tests Accepted (all_passed e)))).0
+      accepted_linked W links vs ls hs (accepted_parts (table_tests W links vs ls hs) (nodes_test (table_binary W vs ls hs) (length scratch) ∷ []) (sym (gives_outcome tests (Ok tt) (all_passed e)))).0
 
   -- for a well-formed table and enough scratch, it is refused for room exactly when the supernodes exceed the shortest row list, with their
   -- number, or else the hops exceed the hop list, with theirs
-  pub bitmap_room : Gives tests Accepted → (d : ℕ) → (out ≡ Refused 7 d)
+  pub bitmap_room : Gives tests (Ok tt) → (d : ℕ) → (out ≡ Err (Room d))
       ↔ (((row_room rows < length (supernodes_of W (table_binary W vs ls hs))) × (d ≡ length (supernodes_of W (table_binary W vs ls hs))))
       ⊎ ((length (supernodes_of W (table_binary W vs ls hs)) ≤ row_room rows) × (length hops < length (bitmap_hops W (table_binary W vs ls hs)))
       × (d ≡ length (bitmap_hops W (table_binary W vs ls hs)))))
@@ -133,17 +134,17 @@ module _ {W links : ℕ} {vs ls hs scratch : List ℕ} {rows : RowLists} {hops :
       m : ℕ
       m = length (bitmap_hops W (table_binary W vs ls hs))
 
-      to : out ≡ Refused 7 d → Gives room_tests out → ((row_room rows < n) × (d ≡ n)) ⊎ ((n ≤ row_room rows) × (length hops < m) × (d ≡ m))
+      to : out ≡ Err (Room d) → Gives room_tests out → ((row_room rows < n) × (d ≡ n)) ⊎ ((n ≤ row_room rows) × (length hops < m) × (d ≡ m))
       to e (inl (f, q)) = inl (ltb-true _ _ f, ap outcome_detail (sym e ∙ q))
       to e (inr (f, inl (h, q))) = inr (ltb-false _ _ f, ltb-true _ _ h, ap outcome_detail (sym e ∙ q))
       to e (inr (f, inr (h, q))) = absurd (refused_not_accepted (sym e ∙ q))
 
-      given : Gives room_tests (Refused 7 d) → out ≡ Refused 7 d
-      given w = late ∙ sym (gives_outcome room_tests (Refused 7 d) w)
+      given : Gives room_tests (Err (Room d)) → out ≡ Err (Room d)
+      given w = late ∙ sym (gives_outcome room_tests (Err (Room d)) w)
 
-      from : ((row_room rows < n) × (d ≡ n)) ⊎ ((n ≤ row_room rows) × (length hops < m) × (d ≡ m)) → out ≡ Refused 7 d
-      from (inl (h, e)) = given (inl (lt-ltb _ _ h, ap (Refused 7) e))
-      from (inr (l, h, e)) = given (inr (le-ltb _ _ l, inl (lt-ltb _ _ h, ap (Refused 7) e)))
+      from : ((row_room rows < n) × (d ≡ n)) ⊎ ((n ≤ row_room rows) × (length hops < m) × (d ≡ m)) → out ≡ Err (Room d)
+      from (inl (h, e)) = given (inl (lt-ltb _ _ h, ap (λ (n : ℕ). Err (Room n)) e))
+      from (inr (l, h, e)) = given (inr (le-ltb _ _ l, inl (lt-ltb _ _ h, ap (λ (n : ℕ). Err (Room n)) e)))
 
 -- a lookup gives number n exactly when test n is the first that fails, 0 when none does; refused, it has no hop, no length and 0 reads
 module _ {most : ℕ} {rec : Bitmap} {rows : RowLists} {hops : List ℕ} {a : ℕ} where
@@ -181,7 +182,7 @@ module _ {most : ℕ} {rec : Bitmap} {rows : RowLists} {hops : List ℕ} {a : �
 -- ==== demands 2 and 3 over one accepted build, and a lookup over what it left
 
 module _ {W links : ℕ} {vs ls hs scratch : List ℕ} {rows : RowLists} {hops : List ℕ} {out : Outcome} {rec : Bitmap} {s : List ℕ} {rows' : RowLists} {hops' : List ℕ}
-    (b : BuildsBitmap W links vs ls hs scratch rows hops out rec s rows' hops') (e : out ≡ Accepted) where
+    (b : BuildsBitmap W links vs ls hs scratch rows hops out rec s rows' hops') (e : out ≡ Ok tt) where
   -- as many hops as entries
   pub bitmap_hops_lem : rec.hops ≡ length vs
   bitmap_hops_lem = let g = b.laid e in g.built.hop_count ∙ ap (λ (w : ℕ). length (bitmap_hops w (table_binary W vs ls hs))) g.width ∙ hops_are_entries W vs ls hs g.table

@@ -11,8 +11,9 @@ use borrow.Author.Tests.{lt-ltb, le-ltb, ltb-false}
 use Rattle.table.specs.Limits.{width_limit, entry_limit}
 use Rattle.table.specs.Refusals.{outcome, and_then}
 use Rattle.table.specs.Table.{Table, at, table_tests, check_of}
-use Rattle.table.specs.declared.entry.Outcome.{Outcome}
-use Rattle.table.specs.declared.entry.Outcome.TheVariants.{Accepted, Refused}
+use Rattle.table.specs.declared.refusal.Refusal.{Refusal}
+use Rattle.table.specs.declared.refusal.Refusal.TheVariants.{Scratch}
+use Rattle.std.specs.Prelude.{Ok, Err}
 use Rattle.table.proofs.Refusals.{outcome_fails, outcome_passes, outcome_append, accepted_passes, accepted_parts}
 use Rattle.table.proofs.Table.{accepted_table}
 use Rattle.strides.specs.Entries.{with_bit, whole_entry, mark_at}
@@ -36,39 +37,39 @@ module _ (W links : ℕ) (vs ls hs : List ℕ) (words : ℕ) where
   unfolding up_to_scratch check_of
   scratch_rest = outcome_append (table_tests W links vs ls hs) (nodes_test (table_binary W vs ls hs) words ∷ [])
 
-  pub scratch_early : {r : Outcome} {n d : ℕ} → r ≡ check_of W links vs ls hs → r ≡ Refused n d → Refused n d ≡ outcome (up_to_scratch W links vs ls hs words)
+  pub scratch_early : {e : Refusal} → Err e ≡ check_of W links vs ls hs → Err e ≡ outcome (up_to_scratch W links vs ls hs words)
   unfolding and_then
-  scratch_early e f = let c = sym e ∙ f in sym (scratch_rest ∙ rw c refl)
+  scratch_early e = sym (scratch_rest ∙ rw (sym e) refl)
 
-  module _ {r : Outcome} (e : r ≡ check_of W links vs ls hs) (f : r ≡ Accepted) where
+  module _ (e : Ok tt ≡ check_of W links vs ls hs) where
     checked_table : Table W vs ls hs
-    checked_table = accepted_table W links vs ls hs (sym e ∙ f)
+    checked_table = accepted_table W links vs ls hs (sym e)
 
     pub checked_ask : CountAsk W vs ls 0 0 (length vs)
     checked_ask = (0, whole_span W vs ls hs checked_table)
 
     module _ {c : ℕ} (q : CountedNodes W vs ls 0 0 (length vs) c) where
-      pub scratch_short : words / node_row < c → Refused 6 c ≡ outcome (up_to_scratch W links vs ls hs words)
+      pub scratch_short : words / node_row < c → Err (Scratch c) ≡ outcome (up_to_scratch W links vs ls hs words)
       unfolding and_then
       scratch_short h =
           let n = whole_count W vs ls hs c checked_table q in
           let fails = outcome_fails (nodes_test (table_binary W vs ls hs) words) [] (rw (← n) (lt-ltb (words / node_row) c h)) in
-          ap (λ (m : ℕ). Refused 6 m) n ∙ sym (scratch_rest ∙ rw (sym e ∙ f) fails)
+          ap (λ (m : ℕ). Err (Scratch m)) n ∙ sym (scratch_rest ∙ rw (sym e) fails)
 
-      pub scratch_passes : c ≤ words / node_row → Accepted ≡ outcome (up_to_scratch W links vs ls hs words)
+      pub scratch_passes : c ≤ words / node_row → Ok tt ≡ outcome (up_to_scratch W links vs ls hs words)
       unfolding and_then outcome
       scratch_passes h =
           let n = whole_count W vs ls hs c checked_table q in
-          sym (scratch_rest ∙ rw (sym e ∙ f) (outcome_passes (nodes_test (table_binary W vs ls hs) words) [] (rw (← n) (le-ltb (words / node_row) c h))))
+          sym (scratch_rest ∙ rw (sym e) (outcome_passes (nodes_test (table_binary W vs ls hs) words) [] (rw (← n) (le-ltb (words / node_row) c h))))
 
 -- ---- a table that passes
-pub fit_table : (W links : ℕ) (vs ls hs scratch : List ℕ) → ((i : ℕ) → at hs i < HOPS) → outcome (up_to_scratch W links vs ls hs (length scratch)) ≡ Accepted → FitTable W vs ls hs scratch
+pub fit_table : (W links : ℕ) (vs ls hs scratch : List ℕ) → outcome (up_to_scratch W links vs ls hs (length scratch)) ≡ Ok tt → FitTable W vs ls hs scratch
 unfolding up_to_scratch check_of
-fit_table W links vs ls hs scratch small e =
+fit_table W links vs ls hs scratch e =
     let t = table_binary W vs ls hs in
     let p = accepted_parts (table_tests W links vs ls hs) (nodes_test t (length scratch) ∷ []) e in
     let s = ltb-false (length scratch / node_row) (binary_nodes t) (accepted_passes (nodes_test t (length scratch)) [] p.1).0 in
-    record { table = accepted_table W links vs ls hs p.0; small = small; room = omega arith }
+    record { table = accepted_table W links vs ls hs p.0; room = omega arith }
 
 -- ---- its marks are hops
 abbrev SmallMarks : BinaryTrie → Type 0

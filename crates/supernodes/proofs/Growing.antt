@@ -5,8 +5,7 @@ use mathlib.Core.Bool.{cond}
 use mathlib.Core.List.{List}
 use native.Mathlib.Omega.{arith}
 use lib.Dec.{eqb}
-use lib.ListN.{length, get_or, set, length-set}
-use lib.Seq.{get_or-set_same, get_or-set_other}
+use lib.ListN.{length, get_or}
 use borrow.Author.Tests.{eq-eqb, ne_eqb}
 use Rattle.table.specs.Table.{at}
 use Rattle.strides.specs.Entries.{with_bit}
@@ -14,41 +13,7 @@ use Rattle.pieces.specs.BinaryTrie.{BinaryTrie, empty, knot, binary_nodes}
 use Rattle.supernodes.specs.Spans.{Parted, subtree}
 use Rattle.supernodes.specs.Limits.{node_row}
 use Rattle.supernodes.specs.Linked.{NodeWritten, link_at, Packed, GrowIn, GrowAsk, Put, Grown}
-use Rattle.supernodes.proofs.Sides.{first_of, span_empty, tree_is, tree_leaf, first_low, left_span, right_span}
-
-pub pick_taken : (x d a b : ℕ) → x ≡ d → a ≡ cond (eqb x d) a b
-pick_taken x d a b e = rw (eq-eqb x d e) refl
-
-pub pick_left : (x d a b : ℕ) → (x ≡ d → ⊥) → b ≡ cond (eqb x d) a b
-pick_left x d a b e = rw (ne_eqb x d e) refl
-
--- ---- one row
-module _ (rows : List ℕ) (x left right mark : ℕ) {r1 r2 r3 : List ℕ} (e1 : r1 ≡ set rows (x * node_row + 0) left) (e2 : r2 ≡ set r1 (x * node_row + 1) right)
-    (e3 : r3 ≡ set r2 (x * node_row + 2) mark) (h : suc x * node_row ≤ length rows) where
-  on : {a b : List ℕ} (i : ℕ) → a ≡ b → get_or a i 0 ≡ get_or b i 0
-  on i e = ap (λ (l : List ℕ). get_or l i 0) e
-
-  n1 : length r1 ≡ length rows
-  n1 = ap length e1 ∙ length-set rows (x * node_row + 0) left
-
-  n2 : length r2 ≡ length rows
-  n2 = ap length e2 ∙ length-set r1 (x * node_row + 1) right ∙ n1
-
-  others : (i : ℕ) → (i ≡ x * node_row + 0 → ⊥) → (i ≡ x * node_row + 1 → ⊥) → (i ≡ x * node_row + 2 → ⊥) → get_or r3 i 0 ≡ get_or rows i 0
-  others i a b c = on i e3 ∙ get_or-set_other r2 (x * node_row + 2) i mark 0 c ∙ on i e2 ∙ get_or-set_other r1 (x * node_row + 1) i right 0 b ∙ on i e1
-      ∙ get_or-set_other rows (x * node_row + 0) i left 0 a
-
-  pub node_written : NodeWritten rows x left right mark r3
-  node_written = record {
-    own_left = on (x * node_row + 0) e3 ∙ get_or-set_other r2 (x * node_row + 2) (x * node_row + 0) mark 0 (λ z. omega arith)
-        ∙ on (x * node_row + 0) e2 ∙ get_or-set_other r1 (x * node_row + 1) (x * node_row + 0) right 0 (λ z. omega arith)
-        ∙ on (x * node_row + 0) e1 ∙ get_or-set_same rows (x * node_row + 0) left 0 (omega arith);
-    own_right = on (x * node_row + 1) e3 ∙ get_or-set_other r2 (x * node_row + 2) (x * node_row + 1) mark 0 (λ z. omega arith)
-        ∙ on (x * node_row + 1) e2 ∙ get_or-set_same r1 (x * node_row + 1) right 0 (omega (arith, n1));
-    own_mark = on (x * node_row + 2) e3 ∙ get_or-set_same r2 (x * node_row + 2) mark 0 (omega (arith, n2));
-    before = λ i l. others i (λ z. omega arith) (λ z. omega arith) (λ z. omega arith);
-    after = λ i l. others i (λ z. omega arith) (λ z. omega arith) (λ z. omega arith);
-  }
+use Rattle.supernodes.proofs.Sides.{first_of, deeper, span_empty, tree_is, tree_leaf, first_low, left_span, right_span}
 
 -- ---- what stands stays where its rows stay
 pub packed_stays : (t : BinaryTrie) (rows rows' : List ℕ) (x : ℕ)
@@ -70,13 +35,10 @@ link_is empty x next e f = f ∙ rw (eq-eqb x next (omega arith)) refl
 link_is (knot m l r) x next e f = f ∙ rw (ne_eqb x next (λ z. omega arith)) refl
 
 -- ---- the writer
-module _ (W : ℕ) (vs ls hs : List ℕ) (d from to used : ℕ) where
-  abbrev sub : ℕ → ℕ → BinaryTrie
-  sub = subtree W vs ls (at hs)
-
-  pub grow_none : (rows : List ℕ) → from ≡ to → Grown rows W vs ls hs d from to used used rows
+module _ {W : ℕ} {vs ls hs : List ℕ} {d from to used : ℕ} where
+  pub grow_none : {rows : List ℕ} → from ≡ to → Grown rows W vs ls hs d from to used used rows
   unfolding binary_nodes
-  grow_none rows e q g = rw (span_empty g.span e (at hs)) (record { end = omega arith; packed = tt; before = λ i l. refl; after = λ i l. refl })
+  grow_none e q g = rw (span_empty g.span e (at hs)) (record { end = omega arith; packed = tt; before = λ i l. refl; after = λ i l. refl })
 
   module _ {rows : List ℕ} (c : GrowAsk rows W vs ls hs d from to used) (ne : from ≡ to → ⊥) where
     pub some_node : from < to
@@ -101,16 +63,20 @@ module _ (W : ℕ) (vs ls hs : List ℕ) (d from to used : ℕ) where
         pub more_nodes : first < to
         more_nodes = omega (arith, first_low c.1.span some_node first e)
 
+        -- a bit is left where they part
+        pub node_bit_left : d < W
+        node_bit_left = deeper c.1.span some_node e more_nodes
+
         module _ {mid n : ℕ} (u : n ≡ W - d - 1) (p : Parted vs n first to mid) {d' used' : ℕ} (v : d' ≡ suc d) (y : used' ≡ suc used) where
           module _ (q : ℕ) (g : GrowIn rows W vs ls hs d q from to used) where
-            size_is : binary_nodes (sub d q) ≡ suc (binary_nodes (sub d' (with_bit q 0)) + binary_nodes (sub d' (with_bit q 1)))
+            size_is : binary_nodes (subtree W vs ls (at hs) d q) ≡ suc (binary_nodes (subtree W vs ls (at hs) d' (with_bit q 0)) + binary_nodes (subtree W vs ls (at hs) d' (with_bit q 1)))
             unfolding binary_nodes
             size_is = rw v (ap binary_nodes (tree_is g.span some_node (at hs)))
 
             left_in : GrowIn rows W vs ls hs d' (with_bit q 0) first mid used'
             left_in = record { span = left_span g.span some_node e u more_nodes p v; hops = g.hops; room = omega (arith, g.room, size_is) }
 
-            right_in : {rows1 : List ℕ} {next : ℕ} → length rows1 ≡ length rows → Put rows used' (sub d' (with_bit q 0)) next rows1
+            right_in : {rows1 : List ℕ} {next : ℕ} → length rows1 ≡ length rows → Put rows used' (subtree W vs ls (at hs) d' (with_bit q 0)) next rows1
                 → GrowIn rows1 W vs ls hs d' (with_bit q 1) mid to next
             right_in l o = record { span = right_span g.span some_node e u more_nodes p v; hops = g.hops; room = omega (arith, g.room, size_is, o.end) }
 
@@ -136,13 +102,13 @@ module _ (W : ℕ) (vs ls hs : List ℕ) (d from to used : ℕ) where
                   let o2 = b (with_bit q 1) (right_in q g l1 o) in
                   whole q g o o2 (tree_is g.span some_node (at hs))
                 where
-                  whole : (q : ℕ) (g : GrowIn rows W vs ls hs d q from to used) → Put rows used' (sub d' (with_bit q 0)) next rows1
-                      → Put rows1 next (sub d' (with_bit q 1)) end rows2
-                      → sub d q ≡ knot (cond (eqb (at ls from) d) (at hs from) 0) (sub (suc d) (with_bit q 0)) (sub (suc d) (with_bit q 1))
-                      → Put rows used (sub d q) end rows3
+                  whole : (q : ℕ) (g : GrowIn rows W vs ls hs d q from to used) → Put rows used' (subtree W vs ls (at hs) d' (with_bit q 0)) next rows1
+                      → Put rows1 next (subtree W vs ls (at hs) d' (with_bit q 1)) end rows2
+                      → subtree W vs ls (at hs) d q ≡ knot (cond (eqb (at ls from) d) (at hs from) 0) (subtree W vs ls (at hs) (suc d) (with_bit q 0)) (subtree W vs ls (at hs) (suc d) (with_bit q 1))
+                      → Put rows used (subtree W vs ls (at hs) d q) end rows3
                   whole q g o o2 t =
-                      let l = sub (suc d) (with_bit q 0) in
-                      let r = sub (suc d) (with_bit q 1) in
+                      let l = subtree W vs ls (at hs) (suc d) (with_bit q 0) in
+                      let r = subtree W vs ls (at hs) (suc d) (with_bit q 1) in
                       let a1 : Put rows (suc used) l next rows1 = rw (v, y) at o in
                       let a2 : Put rows1 next r end rows2 = rw v at o2 in
                       rw t (record {

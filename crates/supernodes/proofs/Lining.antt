@@ -100,9 +100,6 @@ module _ {rows : List ℕ} {k c tail : ℕ} where
     pub push_room : PushAsk rows k c tail → c ≡ 0 → (tail + 1) * node_row ≤ length rows
     push_room (tree, used, g) e = omega (arith, ap length (one_below tree used g e), g.room, g.nodes.fits)
 
-    pub push_fits : PushAsk rows k c tail → k * node_row ≤ length rows
-    push_fits (tree, used, g) = omega (arith, g.link, g.nodes.fits)
-
     pub push_here : {rows1 : List ℕ} → c ≡ 0 → rows1 ≡ set rows (tail * node_row + 3) k → Pushed rows k c tail (tail + 1) rows1
     unfolding queued
     push_here {rows1} e s tree used g =

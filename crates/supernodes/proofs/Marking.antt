@@ -1,10 +1,10 @@
 -- One supernode's maps and hops: bit after bit, mark after mark; then that the links of its places tell what its trie does.
-use Prim.Native.Nat.{ℕ, zero, suc, ◌+◌, ◌*◌, ◌%◌, ◌^◌, ◌≤◌, ◌<◌, zero-le}
+use Prim.Native.Nat.{ℕ, zero, suc, ◌+◌, ◌*◌, ◌^◌, ◌≤◌, ◌<◌, zero-le}
 use mathlib.Core.Path.{◌≡◌, refl, sym, ap, subst, ◌∙◌}
 use mathlib.Core.Bool.{Bool, true, false}
 use mathlib.Core.List.{List, [], ◌∷◌, ◌++◌}
 use mathlib.Core.Logic.{⊎_elim}
-use native.Mathlib.Nat.{le_refl, one-mul, eq-or-lt_of_le}
+use native.Mathlib.Nat.{le_refl, eq-or-lt_of_le}
 use native.Mathlib.Numerals.{add-one}
 use native.Mathlib.Omega.{arith}
 use lib.Count.{ones}
@@ -12,11 +12,9 @@ use lib.Dec.{ltb}
 use lib.Pow.{pow_mono}
 use lib.ListN.{length, length-append, get_or, set, length-set}
 use lib.Seq.{get_or-set_same, get_or-set_other}
-use borrow.Author.Tests.{eq-eqb, ne_eqb, lt-ltb}
-use Rattle.table.proofs.Shifts.{one_shl}
+use borrow.Author.Tests.{lt-ltb}
 use Rattle.pieces.specs.BinaryTrie.{BinaryTrie, mark}
 use Rattle.pieces.specs.Maps.{INTERNAL, EXTERNAL, digit, map_of, count_set, subtrie_at, is_node, internal_map, external_map, if_mark, marks_to, kids, marks}
-use Rattle.pieces.specs.Rows.{if_any}
 use Rattle.pieces.proofs.Bits.{map_lt}
 use Rattle.pieces.proofs.Counted.{ones_map}
 use Rattle.pieces.proofs.Inside.{length_kids}
@@ -26,20 +24,7 @@ use Rattle.supernodes.specs.Spots.{all_places, PlaceAsk, PlacesFound}
 use Rattle.supernodes.specs.Marking.{LinksFit, place_mark, marked_place, taken_branch, place_marks, HopsPut, HopsIn, row_with, RowSet, SupernodeIn, SupernodeAsk, SupernodeDone}
 use Rattle.supernodes.proofs.Linking.{column_is}
 
--- ---- a first number, where the map has a bit
-pub number_none : (map x : ℕ) → map ≡ 0 → 0 ≡ if_any map x
-number_none map x e = rw (eq-eqb map 0 e) refl
-
-pub number_some : (map x : ℕ) → (map ≡ 0 → ⊥) → x ≡ if_any map x
-number_some map x e = rw (ne_eqb map 0 e) refl
-
 -- ---- one bit more
-pub bit_on : (i : ℕ) {on : Bool} → on ≡ true → i < 16 → (1 * 2 ^ i) % 65536 ≡ digit on * 2 ^ i
-bit_on i e h = rw e (one_shl 16 i h ∙ sym (one-mul (2 ^ i)))
-
-pub bit_off : (i : ℕ) {on : Bool} → on ≡ false → 0 ≡ digit on * 2 ^ i
-bit_off i e = rw e (omega arith)
-
 pub map_none : (f : ℕ → Bool) → 0 ≡ map_of 0 f
 unfolding map_of
 map_none f = refl
@@ -216,11 +201,6 @@ module _ (rows : List ℕ) (i : ℕ) {k : ℕ} (e : k ≡ node_column rows (i + 
           small = λ j m. let a = w.each tree used n l j m in rw (link_mark tree used rows n (get_or p j 0) a.0) (g.small (get_or p j 0));
           room = rw (marks_are n l w, same_tree tree used g) g.hop_room;
         }
-
-    -- the number of children
-    pub supernode_kids : {below : ℕ} → SupernodeAsk rows i child hop lists hops → below ≡ map_of EXTERNAL (taken_branch p) → ones below ≤ EXTERNAL
-    supernode_kids (tree, used, g) f =
-        rw (f ∙ external_is g.nodes (link_used tree used g) w) (omega (arith, kids_ones (tree k), kids_most (tree k)))
 
     pub supernode_put : {own below child' hop' : ℕ} {lists' : RowLists} {hops' : List ℕ} → own ≡ map_of INTERNAL (marked_place rows p)
         → below ≡ map_of EXTERNAL (taken_branch p) → RowSet lists i (row_with own below child hop) lists' → child' ≡ child + ones below

@@ -1,14 +1,13 @@
 -- The ranges of a sorted table: what the two sides of a node are, and how many nodes stand below.
-use Prim.Native.Nat.{ℕ, zero, suc, ◌+◌, ◌-◌, ◌*◌, ◌/◌, ◌%◌, ◌^◌, ◌≤◌, ◌<◌}
+use Prim.Native.Nat.{ℕ, suc, ◌+◌, ◌-◌, ◌*◌, ◌/◌, ◌%◌, ◌^◌, ◌≤◌, ◌<◌}
 use mathlib.Core.Path.{◌≡◌, refl, sym, ap, subst, ◌∙◌}
-use mathlib.Core.Bool.{Bool, true, false, cond, true≢false}
+use mathlib.Core.Bool.{Bool, true, false, cond}
 use mathlib.Core.List.{List}
-use mathlib.Core.Logic.{⊎_elim}
-use native.Mathlib.Nat.{le_refl, mul-le-mul, eq-or-lt_of_le}
+use native.Mathlib.Nat.{le_refl, mul-le-mul}
 use native.Mathlib.Omega.{arith}
 use lib.Dec.{eqb}
 use lib.ListN.{length}
-use borrow.Author.Tests.{lt-ltb, eqb-true}
+use borrow.Author.Tests.{lt-ltb}
 use Rattle.table.specs.Limits.{width_limit, entry_limit}
 use Rattle.table.specs.Prefix.{start}
 use Rattle.table.specs.Table.{at}
@@ -117,32 +116,12 @@ module _ {W : ℕ} {vs ls : List ℕ} {d q from to : ℕ} (s : Span W vs ls d q 
           (right_range W (at vs) (at ls) mark (length vs) s.table.prefix s.table.sorted d q from to s.range to t) (suc W - suc d) refl in
           tree_is mark ∙ rw (x, y) refl
 
--- ---- where the bit turns
-pub parted_stop : (vs : List ℕ) (n from to i : ℕ) (inv : (from ≤ i) × (i ≤ to) × ((j : ℕ) → from ≤ j → j < i → at vs j / 2 ^ n % 2 ≡ 0)) {t : Bool}
-    → t ≡ eqb (at vs i / 2 ^ n % 2) 1 → t ≡ true → Parted vs n from to i
-parted_stop vs n from to i inv e f = record { low = inv.0; high = inv.1; zeros = inv.2; one = λ h. eqb-true _ _ (sym e ∙ f) }
-
-pub parted_end : (vs : List ℕ) (n from to i : ℕ) → (from ≤ i) × (i ≤ to) × ((j : ℕ) → from ≤ j → j < i → at vs j / 2 ^ n % 2 ≡ 0) → to ≤ i → Parted vs n from to i
-parted_end vs n from to i inv h = record { low = inv.0; high = inv.1; zeros = inv.2; one = λ l. absurd (omega arith) }
-
-pub parted_go : (vs : List ℕ) (n from to i : ℕ) → (from ≤ i) × (i ≤ to) × ((j : ℕ) → from ≤ j → j < i → at vs j / 2 ^ n % 2 ≡ 0) → i < to → {t : Bool}
-    → t ≡ eqb (at vs i / 2 ^ n % 2) 1 → t ≡ false → (from ≤ i + 1) × (i + 1 ≤ to) × ((j : ℕ) → from ≤ j → j < i + 1 → at vs j / 2 ^ n % 2 ≡ 0)
-parted_go vs n from to i inv l e f = (omega (arith, inv.0), omega arith, zeros)
-  where
-    small : (x : ℕ) → x < 2 → eqb x 1 ≡ false → x ≡ 0
-    small zero h g = refl
-    small (suc zero) h g = absurd (true≢false g)
-    small (suc (suc x)) h g = absurd (omega arith)
-
-    zeros : (j : ℕ) → from ≤ j → j < i + 1 → at vs j / 2 ^ n % 2 ≡ 0
-    zeros j a b = ⊎_elim (λ (z : j ≡ i). rw z (small _ (omega arith) (sym e ∙ f))) (λ (z : j < i). inv.2 j a z) (eq-or-lt_of_le (omega arith))
-
 -- ---- the count of nodes
-pub nodes_none : (W : ℕ) (vs ls : List ℕ) (d from to : ℕ) → from ≡ to → CountedNodes W vs ls d from to 0
+pub nodes_none : {W : ℕ} {vs ls : List ℕ} {d from to : ℕ} → from ≡ to → CountedNodes W vs ls d from to 0
 unfolding binary_nodes
-nodes_none W vs ls d from to e q s mark = rw (span_empty s e mark) refl
+nodes_none e q s mark = rw (span_empty s e mark) refl
 
-module _ (W : ℕ) (vs ls : List ℕ) (d from to : ℕ) (c : CountAsk W vs ls d from to) (ne : from ≡ to → ⊥) {first : ℕ} (e : first ≡ first_of ls d from) where
+module _ {W : ℕ} {vs ls : List ℕ} {d from to : ℕ} (c : CountAsk W vs ls d from to) (ne : from ≡ to → ⊥) {first : ℕ} (e : first ≡ first_of ls d from) where
   pub some_entry : from < to
   some_entry = omega (arith, c.1.range.ordered)
 
@@ -153,6 +132,10 @@ module _ (W : ℕ) (vs ls : List ℕ) (d from to : ℕ) (c : CountAsk W vs ls d 
   module _ (ne2 : first ≡ to → ⊥) where
     pub more_entries : first < to
     more_entries = omega (arith, first_low c.1 some_entry first e)
+
+    -- a bit is left where they part
+    pub bit_left : d < W
+    bit_left = deeper c.1 some_entry e more_entries
 
     module _ {mid n : ℕ} (k : n ≡ W - d - 1) (p : Parted vs n first to mid) {d' : ℕ} (g : d' ≡ suc d) where
       pub left_ask : CountAsk W vs ls d' first mid
@@ -174,9 +157,9 @@ module _ (W : ℕ) (vs ls : List ℕ) (d from to : ℕ) (c : CountAsk W vs ls d 
             whole q s mark t i j = rw t (omega (arith, rw g at i, rw g at j))
 
 -- what the sum of two counts is at most
-pub nodes_few : (W : ℕ) (vs ls : List ℕ) (d from to r : ℕ) → CountAsk W vs ls d from to → CountedNodes W vs ls d from to r → r ≤ NODES
+pub nodes_few : {W : ℕ} {vs ls : List ℕ} {d from to r : ℕ} → CountAsk W vs ls d from to → CountedNodes W vs ls d from to r → r ≤ NODES
 unfolding subtree
-nodes_few W vs ls d from to r (q, s) x =
+nodes_few {W} {vs} {ls} {d} {from} {to} (q, s) x =
     let f = span_low s in
     let one : ℕ → ℕ = λ i. 1 in
     let n = range_nodes W (at vs) (at ls) one (length vs) s.table.prefix s.table.sorted (λ i h. omega arith) (suc W - d) d q from to s.range (omega (arith, s.deep)) in

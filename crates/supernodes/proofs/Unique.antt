@@ -8,9 +8,8 @@ use native.Mathlib.Decide.{dec_le}
 use mathlib.Core.Logic.{⊎_elim}
 use lib.ListN.{length, get_or}
 use lib.Seq.{ext_get_or}
-use Rattle.table.specs.Refusals.{Test, outcome, Gives}
-use Rattle.table.specs.declared.entry.Outcome.{Outcome}
-use Rattle.table.specs.declared.entry.Outcome.TheVariants.{Accepted, Refused}
+use Rattle.table.specs.Refusals.{Outcome, Test, outcome, Gives}
+use Rattle.std.specs.Prelude.{Ok, Err}
 use Rattle.table.proofs.Refusals.{outcome_gives, gives_unique, gives_outcome, refused_not_accepted}
 use Rattle.pieces.specs.BinaryTrie.{BinaryTrie, table_binary}
 use Rattle.pieces.specs.Rows.{SupernodeRow, supernodes_of, bitmap_rows, bitmap_hops}
@@ -54,12 +53,12 @@ module _ (W links : ℕ) (vs ls hs scratch : List ℕ) (rows : RowLists) (hops :
       tests = up_to_scratch W links vs ls hs (length scratch)
 
       go : (o : Outcome) → outcome tests ≡ o → s ≡ s'
-      go Accepted e = let a = subst (Gives tests) e (outcome_gives tests) in c.zeroed a ∙ sym (d.zeroed a)
-      go (Refused n x) e =
-          let ne : Gives tests Accepted → ⊥ = λ a. refused_not_accepted (sym e ∙ sym (gives_outcome tests Accepted a)) in
+      go (Ok tt) e = let a = subst (Gives tests) e (outcome_gives tests) in c.zeroed a ∙ sym (d.zeroed a)
+      go (Err x) e =
+          let ne : Gives tests (Ok tt) → ⊥ = λ a. refused_not_accepted (sym e ∙ sym (gives_outcome tests (Ok tt) a)) in
           c.untouched ne ∙ sym (d.untouched ne)
 
-  accepted_bitmap : out ≡ Accepted → out' ≡ Accepted → (rec ≡ rec') × (rows1 ≡ rows2) × (hops1 ≡ hops2)
+  accepted_bitmap : out ≡ Ok tt → out' ≡ Ok tt → (rec ≡ rec') × (rows1 ≡ rows2) × (hops1 ≡ hops2)
   unfolding bitmap_rows
   accepted_bitmap e e' =
       let l = c.laid e in
@@ -91,7 +90,7 @@ module _ (W links : ℕ) (vs ls hs scratch : List ℕ) (rows : RowLists) (hops :
         ext_get_or 0 hops1 hops2 (k.hop_rows ∙ sym k'.hop_rows) (λ i h. hop i),
       )
 
-  refused_bitmap : (out ≡ Accepted → ⊥) → (out' ≡ Accepted → ⊥) → (rec ≡ rec') × (rows1 ≡ rows2) × (hops1 ≡ hops2)
+  refused_bitmap : (out ≡ Ok tt → ⊥) → (out' ≡ Ok tt → ⊥) → (rec ≡ rec') × (rows1 ≡ rows2) × (hops1 ≡ hops2)
   refused_bitmap ne ne' =
       let r = c.keeps.refused ne in
       let r' = d.keeps.refused ne' in (
@@ -107,6 +106,6 @@ module _ (W links : ℕ) (vs ls hs scratch : List ℕ) (rows : RowLists) (hops :
       (o, r.0, one_scratch, r.1, r.2)
     where
       rest : (x : Outcome) → out ≡ x → out ≡ out' → (rec ≡ rec') × (rows1 ≡ rows2) × (hops1 ≡ hops2)
-      rest Accepted e o = accepted_bitmap e (sym o ∙ e)
-      rest (Refused n z) e o =
-          refused_bitmap (λ (a : out ≡ Accepted). refused_not_accepted (sym e ∙ a)) (λ (a : out' ≡ Accepted). refused_not_accepted (sym e ∙ o ∙ a))
+      rest (Ok tt) e o = accepted_bitmap e (sym o ∙ e)
+      rest (Err z) e o =
+          refused_bitmap (λ (a : out ≡ Ok tt). refused_not_accepted (sym e ∙ a)) (λ (a : out' ≡ Ok tt). refused_not_accepted (sym e ∙ o ∙ a))

@@ -1,9 +1,9 @@
 -- The build of tree bitmap arrays (02 [1]; 01, "Refusals"): its tests; what it hands back, and what each lent list then holds.
-use Rattle.std.specs.Prelude.{◌≡◌, List, [], ◌∷◌, ◌++◌, ℕ, ◌/◌, ◌≤◌, ltb, length, get_or, replicate}
-use Rattle.table.specs.Refusals.{Test, test, outcome, Gives}
+use Rattle.std.specs.Prelude.{◌≡◌, List, [], ◌∷◌, ◌++◌, ℕ, ◌/◌, ◌≤◌, ltb, length, get_or, replicate, Result, Ok, Err}
+use Rattle.table.specs.Refusals.{Outcome, Test, test, outcome, Gives}
 use Rattle.table.specs.Table.{table_tests}
-use Rattle.table.specs.declared.entry.Outcome.{Outcome}
-use Rattle.table.specs.declared.entry.Outcome.TheVariants.{Accepted}
+use Rattle.table.specs.declared.refusal.Refusal.{Refusal}
+use Rattle.table.specs.declared.refusal.Refusal.TheVariants.{Scratch, Room}
 use Rattle.walk.specs.Limits.{WIDTH}
 use Rattle.pieces.specs.BinaryTrie.{BinaryTrie, binary_nodes, table_binary}
 use Rattle.pieces.specs.Rows.{supernodes_of, bitmap_hops}
@@ -17,14 +17,14 @@ use Rattle.supernodes.specs.Limits.{node_row}
 
 -- 6: scratch of so many numbers has fewer whole rows than the trie has nodes; the detail is the rows needed
 abbrev pub nodes_test : (t : BinaryTrie) (words : ℕ) → Test
-nodes_test t words = test 6 (binary_nodes t) (ltb (words / node_row) (binary_nodes t))
+nodes_test t words = test (Scratch (binary_nodes t)) (ltb (words / node_row) (binary_nodes t))
 
 -- 7: fewer rows than supernodes; then fewer hop rows than hops
 abbrev pub supernodes_test : (W : ℕ) (t : BinaryTrie) (room : ℕ) → Test
-supernodes_test W t room = test 7 (length (supernodes_of W t)) (ltb room (length (supernodes_of W t)))
+supernodes_test W t room = test (Room (length (supernodes_of W t))) (ltb room (length (supernodes_of W t)))
 
 abbrev pub hops_test : (W : ℕ) (t : BinaryTrie) (room : ℕ) → Test
-hops_test W t room = test 7 (length (bitmap_hops W t)) (ltb room (length (bitmap_hops W t)))
+hops_test W t room = test (Room (length (bitmap_hops W t))) (ltb room (length (bitmap_hops W t)))
 
 -- 1, 3, 4, 5, 6; both of 7; all, where scratch has so many words, the shortest row list so much room, and the hop list so much
 unfoldable pub up_to_scratch : (W links : ℕ) (vs ls hs : List ℕ) (words : ℕ) → List Test
@@ -44,6 +44,11 @@ pub record NoBitmap (rec : Bitmap) : Type 0 where
   pub supernodes : rec.supernodes ≡ 0
   pub hops : rec.hops ≡ 0
 
+-- the record of an answer
+abbrev pub record_of : Result Bitmap Refusal → Bitmap
+record_of (Ok rec) = rec
+record_of (Err refusal) = record { width = 0; supernodes = 0; hops = 0 }
+
 -- what the lists then hold besides the rows and hops built: refused, what they held; accepted, later ones are kept
 pub record KeepsBitmap (rows : RowLists) (hops : List ℕ) (out : Outcome) (rec : Bitmap) (rows' : RowLists) (hops' : List ℕ) : Type 0 where
   pub internal : length rows'.internal ≡ length rows.internal
@@ -51,14 +56,14 @@ pub record KeepsBitmap (rows : RowLists) (hops : List ℕ) (out : Outcome) (rec 
   pub first_child : length rows'.first_child ≡ length rows.first_child
   pub first_hop : length rows'.first_hop ≡ length rows.first_hop
   pub hop_rows : length hops' ≡ length hops
-  pub later : out ≡ Accepted → (i : ℕ) → rec.supernodes ≤ i → supernode_at rows' i ≡ supernode_at rows i
-  pub later_hop : out ≡ Accepted → (i : ℕ) → rec.hops ≤ i → get_or hops' i 0 ≡ get_or hops i 0
-  pub refused : (out ≡ Accepted → ⊥) → NoBitmap rec × (rows' ≡ rows) × (hops' ≡ hops)
+  pub later : out ≡ Ok tt → (i : ℕ) → rec.supernodes ≤ i → supernode_at rows' i ≡ supernode_at rows i
+  pub later_hop : out ≡ Ok tt → (i : ℕ) → rec.hops ≤ i → get_or hops' i 0 ≡ get_or hops i 0
+  pub refused : (out ≡ Ok tt → ⊥) → NoBitmap rec × (rows' ≡ rows) × (hops' ≡ hops)
 
 -- the record and the lists: accepted, what the table's supernodes are
 pub record BitmapWritten (W : ℕ) (vs ls hs : List ℕ) (rows : RowLists) (hops : List ℕ)
     (out : Outcome) (rec : Bitmap) (rows' : RowLists) (hops' : List ℕ) : Type 0 where
-  pub laid : out ≡ Accepted → LaidBitmap WIDTH W vs ls hs rec rows' hops'
+  pub laid : out ≡ Ok tt → LaidBitmap WIDTH W vs ls hs rec rows' hops'
   pub keeps : KeepsBitmap rows hops out rec rows' hops'
 
 -- past test 6: both of 7, then the rows
@@ -71,15 +76,15 @@ pub record BitmapFilled (W : ℕ) (vs ls hs : List ℕ) (rows : RowLists) (hops 
 pub record BitmapIs (W links : ℕ) (vs ls hs scratch : List ℕ) (rows : RowLists) (hops : List ℕ) (out : Outcome) (rec : Bitmap) (scratch' : List ℕ)
     (rows' : RowLists) (hops' : List ℕ) : Type 0 where
   pub tests : out ≡ outcome (bitmap_tests W links vs ls hs (length scratch) (row_room rows) (length hops))
-  pub zeroed : outcome (up_to_scratch W links vs ls hs (length scratch)) ≡ Accepted → scratch' ≡ replicate (length scratch) 0
-  pub untouched : (outcome (up_to_scratch W links vs ls hs (length scratch)) ≡ Accepted → ⊥) → scratch' ≡ scratch
+  pub zeroed : outcome (up_to_scratch W links vs ls hs (length scratch)) ≡ Ok tt → scratch' ≡ replicate (length scratch) 0
+  pub untouched : (outcome (up_to_scratch W links vs ls hs (length scratch)) ≡ Ok tt → ⊥) → scratch' ≡ scratch
   pub written : BitmapWritten W vs ls hs rows hops out rec rows' hops'
 
 -- what it means: the first test that fails; accepted, the rows and hops of the table's supernodes; scratch unchanged by 1 to 6, else all zero
 pub record BuildsBitmap (W links : ℕ) (vs ls hs scratch : List ℕ) (rows : RowLists) (hops : List ℕ) (out : Outcome) (rec : Bitmap) (scratch' : List ℕ)
     (rows' : RowLists) (hops' : List ℕ) : Type 0 where
   pub tested : Gives (bitmap_tests W links vs ls hs (length scratch) (row_room rows) (length hops)) out
-  pub laid : out ≡ Accepted → LaidBitmap WIDTH W vs ls hs rec rows' hops'
-  pub zeroed : Gives (up_to_scratch W links vs ls hs (length scratch)) Accepted → scratch' ≡ replicate (length scratch) 0
-  pub untouched : (Gives (up_to_scratch W links vs ls hs (length scratch)) Accepted → ⊥) → scratch' ≡ scratch
+  pub laid : out ≡ Ok tt → LaidBitmap WIDTH W vs ls hs rec rows' hops'
+  pub zeroed : Gives (up_to_scratch W links vs ls hs (length scratch)) (Ok tt) → scratch' ≡ replicate (length scratch) 0
+  pub untouched : (Gives (up_to_scratch W links vs ls hs (length scratch)) (Ok tt) → ⊥) → scratch' ≡ scratch
   pub keeps : KeepsBitmap rows hops out rec rows' hops'

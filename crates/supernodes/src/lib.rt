@@ -11,6 +11,6 @@ mod queue;
 mod ranges;
 mod rows;
 
-pub use building::{BuiltBitmap, build_bitmap};
+pub use building::build_bitmap;
 pub use limits::NODE_ROW;
-pub use visits::{Bitmap, lookup_bitmap};
+pub use visits::{Bitmap, Supernodes, SupernodesMut, find_bitmap, lookup_bitmap};

@@ -18,29 +18,28 @@ fn bit_if(on: bool, i: usize) -> u16
 }
 
 // The internal map: which of its own places have an entry.
+#[tactic(auto, using(crate::proofs::Marking::map_none, crate::proofs::Marking::map_more, crate::proofs::Marking::map_fits))]
 pub(crate) fn internal_map(rows: &[u64], p: &[usize; PLACES]) -> u16
     requires { LinksFit rows.now p.now }
     ensures { result ≡ map_of INTERNAL (marked_place rows.now p.now) }
 {
     let mut map = 0u16;
-    let mut i = 0;
-    while i < INTERNAL {
+    for i in 0..INTERNAL {
         map += bit_if(0 < asked(rows, p[i], MARK), i);
-        i += 1;
     }
     map
 }
 
-// The external map: behind which of its branches a child begins.
+// The external map: behind which of its branches a child begins. (A loop of its own: one over any test would want that test's contract
+// beside it, which is longer than the loop.)
+#[tactic(auto, using(crate::proofs::Marking::map_none, crate::proofs::Marking::map_more, crate::proofs::Marking::map_fits))]
 pub(crate) fn external_map(p: &[usize; PLACES]) -> u16
     requires { length p.now ≡ all_places }
     ensures { result ≡ map_of EXTERNAL (taken_branch p.now) }
 {
     let mut map = 0u16;
-    let mut i = 0;
-    while i < EXTERNAL {
+    for i in 0..EXTERNAL {
         map += bit_if(0 < p[INTERNAL + i], i);
-        i += 1;
     }
     map
 }
@@ -58,15 +57,14 @@ fn put_hop(hops: &mut [u16], next: usize, mark: usize) -> usize
 }
 
 // The marks of its own places in level order become hops, from number `first` on; returns the number after the last.
+#[tactic(auto, using(crate::proofs::Marking::put_none, crate::proofs::Marking::marks_first, crate::proofs::Marking::mark_room))]
 pub(crate) fn put_hops(rows: &[u64], p: &[usize; PLACES], hops: &mut [u16], first: usize) -> usize
     requires { HopsIn rows.now p.now hops.old first }
     ensures { HopsPut hops.old first (place_marks rows.now p.now INTERNAL) result hops.new }
 {
     let mut next = first;
-    let mut i = 0;
-    while i < INTERNAL {
+    for i in 0..INTERNAL {
         next = put_hop(hops, next, asked(rows, p[i], MARK));
-        i += 1;
     }
     next
 }

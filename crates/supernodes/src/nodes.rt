@@ -1,13 +1,17 @@
-// The nodes of the binary trie in scratch rows of four numbers: left link, right link, mark, queue. A link is a row and one, 0 is none.
-// Rows are written in preorder.
+// The nodes of the binary trie in scratch rows of four numbers: left link, right link, mark, queue. A link is a row and one, 0 is none (so
+// is a mark 0, which no entry has):
+// so they lie in lent memory, of which each row takes four u64. Rows are written in preorder. (Reading and writing a column stands in
+// choosers and tries too, for their rows: one for all would be a public call with a `requires`.)
 ghost use Rattle.std.specs.Prelude.{◌≡◌, cond, suc, ◌+◌, ◌*◌, ◌<◌, ◌≤◌, length, set, eqb};
 ghost use Rattle.supernodes.specs.Limits.{node_row};
 ghost use Rattle.supernodes.specs.Linked.{node_column, NodeWritten, GrowAsk, Grown};
 
 use crate::limits::{LEFT, MARK, NODE_ROW, RIGHT};
 use crate::ranges::{first_mark, past, split};
+use table::Entries;
 
 // Column c of the row that the link k names; 0 where it names none.
+#[tactic(auto, unfolding(crate::specs::Linked::node_column))]
 pub(crate) fn asked(rows: &[u64], k: usize, c: usize) -> usize
     requires { (k * node_row ≤ length rows.now) × (c < node_row) }
     ensures { result ≡ node_column rows.now k c }
@@ -46,33 +50,32 @@ pub(crate) fn link(x: usize, next: usize) -> usize
     x + 1
 }
 
-// Writes the trie of the entries from..to, which start with the same d bits, from row `used` on; returns the next free row.
+// Writes the trie of the entries from..to, which start with the same d bits, from row `used` on; returns the next free row. (Numbers
+// and no struct of d, from and to: all three are others in each call.)
 pub(crate) fn grow(
     rows: &mut [u64],
     width: u32,
-    vals: &[u32],
-    lens: &[u8],
-    hops: &[u16],
+    entries: Entries,
     d: u32,
     from: usize,
     to: usize,
     used: usize,
 ) -> usize
-    requires { GrowAsk rows.old width vals.now lens.now hops.now d from to used }
-    ensures { Grown rows.old width vals.now lens.now hops.now d from to used result rows.new }
+    requires { GrowAsk rows.old width entries.value.now entries.length.now entries.hop.now d from to used }
+    ensures { Grown rows.old width entries.entry.value.now entries.entry.length.now entries.entry.hop.now d from to used result rows.new }
 {
     if from == to {
         return used;
     }
-    let first = past(lens, d, from);
-    let mark = first_mark(lens, hops, d, from) as usize;
+    let first = past(entries.length, d, from);
+    let mark = first_mark(entries.length, entries.hop, d, from);
     if first == to {
         write_node(rows, used, 0, 0, mark);
         return used + 1;
     }
-    let mid = split(vals, width - d - 1, first, to);
-    let next = grow(rows, width, vals, lens, hops, d + 1, first, mid, used + 1);
-    let end = grow(rows, width, vals, lens, hops, d + 1, mid, to, next);
+    let mid = split(entries.value, width - d - 1, first, to);
+    let next = grow(rows, width, entries, d + 1, first, mid, used + 1);
+    let end = grow(rows, width, entries, d + 1, mid, to, next);
     let left = link(used + 1, next);
     let right = link(next, end);
     write_node(rows, used, left, right, mark);

@@ -12,11 +12,9 @@ pub(crate) fn places(rows: &[u64], k: usize) -> [usize; PLACES]
 {
     let mut p = [0usize; PLACES];
     p[0] = k;
-    let mut i = 0;
-    while i + 1 < PLACES {
+    for i in 0..PLACES - 1 {
         let v = asked(rows, p[i / 2], i % 2);
         p[i + 1] = v;
-        i += 1;
     }
     p
 }

@@ -23,7 +23,7 @@ fn push(rows: &mut [u64], k: usize, c: usize, tail: usize) -> usize
     push(rows, right, c - 1, next)
 }
 
-// Each in the queue has its turn; returns how many there were.
+// Each in the queue has its turn; returns how many there were. The queue grows meanwhile, so there is no range to go over.
 fn drain(rows: &mut [u64], first: usize) -> usize
     requires { DrainAsk rows.old first }
     ensures { Drained rows.old first result rows.new }

@@ -4,6 +4,8 @@ ghost use Rattle.std.specs.Prelude.{◌≡◌, cond, suc, ◌+◌, ◌/◌, ◌%
 ghost use Rattle.table.specs.Table.{at};
 ghost use Rattle.supernodes.specs.Spans.{Parted, CountAsk, CountedNodes};
 
+use table::Entries;
+
 // Whether bit n of x, from the right, is 1.
 fn is_one(x: u32, n: u32) -> bool
     requires { n < 32 }
@@ -12,25 +14,17 @@ fn is_one(x: u32, n: u32) -> bool
     (x >> n) % 2 == 1
 }
 
-// The first of from..to with bit n set, else `to`.
+// The first of from..to with bit n set, else `to`. (One by one: a search by halves would have to be told that the list is in order.)
 pub(crate) fn split(vals: &[u32], n: u32, from: usize, to: usize) -> usize
     requires { (n < 32) × (from ≤ to) × (to ≤ length vals.now) }
     ensures { Parted vals.now n from to result }
 {
-    let mut i = from;
-    while i < to {
+    for i in from..to {
         if is_one(vals[i], n) {
             return i;
         }
-        i += 1;
     }
-    i
-}
-
-fn wide(x: u8) -> u32
-    ensures { result ≡ x }
-{
-    x as u32
+    to
 }
 
 // The first entry past the one of length d, which can only be the first.
@@ -38,44 +32,37 @@ pub(crate) fn past(lens: &[u8], d: u32, from: usize) -> usize
     requires { from < length lens.now }
     ensures { result ≡ cond (eqb (at lens.now from) d) (suc from) from }
 {
-    if wide(lens[from]) == d {
+    if u32::from(lens[from]) == d {
         return from + 1;
     }
     from
 }
 
-// Its mark, 0 where there is none.
-pub(crate) fn first_mark(lens: &[u8], hops: &[u16], d: u32, from: usize) -> u16
+// Its mark, 0 where there is none. (The test is that of `past`, which `nodes_in` asks alone.)
+pub(crate) fn first_mark(lens: &[u8], hops: &[u16], d: u32, from: usize) -> usize
     requires { (from < length lens.now) × (from < length hops.now) }
     ensures { result ≡ cond (eqb (at lens.now from) d) (at hops.now from) 0 }
 {
-    if wide(lens[from]) == d {
-        return hops[from];
+    if u32::from(lens[from]) == d {
+        return usize::from(hops[from]);
     }
     0
 }
 
 // How many nodes the trie of the entries from..to has, which start with the same d bits.
-pub(crate) fn nodes_in(
-    width: u32,
-    vals: &[u32],
-    lens: &[u8],
-    d: u32,
-    from: usize,
-    to: usize,
-) -> usize
-    requires { CountAsk width vals.now lens.now d from to }
-    ensures { CountedNodes width vals.now lens.now d from to result }
+pub(crate) fn nodes_in(width: u32, entries: Entries, d: u32, from: usize, to: usize) -> usize
+    requires { CountAsk width entries.value.now entries.length.now d from to }
+    ensures { CountedNodes width entries.entry.value.now entries.entry.length.now d from to result }
 {
     if from == to {
         return 0;
     }
-    let first = past(lens, d, from);
+    let first = past(entries.length, d, from);
     if first == to {
         return 1;
     }
-    let mid = split(vals, width - d - 1, first, to);
-    let a = nodes_in(width, vals, lens, d + 1, first, mid);
-    let b = nodes_in(width, vals, lens, d + 1, mid, to);
+    let mid = split(entries.value, width - d - 1, first, to);
+    let a = nodes_in(width, entries, d + 1, first, mid);
+    let b = nodes_in(width, entries, d + 1, mid, to);
     a + b + 1
 }

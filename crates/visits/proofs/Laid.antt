@@ -14,7 +14,7 @@ use Rattle.table.specs.Table.{at}
 use Rattle.table.specs.Longest.{longest, matched, NoPrefix, no_match, LongestEntry}
 use Rattle.table.proofs.Longest.{longest_is, longest_zero}
 use Rattle.table.proofs.Unique.{longest_unique}
-use Rattle.walk.specs.declared.walk.Answer.TheVariants.{NoRoute}
+use Rattle.walk.specs.Cases.{NoRoute}
 use Rattle.walk.specs.Answers.{hop_of, length_of, reads_of, NotRefused, answer}
 use Rattle.walk.proofs.Answers.{answer_number, answer_hop, answer_reads}
 use Rattle.pieces.specs.BinaryTrie.{BinaryTrie, empty, knot, mark, SomeBegins, some_begins, table_binary}
@@ -27,8 +27,8 @@ use Rattle.pieces.proofs.Over.{node_at}
 use Rattle.pieces.proofs.Longest.{deepest_longest, unmarked_none}
 use Rattle.pieces.proofs.Depth.{tree_deep}
 use Rattle.pieces.proofs.Passing.{along_empty}
-use Rattle.visits.specs.declared.looking.Best.{Best}
-use Rattle.visits.specs.declared.looking.Best.TheVariants.{Missing}
+use Rattle.visits.specs.Winner.{Best}
+use Rattle.std.specs.Prelude.{None}
 use Rattle.visits.specs.declared.record.Bitmap.{Bitmap}
 use Rattle.visits.specs.Rows.{RowLists, row_room}
 use Rattle.visits.specs.Lookup.{path_numbers, lookup_bitmap_of}
@@ -68,7 +68,7 @@ module _ {most : ℕ} {t : BinaryTrie} {rec : Bitmap} {rows : RowLists} {hops : 
   unfolding is_node mark
   found_empty e = record {
     numbers = [];
-    winner = Missing;
+    winner = None;
     way = OnWay.empty (g.supernodes ∙ ap (λ (u : BinaryTrie). length (supernodes_of W u)) e ∙ none_of W);
     says = nowhere (λ d l h w. ap mark (none d));
     steps = record {
@@ -90,7 +90,7 @@ module _ {most : ℕ} {t : BinaryTrie} {rec : Bitmap} {rows : RowLists} {hops : 
   unfolding subtrie_along
   found_node e =
       let first : AtDepth W t rows hops a g.row g.hop e flat 0 0 W = record { whole = omega arith; number = numbered_root e; node = e } in
-      let r = goes W t rows hops a g.row g.hop e flat (W / STEP) {best = Missing} refl first (nowhere (λ d l h w. absurd (omega arith))) in
+      let r = goes W t rows hops a g.row g.hop e flat (W / STEP) {best = None} refl first (nowhere (λ d l h w. absurd (omega arith))) in
       let some : 0 < length (supernodes_of W t) = numbered_lt (numbered_root {W = W} e) in
       record {
         numbers = r.numbers;

@@ -18,8 +18,9 @@ use Rattle.pieces.specs.Cuts.{path_at, child_at, NoBit, Matchable}
 use Rattle.pieces.specs.Depth.{deep}
 use Rattle.pieces.proofs.Inside.{internal_bit, external_bit}
 use Rattle.pieces.proofs.Passing.{along_empty, along_split, along_path, branch_place, along_deep, node_deep}
-use Rattle.visits.specs.declared.looking.Best.{Best}
-use Rattle.visits.specs.declared.looking.Best.TheVariants.{Missing, Won}
+use Rattle.visits.specs.Winner.{Best}
+use Rattle.visits.specs.Winner.{won}
+use Rattle.std.specs.Prelude.{None}
 use Rattle.visits.specs.Rows.{RowLists, supernode_at, HoldRows, HoldHops}
 use Rattle.visits.specs.Lookup.{best_after}
 use Rattle.visits.specs.Meaning.{After, kept, newest, Way, last, on}
@@ -57,9 +58,9 @@ module _ (W : ℕ) (t : BinaryTrie) (address : ℕ) where
   -- the winner of the depths below n: none, where none there has a mark; else its hop is the mark of the deepest that has one, at which as
   -- many bits of the address are left as the winner says, and its number is below the count
   pub data WinnerOf (hops : List ℕ) (count n : ℕ) : Best → Type 0 where
-    nowhere : Unmarked 0 n → WinnerOf hops count n Missing
+    nowhere : Unmarked 0 n → WinnerOf hops count n None
     deepest : {place left : ℕ} (d : ℕ) → d + left ≡ W → 0 < mark (binary_on d) → Unmarked (suc d) n → at hops place ≡ mark (binary_on d) → place < count
-        → WinnerOf hops count n (Won place left)
+        → WinnerOf hops count n (won place left)
 
   more_unmarked : {c n m : ℕ} → Unmarked c n → Unmarked n m → Unmarked c m
   more_unmarked {n = n} f g d a b w = elim (dec_le n d) [ yes h ↦ g d h b w | no h ↦ f d a (omega arith) w ]

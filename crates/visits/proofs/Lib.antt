@@ -4,6 +4,7 @@ pub mod Means
 pub mod Visiting
 pub mod Unique
 pub mod Looked
+pub mod Told
 pub mod LaidRows
 pub mod LaidWay
 pub mod PathNumbers

@@ -11,8 +11,8 @@ use lib.Dec.{eqb, leb}
 use lib.ListN.{length}
 use borrow.Author.Tests.{eqb-true, eqb-false, leb-true, leb-false}
 use Rattle.table.specs.Table.{at}
-use Rattle.walk.specs.declared.walk.Answer.{Answer}
-use Rattle.walk.specs.declared.walk.Answer.TheVariants.{Refused}
+use Rattle.walk.specs.Cases.{Answer}
+use Rattle.walk.specs.Cases.{Refused}
 use Rattle.walk.specs.Limits.{Within}
 use Rattle.walk.specs.Refusals.{fails, passes}
 use Rattle.walk.specs.declared.numbers.AnswerNumbers.{AnswerNumbers}
@@ -21,8 +21,8 @@ use Rattle.walk.specs.Answers.{answer, answer_numbers}
 use Rattle.walk.proofs.Tests.{within_not}
 use Rattle.walk.proofs.Answers.{answer_has_numbers, answer_number, answer_hop, answer_reads, answer_case}
 use Rattle.pieces.specs.Maps.{STEP}
-use Rattle.visits.specs.declared.looking.Best.{Best}
-use Rattle.visits.specs.declared.looking.Best.TheVariants.{Missing, Won}
+use Rattle.visits.specs.Winner.{Best}
+use Rattle.std.specs.Prelude.{None, Some}
 use Rattle.visits.specs.declared.record.Bitmap.{Bitmap}
 use Rattle.visits.specs.Rows.{RowLists, row_room}
 use Rattle.visits.specs.Lookup.{Visited, arrived, from_first, tell_best, tell_visited, visited_by, lookup_bitmap_of}
@@ -34,8 +34,8 @@ use Rattle.visits.proofs.Unique.{way_unique, looked_bitmap_unique}
 
 -- a winner by number: 0 for none
 abbrev placed : Best → ℕ
-placed Missing = 0
-placed (Won place left) = suc place
+placed None = 0
+placed (Some w) = suc w.place
 
 module _ (most : ℕ) (rec : Bitmap) (rows : RowLists) (hops : List ℕ) (address : ℕ) where
   nine : Within rec.width most → address < 2 ^ rec.width → BitmapDamage rec rows hops address → BitmapTested most rec rows hops address 9
@@ -51,8 +51,8 @@ module _ (most : ℕ) (rec : Bitmap) (rows : RowLists) (hops : List ℕ) (addres
       sound (empty z) c (strays g q) = omega arith
       sound (empty z) c (no_hop g q h) = omega arith
       sound (visited h v) c (strays g q) = true≢false (way_unique v q).2
-      sound {b = Missing} (visited h v) c (no_hop g q l) = omega (arith, ap placed (way_unique v q).1)
-      sound {b = Won place left} (visited h v) c (no_hop g q l) = omega (arith, ap placed (way_unique v q).1)
+      sound {b = None} (visited h v) c (no_hop g q l) = omega (arith, ap placed (way_unique v q).1)
+      sound {b = Some w} (visited h v) c (no_hop g q l) = omega (arith, ap placed (way_unique v q).1)
 
   -- a refusal by the first test that fails is allowed; and so is what the way says, where none fails
   refused_looked : {n : ℕ} → BitmapTested most rec rows hops address n → 0 < n → LookedBitmap most rec rows hops address (Refused n)
@@ -77,13 +77,13 @@ module _ (most : ℕ) (rec : Bitmap) (rows : RowLists) (hops : List ℕ) (addres
     where
       wins : (is : List ℕ) (b : Best) → 0 < rec.supernodes → FromFirst rec rows address is b true
           → LookedBitmap most rec rows hops address (tell_best rec.width rec.hops (at hops) b (length is))
-      wins is Missing g w = accepted_looked 0 (none p (visited g w) tt) (visited g w) refl
-      wins is (Won place left) g w = hop (leb rec.hops place) refl
+      wins is None g w = accepted_looked 0 (none p (visited g w) tt) (visited g w) refl
+      wins is (Some b) g w = hop (leb rec.hops b.place) refl
         where
-          hop : (t : Bool) → leb rec.hops place ≡ t
-              → LookedBitmap most rec rows hops address (cond t (Refused 9) (answer (at hops place) (rec.width - left) (length is)))
+          hop : (t : Bool) → leb rec.hops b.place ≡ t
+              → LookedBitmap most rec rows hops address (cond t (Refused 9) (answer (at hops b.place) (rec.width - b.left) (length is)))
           hop true e = refused_looked (nine p.width p.inside (no_hop g w (leb-true _ _ e))) (omega arith)
-          hop false e = accepted_looked (rec.width - left) {b = Won place left} (none p (visited g w) (leb-false _ _ e)) (visited g w) refl
+          hop false e = accepted_looked (rec.width - b.left) {b = Some b} (none p (visited g w) (leb-false _ _ e)) (visited g w) refl
 
       along : (v : Visited) → 0 < rec.supernodes → FromFirst rec rows address v.numbers v.best v.whole
           → LookedBitmap most rec rows hops address (cond v.whole (tell_best rec.width rec.hops (at hops) v.best (0 + length v.numbers)) (Refused 9))
@@ -95,7 +95,7 @@ module _ (most : ℕ) (rec : Bitmap) (rows : RowLists) (hops : List ℕ) (addres
           whole false w = refused_looked (nine p.width p.inside (strays g w)) (omega arith)
 
       go : (z : Bool) → eqb rec.supernodes 0 ≡ z
-          → LookedBitmap most rec rows hops address (tell_visited rec.width rec.hops (at hops) 0 (cond z (arrived Missing) (from_first rec rows address)))
+          → LookedBitmap most rec rows hops address (tell_visited rec.width rec.hops (at hops) 0 (cond z (arrived None) (from_first rec rows address)))
       go true e = let z = eqb-true _ _ e in accepted_looked 0 (none p (empty z) tt) (empty z) refl
       go false e = along _ (omega (arith, eqb-false rec.supernodes 0 e)) (visit_way _ _ _ (rec.width / STEP) _ _ _ refl)
 
@@ -129,5 +129,5 @@ module _ (most : ℕ) (rec : Bitmap) (rows : RowLists) (hops : List ℕ) (addres
       twice false x = refl
 
       once : (b : Best) → cond (eqb (winning_hop hops b) 0) 0 (winning_length rec.width hops b) ≡ winning_length rec.width hops b
-      once Missing = refl
-      once (Won place left) = twice (eqb (at hops place) 0) (rec.width - left)
+      once None = refl
+      once (Some w) = twice (eqb (at hops w.place) 0) (rec.width - w.left)

@@ -10,8 +10,8 @@ use Rattle.pieces.specs.Maps.{STEP, INTERNAL, EXTERNAL, place_on, bit_at, place_
 use Rattle.pieces.specs.Rows.{SupernodeRow}
 use Rattle.pieces.specs.Cuts.{path_at, found, ones_before, highest, child_at, Bit, NoBit, Matchable, IsLongest}
 use Rattle.pieces.proofs.Places.{found_longest}
-use Rattle.visits.specs.declared.looking.Best.{Best}
-use Rattle.visits.specs.declared.looking.Best.TheVariants.{Won}
+use Rattle.visits.specs.Winner.{Best}
+use Rattle.visits.specs.Winner.{won}
 use Rattle.visits.specs.Lookup.{better_of, best_after, Visited, arrived, lost, after_visit, visit}
 use Rattle.visits.specs.Meaning.{After, kept, newest, Way, past, last, above, on}
 
@@ -28,11 +28,11 @@ better_after row p left best h = go (found_longest row.internal p left h)
 
     go : ((on ≡ 0) × ((j : ℕ) → Matchable left j → NoBit row.internal (place_on p j)))
         ⊎ ((on ≡ 0 → ⊥) × IsLongest row.internal p left (place_level i) × (place_on p (place_level i) ≡ i))
-        → After row p left best (cond (eqb on 0) best (Won (row.first_hop + ones_before row.internal i) (left - place_level i)))
+        → After row p left best (cond (eqb on 0) best (won (row.first_hop + ones_before row.internal i) (left - place_level i)))
     go (inl a) = rw (eq-eqb on 0 a.0) (kept a.1)
     go (inr a) =
         rw (ne_eqb on 0 a.0)
-        (subst (λ (x : ℕ). After row p left best (Won (row.first_hop + ones_before row.internal x) (left - place_level i))) a.2 (newest (place_level i) a.1))
+        (subst (λ (x : ℕ). After row p left best (won (row.first_hop + ones_before row.internal x) (left - place_level i))) a.2 (newest (place_level i) a.1))
 
 pub path_small : (address left : ℕ) → path_at address left < EXTERNAL
 unfolding path_at

@@ -16,7 +16,7 @@ use Rattle.pieces.specs.Depth.{deep, number_on}
 use Rattle.pieces.proofs.Inside.{node_is}
 use Rattle.pieces.proofs.Passing.{along_split, along_path, cut_start, branch_place}
 use Rattle.pieces.proofs.Numbering.{child_number}
-use Rattle.visits.specs.declared.looking.Best.{Best}
+use Rattle.visits.specs.Winner.{Best}
 use Rattle.visits.specs.Rows.{RowLists, supernode_at, HoldRows}
 use Rattle.visits.specs.Meaning.{Way, past, last, above, on}
 use Rattle.visits.proofs.Means.{path_small}

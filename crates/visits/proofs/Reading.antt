@@ -13,14 +13,14 @@ use lib.Dec.{eqb, leb}
 use lib.ListN.{length}
 use borrow.Author.Tests.{eqb-true, eqb-false, leb-false}
 use Rattle.table.specs.Table.{at}
-use Rattle.walk.specs.declared.walk.Answer.{Answer}
-use Rattle.walk.specs.declared.walk.Answer.TheVariants.{Refused}
+use Rattle.walk.specs.Cases.{Answer}
+use Rattle.walk.specs.Cases.{Refused}
 use Rattle.walk.specs.Answers.{number_of, reads_of, NotRefused, answer}
 use Rattle.walk.proofs.Answers.{refused_none}
 use Rattle.pieces.specs.Maps.{STEP}
 use Rattle.pieces.specs.Rows.{SupernodeRow}
-use Rattle.visits.specs.declared.looking.Best.{Best}
-use Rattle.visits.specs.declared.looking.Best.TheVariants.{Missing, Won}
+use Rattle.visits.specs.Winner.{Best}
+use Rattle.std.specs.Prelude.{None, Some}
 use Rattle.visits.specs.declared.record.Bitmap.{Bitmap}
 use Rattle.visits.specs.Rows.{RowLists, row_room, supernode_at}
 use Rattle.visits.specs.Lookup.{arrived, from_first, visited_by, path_numbers, path_winner, tell_best, tell_visited, lookup_bitmap_of}
@@ -60,7 +60,7 @@ module _ (rec : Bitmap) (rows : RowLists) (address : ℕ) where
   unfolding visited_by
   numbers_below r = go (eqb rec.supernodes 0)
     where
-      go : (z : Bool) → Memᴰ r (cond z (arrived Missing) (from_first rec rows address)).numbers → r < rec.supernodes
+      go : (z : Bool) → Memᴰ r (cond z (arrived None) (from_first rec rows address)).numbers → r < rec.supernodes
       go true m = absurd (Memᴰ.not-nil m)
       go false m = way_below (visit_way _ _ _ _ _ _ _ refl) r m
 
@@ -70,7 +70,7 @@ module _ (rec : Bitmap) (rows : RowLists) (address : ℕ) where
   way_numbers {is = is} {b = b} o = go (eqb rec.supernodes 0) refl o
     where
       go : {is : List ℕ} {b : Best} (z : Bool) → eqb rec.supernodes 0 ≡ z → OnWay rec rows address is b →
-          let v = cond z (arrived Missing) (from_first rec rows address) in (v.numbers ≡ is) × (v.best ≡ b)
+          let v = cond z (arrived None) (from_first rec rows address) in (v.numbers ≡ is) × (v.best ≡ b)
       go true e (empty z) = (refl, refl)
       go true e (visited h w) = absurd (omega (arith, eqb-true rec.supernodes 0 e))
       go false e (empty z) = absurd (eqb-false rec.supernodes 0 e z)
@@ -102,8 +102,8 @@ module _ (rec : Bitmap) (address : ℕ) (rows rows' : RowLists) (hops hops' : Li
   unfolding visited_by
   way_same = go (eqb rec.supernodes 0) same
     where
-      go : (z : Bool) → ((r : ℕ) → Memᴰ r (cond z (arrived Missing) (from_first rec rows address)).numbers → supernode_at rows r ≡ supernode_at rows' r) →
-          let v = cond z (arrived Missing) (from_first rec rows address) in let v' = cond z (arrived Missing) (from_first rec rows' address) in
+      go : (z : Bool) → ((r : ℕ) → Memᴰ r (cond z (arrived None) (from_first rec rows address)).numbers → supernode_at rows r ≡ supernode_at rows' r) →
+          let v = cond z (arrived None) (from_first rec rows address) in let v' = cond z (arrived None) (from_first rec rows' address) in
           (v.numbers ≡ v'.numbers) × (v.best ≡ v'.best) × (v.whole ≡ v'.whole)
       go true s = (refl, refl, refl)
       go false s = way_unique (way_local (visit_way _ _ _ _ _ _ _ refl) s) (visit_way _ _ _ _ _ _ _ refl)
@@ -111,13 +111,13 @@ module _ (rec : Bitmap) (address : ℕ) (rows rows' : RowLists) (hops hops' : Li
   best_same : (b : Best) (n reads : ℕ) → (InCount b n → winning_hop hops b ≡ winning_hop hops' b)
       → tell_best rec.width n (at hops) b reads ≡ tell_best rec.width n (at hops') b reads
   unfolding tell_best
-  best_same Missing n reads f = refl
-  best_same (Won place left) n reads f = go (leb n place) refl
+  best_same None n reads f = refl
+  best_same (Some w) n reads f = go (leb n w.place) refl
     where
-      go : (z : Bool) → leb n place ≡ z
-          → cond z (Refused 9) (answer (at hops place) (rec.width - left) reads) ≡ cond z (Refused 9) (answer (at hops' place) (rec.width - left) reads)
+      go : (z : Bool) → leb n w.place ≡ z
+          → cond z (Refused 9) (answer (at hops w.place) (rec.width - w.left) reads) ≡ cond z (Refused 9) (answer (at hops' w.place) (rec.width - w.left) reads)
       go true e = refl
-      go false e = ap (λ (h : ℕ). answer h (rec.width - left) reads) (f (leb-false _ _ e))
+      go false e = ap (λ (h : ℕ). answer h (rec.width - w.left) reads) (f (leb-false _ _ e))
 
   -- and the answer, where no list is shorter than its count
   pub lookup_alone : (most : ℕ) → rec.supernodes ≤ row_room rows → rec.supernodes ≤ row_room rows' → rec.hops ≤ length hops → rec.hops ≤ length hops'

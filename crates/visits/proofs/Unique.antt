@@ -7,7 +7,7 @@ use mathlib.Core.List.{List, ◌∷◌}
 use native.Mathlib.Omega.{arith}
 use native.Mathlib.Decide.{dec_le}
 use lib.ListN.{length}
-use Rattle.walk.specs.declared.walk.Answer.{Answer}
+use Rattle.walk.specs.Cases.{Answer}
 use Rattle.walk.specs.declared.numbers.AnswerNumbers.{AnswerNumbers}
 use Rattle.table.specs.Answers.{Told}
 use Rattle.walk.specs.Answers.{number_of, hop_of, length_of, reads_of, answer_numbers}
@@ -18,8 +18,8 @@ use Rattle.pieces.specs.Maps.{STEP, place_on}
 use Rattle.pieces.specs.Rows.{SupernodeRow}
 use Rattle.pieces.specs.Cuts.{path_at, ones_before, child_at, IsLongest}
 use Rattle.pieces.proofs.Places.{true_false}
-use Rattle.visits.specs.declared.looking.Best.{Best}
-use Rattle.visits.specs.declared.looking.Best.TheVariants.{Won}
+use Rattle.visits.specs.Winner.{Best}
+use Rattle.visits.specs.Winner.{won}
 use Rattle.visits.specs.declared.record.Bitmap.{Bitmap}
 use Rattle.visits.specs.Rows.{RowLists}
 use Rattle.visits.specs.Meaning.{After, kept, newest, Way, past, last, above, on}
@@ -39,7 +39,7 @@ after_unique (kept f) (kept g) = refl
 after_unique (kept f) (newest j g) = absurd (true_false (f j g.within) g.set)
 after_unique (newest i f) (kept g) = absurd (true_false (g i f.within) f.set)
 after_unique {row = row} {p = p} {left = left} (newest i f) (newest j g) =
-    ap (λ (k : ℕ). Won (row.first_hop + ones_before row.internal (place_on p k)) (left - k)) (longest_one row.internal p left i j f g)
+    ap (λ (k : ℕ). won (row.first_hop + ones_before row.internal (place_on p k)) (left - k)) (longest_one row.internal p left i j f g)
 
 -- one way starts at a supernode
 pub way_unique : {count address : ℕ} {row : ℕ → SupernodeRow} {i left : ℕ} {b c c' : Best} {is is' : List ℕ} {w w' : Bool}

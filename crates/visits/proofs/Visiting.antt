@@ -6,16 +6,17 @@ use mathlib.Core.List.{List}
 use native.Mathlib.Omega.{arith}
 use lib.Dec.{eqb}
 use lib.ListN.{length}
-use borrow.Author.Tests.{lt-ltb, le-ltb, eq-eqb, ne_eqb, le-leb, lt-leb}
+use borrow.Author.Tests.{lt-ltb, le-ltb, eq-eqb, ne_eqb}
 use Rattle.table.specs.Table.{at}
-use Rattle.walk.specs.declared.walk.Answer.{Answer}
-use Rattle.walk.specs.declared.walk.Answer.TheVariants.{Refused}
+use Rattle.walk.specs.Cases.{Answer}
+use Rattle.walk.specs.Cases.{Refused}
 use Rattle.walk.specs.Answers.{answer}
 use Rattle.pieces.specs.Maps.{STEP, INTERNAL, bit_at, place_level}
 use Rattle.pieces.specs.Rows.{SupernodeRow}
 use Rattle.pieces.specs.Cuts.{path_at, found, ones_before, highest}
-use Rattle.visits.specs.declared.looking.Best.{Best}
-use Rattle.visits.specs.declared.looking.Best.TheVariants.{Missing, Won}
+use Rattle.visits.specs.Winner.{Best}
+use Rattle.visits.specs.Winner.{won}
+use Rattle.std.specs.Prelude.{None}
 use Rattle.visits.specs.declared.record.Bitmap.{Bitmap}
 use Rattle.visits.specs.Rows.{RowLists, row_room, supernode_at}
 use Rattle.visits.specs.Lookup.{better_of, best_after, Visited, after_visit, visit, LeftWithin, tell_best, tell_visited, visit_from, visited_by}
@@ -28,7 +29,7 @@ module _ (map first p left : ℕ) (best : Best) {on : ℕ} (e : on ≡ found map
   better_old z = rw (eq-eqb _ _ (sym e ∙ z)) refl
 
   pub better_new : {i b l : ℕ} → (on ≡ 0 → ⊥) → i ≡ highest INTERNAL on → b ≡ ones_before map i → l ≡ place_level i
-      → Won (first + b) (left - l) ≡ better_of map first p left best
+      → won (first + b) (left - l) ≡ better_of map first p left best
   unfolding better_of
   better_new {i} z f g h =
       let j : i ≡ highest INTERNAL (found map p left) = f ∙ ap (highest INTERNAL) e in
@@ -39,23 +40,9 @@ pub better_within : (map first p left : ℕ) (best : Best) {b : Best} {W : ℕ} 
 unfolding better_of
 better_within map first p left best {W = W} e h l = rw e (go (eqb (found map p left) 0))
   where
-    go : (z : Bool) → let i = highest INTERNAL (found map p left) in LeftWithin (cond z best (Won (first + ones_before map i) (left - place_level i))) W
+    go : (z : Bool) → let i = highest INTERNAL (found map p left) in LeftWithin (cond z best (won (first + ones_before map i) (left - place_level i))) W
     go true = l
     go false = omega arith
-
--- ---- what the best says
-module _ (W hops : ℕ) (hop : ℕ → ℕ) (reads : ℕ) {best : Best} {r : Answer} where
-  pub tell_missing : best ≡ Missing → r ≡ answer 0 0 reads → r ≡ tell_best W hops hop best reads
-  unfolding tell_best
-  tell_missing e f = f ∙ rw e refl
-
-  pub tell_past : {place left : ℕ} → best ≡ Won place left → hops ≤ place → r ≡ Refused 9 → r ≡ tell_best W hops hop best reads
-  unfolding tell_best
-  tell_past {place} e h f = f ∙ rw (e, le-leb hops place h) refl
-
-  pub tell_hop : {place left : ℕ} → best ≡ Won place left → place < hops → r ≡ answer (hop place) (W - left) reads → r ≡ tell_best W hops hop best reads
-  unfolding tell_best
-  tell_hop {place} e h f = f ∙ rw (e, lt-leb hops place h) refl
 
 -- ---- the way
 module _ (W count hops address : ℕ) (row : ℕ → SupernodeRow) (hop : ℕ → ℕ) (k i left : ℕ) (best : Best) (reads : ℕ) where
@@ -95,7 +82,7 @@ module _ (most : ℕ) (rec : Bitmap) (rows : RowLists) (hops : List ℕ) (addres
     look_empty y f = f ∙ rw (eq-eqb _ 0 (sym e ∙ z), eq-eqb _ _ y) refl
 
     pub look_visits : (rec.supernodes ≡ 0 → ⊥)
-        → a ≡ visit_from rec.width rec.supernodes rec.hops address (supernode_at rows) (at hops) (suc (rec.width / STEP)) 0 rec.width Missing 0
+        → a ≡ visit_from rec.width rec.supernodes rec.hops address (supernode_at rows) (at hops) (suc (rec.width / STEP)) 0 rec.width None 0
         → a ≡ lookup_bitmap_of most rec rows hops address
     unfolding lookup_bitmap_of visited_by visit_from
     look_visits y f = f ∙ rw (eq-eqb _ 0 (sym e ∙ z), ne_eqb _ _ y) refl

@@ -5,8 +5,8 @@ use Rattle.std.specs.Int.Count.{ones, ones_in}
 use Rattle.table.specs.Limits.{outside}
 use Rattle.walk.specs.Limits.{WIDTH}
 use Rattle.walk.specs.Answers.{answer}
-use Rattle.walk.specs.declared.walk.Answer.{Answer}
-use Rattle.walk.specs.declared.walk.Answer.TheVariants.{Match, Discard, NoRoute, Refused}
+use Rattle.walk.specs.Cases.{Answer}
+use Rattle.walk.specs.Cases.{Match, Discard, NoRoute, Refused}
 use Rattle.pieces.specs.Eight.{eight_rows, eight_hop_rows}
 use Rattle.pieces.specs.Corner.{corner_supernodes}
 use Rattle.pieces.specs.Maps.{place_level, place_on, on_path, map_of, bit_at, mask_of}

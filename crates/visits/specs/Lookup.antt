@@ -5,14 +5,15 @@
 use Rattle.std.specs.Prelude.{ℕ, zero, suc, ◌+◌, ◌-◌, ◌/◌, ◌^◌, ◌≤◌, Bool, true, false, cond, ◌||◌, List, [], ◌∷◌, eqb, ltb, leb, length}
 use Rattle.table.specs.Limits.{outside}
 use Rattle.table.specs.Table.{at}
-use Rattle.walk.specs.declared.walk.Answer.{Answer}
-use Rattle.walk.specs.declared.walk.Answer.TheVariants.{Refused}
+use Rattle.walk.specs.Cases.{Answer}
+use Rattle.walk.specs.Cases.{Refused}
 use Rattle.walk.specs.Answers.{answer}
 use Rattle.pieces.specs.Maps.{STEP, INTERNAL, bit_at, place_level}
 use Rattle.pieces.specs.Rows.{SupernodeRow}
 use Rattle.pieces.specs.Cuts.{path_at, found, ones_before, highest, child_at}
-use Rattle.visits.specs.declared.looking.Best.{Best}
-use Rattle.visits.specs.declared.looking.Best.TheVariants.{Missing, Won}
+use Rattle.visits.specs.Winner.{Best}
+use Rattle.visits.specs.Winner.{won}
+use Rattle.std.specs.Prelude.{None, Some}
 use Rattle.visits.specs.declared.record.Bitmap.{Bitmap}
 use Rattle.visits.specs.Rows.{RowLists, row_room, supernode_at}
 
@@ -20,7 +21,7 @@ use Rattle.visits.specs.Rows.{RowLists, row_room, supernode_at}
 unfoldable pub better_of : (map first_hop p left : ℕ) → Best → Best
 better_of map first_hop p left best =
     let i = highest INTERNAL (found map p left) in
-    cond (eqb (found map p left) 0) best (Won (first_hop + ones_before map i) (left - place_level i))
+    cond (eqb (found map p left) 0) best (won (first_hop + ones_before map i) (left - place_level i))
 
 abbrev pub best_after : SupernodeRow → (p left : ℕ) → Best → Best
 best_after row = better_of row.internal row.first_hop
@@ -51,13 +52,13 @@ visit count address row (suc k) i left best =
 
 -- no more bits are left behind the winner than the width has
 abbrev pub LeftWithin : Best → (W : ℕ) → Type 0
-LeftWithin Missing W = Unit {0}
-LeftWithin (Won place left) W = left ≤ W
+LeftWithin None W = Unit {0}
+LeftWithin (Some w) W = w.left ≤ W
 
 -- what the winner says: its number is below the count, or that is damage
 unfoldable pub tell_best : (W hops : ℕ) (hop : ℕ → ℕ) → Best → (reads : ℕ) → Answer
-tell_best W hops hop Missing reads = answer 0 0 reads
-tell_best W hops hop (Won place left) reads = cond (leb hops place) (Refused 9) (answer (hop place) (W - left) reads)
+tell_best W hops hop None reads = answer 0 0 reads
+tell_best W hops hop (Some w) reads = cond (leb hops w.place) (Refused 9) (answer (hop w.place) (W - w.left) reads)
 
 -- what the supernodes visited say, after `reads` before them
 unfoldable pub tell_visited : (W hops : ℕ) (hop : ℕ → ℕ) (reads : ℕ) → Visited → Answer
@@ -68,11 +69,11 @@ visit_from W count hops address row hop k i left best reads = tell_visited W hop
 
 -- from number 0 on, with all bits left
 abbrev pub from_first : Bitmap → RowLists → (address : ℕ) → Visited
-from_first rec rows address = visit rec.supernodes address (supernode_at rows) (suc (rec.width / STEP)) 0 rec.width Missing
+from_first rec rows address = visit rec.supernodes address (supernode_at rows) (suc (rec.width / STEP)) 0 rec.width None
 
 -- count 0 is the empty trie
 unfoldable pub visited_by : Bitmap → RowLists → (address : ℕ) → Visited
-visited_by rec rows address = cond (eqb rec.supernodes 0) (arrived Missing) (from_first rec rows address)
+visited_by rec rows address = cond (eqb rec.supernodes 0) (arrived None) (from_first rec rows address)
 
 -- the supernodes on the address's path, and the winner
 abbrev pub path_numbers : Bitmap → RowLists → (address : ℕ) → List ℕ

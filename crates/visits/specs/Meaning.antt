@@ -5,15 +5,16 @@
 -- answers it too", the matched length.
 use Rattle.std.specs.Prelude.{ℕ, ◌+◌, ◌-◌, ◌^◌, ◌≤◌, ◌<◌, ◌≡◌, Bool, true, false, cond, List, [], ◌∷◌, eqb, length}
 use Rattle.table.specs.Table.{at}
-use Rattle.walk.specs.declared.walk.Answer.{Answer}
+use Rattle.walk.specs.Cases.{Answer}
 use Rattle.walk.specs.Limits.{Outside, Within}
 use Rattle.walk.specs.Refusals.{RefuseBy, NoMore}
 use Rattle.walk.specs.Answers.{number_of, hop_of, length_of, reads_of, Case}
 use Rattle.pieces.specs.Maps.{STEP, place_on}
 use Rattle.pieces.specs.Rows.{SupernodeRow}
 use Rattle.pieces.specs.Cuts.{path_at, ones_before, child_at, Bit, NoBit, Matchable, IsLongest}
-use Rattle.visits.specs.declared.looking.Best.{Best}
-use Rattle.visits.specs.declared.looking.Best.TheVariants.{Missing, Won}
+use Rattle.visits.specs.Winner.{Best}
+use Rattle.visits.specs.Winner.{won}
+use Rattle.std.specs.Prelude.{None, Some}
 use Rattle.visits.specs.declared.record.Bitmap.{Bitmap}
 use Rattle.visits.specs.Rows.{RowLists, row_room, supernode_at}
 
@@ -22,7 +23,7 @@ use Rattle.visits.specs.Rows.{RowLists, row_room, supernode_at}
 pub data After (row : SupernodeRow) (p left : ℕ) (best : Best) : Best → Type 0 where
   kept : ((j : ℕ) → Matchable left j → NoBit row.internal (place_on p j)) → After row p left best best
   newest : (j : ℕ) → IsLongest row.internal p left j
-      → After row p left best (Won (row.first_hop + ones_before row.internal (place_on p j)) (left - j))
+      → After row p left best (won (row.first_hop + ones_before row.internal (place_on p j)) (left - j))
 
 -- the supernodes that the rule visits from number i on, the best after them, and whether it comes to a branch without a child (true) or
 -- to damage (false): a supernode at or past the count, or one that would begin at a level above W
@@ -47,11 +48,11 @@ pub record BitmapPassed (most : ℕ) (rec : Bitmap) (rows places address : ℕ) 
 module _ (rec : Bitmap) (rows : RowLists) (address : ℕ) where
   -- the way from number 0 on, with all bits left
   abbrev pub FromFirst : List ℕ → Best → Bool → Type 0
-  FromFirst = Way rec.supernodes address (supernode_at rows) 0 rec.width Missing
+  FromFirst = Way rec.supernodes address (supernode_at rows) 0 rec.width None
 
   -- the supernodes on the address's path, and the winner
   pub data OnWay : List ℕ → Best → Type 0 where
-    empty : rec.supernodes ≡ 0 → OnWay [] Missing
+    empty : rec.supernodes ≡ 0 → OnWay [] None
     visited : {is : List ℕ} {b : Best} → 0 < rec.supernodes → FromFirst is b true → OnWay is b
 
 -- refusal 9
@@ -59,23 +60,23 @@ pub data BitmapDamage (rec : Bitmap) (rows : RowLists) (hops : List ℕ) (addres
   rows_short : row_room rows < rec.supernodes → BitmapDamage rec rows hops address
   hops_short : length hops < rec.hops → BitmapDamage rec rows hops address
   strays : {is : List ℕ} {b : Best} → 0 < rec.supernodes → FromFirst rec rows address is b false → BitmapDamage rec rows hops address
-  no_hop : {is : List ℕ} {place left : ℕ} → 0 < rec.supernodes → FromFirst rec rows address is (Won place left) true → rec.hops ≤ place
+  no_hop : {is : List ℕ} {place left : ℕ} → 0 < rec.supernodes → FromFirst rec rows address is (won place left) true → rec.hops ≤ place
       → BitmapDamage rec rows hops address
 
 -- the winner's hop, 0 where there is no winner
 abbrev pub winning_hop : (hops : List ℕ) → Best → ℕ
-winning_hop hops Missing = 0
-winning_hop hops (Won place left) = at hops place
+winning_hop hops None = 0
+winning_hop hops (Some w) = at hops w.place
 
 -- its length: the bits of the address that are not left behind it, 0 where there is no winner; "a winning hop 0 is no route" and has none
 abbrev pub winning_length : (W : ℕ) (hops : List ℕ) → Best → ℕ
-winning_length W hops Missing = 0
-winning_length W hops (Won place left) = cond (eqb (at hops place) 0) 0 (W - left)
+winning_length W hops None = 0
+winning_length W hops (Some w) = cond (eqb (at hops w.place) 0) 0 (W - w.left)
 
 -- a winner whose hop is below the count
 abbrev pub InCount : Best → (hops : ℕ) → Type 0
-InCount Missing hops = Unit {0}
-InCount (Won place left) hops = place < hops
+InCount None hops = Unit {0}
+InCount (Some w) hops = w.place < hops
 
 module _ (most : ℕ) (rec : Bitmap) (rows : RowLists) (hops : List ℕ) (address : ℕ) where
   -- the number of the first test that fails, 0 where none does

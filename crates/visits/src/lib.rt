@@ -6,7 +6,9 @@ mod limits;
 mod looking;
 mod masks;
 mod record;
+mod rows;
 
 pub use limits::{EXTERNAL, INTERNAL, STEP};
-pub use looking::{Best, lookup_bitmap, lookup_bitmap_numbers};
+pub use looking::{Winner, find_bitmap, lookup_bitmap};
 pub use record::Bitmap;
+pub use rows::{Supernodes, SupernodesMut};

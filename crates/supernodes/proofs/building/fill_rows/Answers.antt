@@ -1,40 +1,39 @@
 use mathlib.Core.Path.{refl}
 use native.Mathlib.Omega.{arith}
-use Rattle.visits.specs.Rows.{row_lists}
+use Rattle.table.specs.Refusals.{outcome_of}
+use Rattle.visits.specs.Lent.{held}
 use Rattle.supernodes.proofs.BitmapSteps.{count_few, short_rows_lem, short_hops, fill_ask, filled}
 use Rattle.supernodes.proofs.building.fill_rows.Goals as goal
 
-pub returns-then-row_room-count : goal.returns-then-row_room-count
-returns-then-row_room-count c =
+pub returns-then-len-count-clause-filled : goal.returns-then-len-count-clause-filled
+unfolding outcome_of
+returns-then-len-count-clause-filled c =
     let A = c.args in
-    short_rows_lem c.requires (row_lists A.internal.now A.external.now A.kids.now A.marks.now) A.rows.now c.line_table-count.ensures
-    (omega (arith, c.row_room.ensures, c.if-row_room-count.true)) c.no_bitmap.ensures.told c.no_bitmap.ensures.empty
+    short_rows_lem c.requires (held A.rows.now) A.rows.now.hops.now c.line_table-count.ensures (omega (arith, c.len.ensures, c.if-len-count.true)) refl
 
-pub returns-then-rows-entries : goal.returns-then-rows-entries
-returns-then-rows-entries c =
+pub returns-then-rows-hops-clause-filled : goal.returns-then-rows-hops-clause-filled
+unfolding outcome_of
+returns-then-rows-hops-clause-filled c =
     let A = c.args in
-    short_hops c.requires (row_lists A.internal.now A.external.now A.kids.now A.marks.now) A.rows.now c.line_table-count.ensures
-    (omega (arith, c.row_room.ensures, c.if-row_room-count.false)) c.if-rows-entries.true c.no_bitmap-then-rows-entries.ensures.told c.no_bitmap-then-rows-entries.ensures.empty
+    short_hops c.requires (held A.rows.now) A.rows.now.hops.now c.line_table-count.ensures
+    (omega (arith, c.len.ensures, c.if-len-count.false)) c.hop_rows-hops.ensures.count c.if-rows-hops.true refl
 
 pub write_rows-requires : goal.write_rows-requires
 write_rows-requires c =
     let A = c.args in
-    fill_ask c.requires (row_lists A.internal.now A.external.now A.kids.now A.marks.now) A.rows.now c.line_table-count.ensures
-    (omega (arith, c.row_room.ensures, c.if-row_room-count.false)) c.if-rows-entries.false
+    fill_ask c.requires (held A.rows.now) A.rows.now.hops.now c.line_table-count.ensures
+    (omega (arith, c.len.ensures, c.if-len-count.false)) (omega (arith, c.if-rows-hops.false, c.hop_rows-hops.ensures.count)) c.hop_rows-hops.ensures.small
 
 pub overflow_cast-result : goal.overflow_cast-result
 overflow_cast-result c =
     let A = c.args in
-    omega (arith, count_few c.requires (row_lists A.internal.now A.external.now A.kids.now A.marks.now) A.rows.now c.line_table-count.ensures)
+    omega (arith, count_few c.requires (held A.rows.now) A.rows.now.hops.now c.line_table-count.ensures)
 
-pub overflow_cast-result-2 : goal.overflow_cast-result-2
-overflow_cast-result-2 c =
-    omega (arith, c.requires.table.few)
-
-pub returns : goal.returns
-returns c =
+pub returns-clause-filled : goal.returns-clause-filled
+unfolding outcome_of
+returns-clause-filled c =
     let A = c.args in
-    let kept = c.write_rows.auto in
-    filled c.requires (row_lists A.internal.now A.external.now A.kids.now A.marks.now) A.rows.now c.line_table-count.ensures
-    (omega (arith, c.row_room.ensures, c.if-row_room-count.false)) c.if-rows-entries.false _ c.write_rows.ensures
-    (record { internal = omega (arith, kept); external = omega (arith, kept); first_child = omega (arith, kept); first_hop = omega (arith, kept) }) (omega (arith, kept)) refl refl refl refl
+    let S = c.write_rows.ensures.same in
+    filled c.requires (held A.rows.now) A.rows.now.hops.now c.line_table-count.ensures
+    (omega (arith, c.len.ensures, c.if-len-count.false)) (omega (arith, c.if-rows-hops.false, c.hop_rows-hops.ensures.count)) c.hop_rows-hops.ensures.small _ c.write_rows.ensures.wrote
+    (record { internal = S.internal.long; external = S.external.long; first_child = S.child.long; first_hop = S.first.long }) S.hops.long refl refl c.hop_rows-hops.ensures.count refl

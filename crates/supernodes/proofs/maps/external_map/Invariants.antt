@@ -1,11 +1,7 @@
 use mathlib.Core.Path.{◌≡◌}
-use Prim.Native.Nat.{◌-◌, ◌≤◌}
-use Rattle.pieces.specs.Maps.{EXTERNAL, map_of}
+use Rattle.pieces.specs.Maps.{map_of}
 use Rattle.supernodes.specs.Marking.{taken_branch}
 use Rattle.supernodes.proofs.maps.external_map.Given as goal
 
 abbrev pub invariant-loop-i : goal.invariant-loop-i
-invariant-loop-i l = (l.map ≡ map_of l.i (taken_branch l.p)) × (l.i ≤ EXTERNAL)
-
-abbrev pub decreases-loop-i : goal.decreases-loop-i
-decreases-loop-i l = EXTERNAL - l.i
+invariant-loop-i l = l.map ≡ map_of l.i (taken_branch l.p)

@@ -1,6 +1,6 @@
 use mathlib.Core.Path.{refl}
 use native.Mathlib.Omega.{arith}
-use Rattle.supernodes.proofs.Lining.{push_none, push_room, push_fits, push_here, push_left, push_right, push_both}
+use Rattle.supernodes.proofs.Lining.{push_none, push_room, push_here, push_left, push_right, push_both}
 use Rattle.supernodes.proofs.queue.+push.Goals as goal
 
 pub returns-then-k-eq0 : goal.returns-then-k-eq0
@@ -9,19 +9,8 @@ returns-then-k-eq0 t c = push_none c.if-k-eq0.true
 pub put-requires : goal.put-requires
 put-requires t c = let q = c.requires in (push_room c.if-k-eq0.false q c.if-c-eq0.true, omega arith)
 
-pub overflow_add-result : goal.overflow_add-result
-overflow_add-result t c =
-    let q = c.requires in
-    omega (arith, push_room c.if-k-eq0.false q c.if-c-eq0.true, c.well_formed.0.0)
-
 pub returns-then-c-eq0 : goal.returns-then-c-eq0
 returns-then-c-eq0 t c = push_here c.if-k-eq0.false c.if-c-eq0.true c.put.ensures
-
-pub asked-left-requires : goal.asked-left-requires
-asked-left-requires t c = let q = c.requires in (push_fits c.if-k-eq0.false q, omega arith)
-
-pub asked-right-requires : goal.asked-right-requires
-asked-right-requires t c = let q = c.requires in (push_fits c.if-k-eq0.false q, omega arith)
 
 pub push-next-requires : goal.push-next-requires
 push-next-requires t c =

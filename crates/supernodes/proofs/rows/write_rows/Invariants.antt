@@ -1,10 +1,9 @@
-use Prim.Native.Nat.{◌-◌}
-use Rattle.visits.specs.Rows.{row_lists}
+use Rattle.visits.specs.Lent.{held, SameSupernodes}
 use Rattle.supernodes.proofs.Filing.{Turned}
 use Rattle.supernodes.proofs.rows.write_rows.Given as goal
 
 abbrev pub invariant-loop-i : goal.invariant-loop-i
-invariant-loop-i l = Turned l.rows l.count (row_lists l.initial.internal l.initial.external l.initial.kids l.initial.marks) l.initial.hops l.i l.child l.hop (row_lists l.internal l.external l.kids l.marks) l.hops
-
-abbrev pub decreases-loop-i : goal.decreases-loop-i
-decreases-loop-i l = l.count - l.i
+invariant-loop-i l = record {
+  same : SameSupernodes l.initial.rows l.rows;
+  turned : Turned l.nodes l.count (held l.initial.rows) l.initial.rows.hops.now l.i l.next.child l.next.hop (held l.rows) l.rows.hops.now;
+}
