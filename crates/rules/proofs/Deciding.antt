@@ -20,7 +20,7 @@ use Rattle.walk.specs.Rows.{Lists, shortest}
 use Rattle.walk.specs.Answers.{number_of, hop_of}
 use Rattle.walk.specs.Lookup.{lookup_of}
 use Rattle.walk.specs.Meaning.{OnPath}
-use Rattle.walk.specs.declared.walk.Answer.{Answer}
+use Rattle.walk.specs.Cases.{Answer}
 use Rattle.walk.specs.Refusals.{passes}
 use Rattle.walk.proofs.Looked.{damage_refused}
 use Rattle.walk.proofs.Tests.{within_not}
@@ -39,7 +39,7 @@ use Rattle.verdicts.specs.Tries.{trie_row, source_record, from_place, at_place}
 use Rattle.verdicts.specs.Meaning.{BadTrie, past_list, past_rows, breaks_rule, SourcePath, action_on, VisitsTries, no_more, matched_in, goes_on}
 use Rattle.verdicts.specs.Meaning.{called_first, RuleDamage, short_lists, past_all, breaks_dest, breaks_source, TriesWay, Classified}
 use Rattle.verdicts.specs.declared.record.RuleRecord.{RuleRecord}
-use Rattle.verdicts.specs.declared.visiting.Verdict.{Verdict}
+use Rattle.verdicts.specs.Cases.{Verdict}
 use Rattle.verdicts.proofs.Alone.{shortest_from}
 use Rattle.verdicts.proofs.Answers.{verdict, verdict_number_lem, verdict_action, verdict_reads_lem, verdict_case}
 use Rattle.verdicts.proofs.Unique.{visits_unique, classified_unique}

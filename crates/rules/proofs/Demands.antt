@@ -11,11 +11,12 @@ use native.Mathlib.Omega.{arith}
 use lib.Dec.{ltb}
 use lib.ListN.{length, replicate}
 use borrow.Author.Tests.{lt-ltb, le-ltb}
+use Rattle.std.specs.Prelude.{Ok, Err}
 use Rattle.table.specs.Entry.{unlinked}
 use Rattle.table.specs.Table.{at, Linked}
-use Rattle.table.specs.Refusals.{Test, outcome, Gives}
-use Rattle.table.specs.declared.entry.Outcome.{Outcome}
-use Rattle.table.specs.declared.entry.Outcome.TheVariants.{Accepted, Refused}
+use Rattle.table.specs.declared.refusal.Refusal.{Refusal}
+use Rattle.table.specs.declared.refusal.Refusal.TheVariants.{Scratch, Room}
+use Rattle.table.specs.Refusals.{refusal_number, outcome_number, Outcome, Test, outcome, Gives}
 use Rattle.table.proofs.Refusals.{outcome_gives, outcome_fails, outcome_passes, gives_outcome, gives_unique, given_exactly, refused_not_accepted}
 use Rattle.table.proofs.Numbered.{refused_number}
 use Rattle.strides.specs.Cheapest.{Kind, Cheapest}
@@ -38,8 +39,7 @@ use Rattle.verdicts.specs.Tries.{trie_row}
 use Rattle.verdicts.specs.Verdicts.{verdict_number, action_of, verdict_reads}
 use Rattle.verdicts.specs.Meaning.{TriesWay, Classified, SameTries, SameRows}
 use Rattle.verdicts.specs.declared.record.RuleRecord.{RuleRecord}
-use Rattle.verdicts.specs.declared.visiting.Verdict.{Verdict}
-use Rattle.verdicts.specs.declared.visiting.Verdict.TheVariants.{Discard, NoRule}
+use Rattle.verdicts.specs.Cases.{Verdict, Discard, NoRule}
 use Rattle.verdicts.proofs.Answers.{verdict_number_lem, verdict_action}
 use Rattle.verdicts.proofs.Unique.{tries_way_unique}
 use Rattle.verdicts.proofs.Alone.{verdict_path, verdict_few, verdict_alone}
@@ -74,12 +74,12 @@ module _ {kind : Kind} {W k links : ℕ} {rs : Rules} {scratch : List ℕ} {rows
     left : outcome (rule_scratch_tests W k links rs (length scratch) m from) ≡ outcome (all_nodes_test (length scratch) nodes ∷ [])
     left = scratch_test_left W k links rs (length scratch) m from good linked allowed
 
-    pub rules_scratch : length scratch / ROW < nodes → out ≡ Refused 6 nodes
+    pub rules_scratch : length scratch / ROW < nodes → out ≡ Err (Scratch nodes)
     rules_scratch h =
         tests_out r ∙ rule_tests_early W k links rs (length scratch) m from _ _ _
         (left ∙ outcome_fails (all_nodes_test (length scratch) nodes) [] (lt-ltb (length scratch / ROW) nodes h))
 
-    pub rules_scratch_enough : nodes ≤ length scratch / ROW → Gives (rule_scratch_tests W k links rs (length scratch) m from) Accepted
+    pub rules_scratch_enough : nodes ≤ length scratch / ROW → Gives (rule_scratch_tests W k links rs (length scratch) m from) (Ok tt)
     unfolding outcome
     rules_scratch_enough h =
         subst (Gives (rule_scratch_tests W k links rs (length scratch) m from))
@@ -87,52 +87,49 @@ module _ {kind : Kind} {W k links : ℕ} {rs : Rules} {scratch : List ℕ} {rows
         (outcome_gives (rule_scratch_tests W k links rs (length scratch) m from))
 
   -- refusals 1 to 6 change no list
-  pub rules_early : {m : ℕ} {from : ℕ → ℕ} → RunsOf rs m from → {n d : ℕ} → Gives (rule_scratch_tests W k links rs (length scratch) m from) (Refused n d)
-      → (out ≡ Refused n d) × NoRuleRecord rec × (s ≡ scratch) × (rows' ≡ rows) × (list' ≡ list)
-  rules_early {m} {from} r {n} {d} g =
+  pub rules_early : {m : ℕ} {from : ℕ → ℕ} → RunsOf rs m from → {x : Refusal} → Gives (rule_scratch_tests W k links rs (length scratch) m from) (Err x)
+      → (out ≡ Err x) × NoRuleRecord rec × (s ≡ scratch) × (rows' ≡ rows) × (list' ≡ list)
+  rules_early {m} {from} r {x} g =
       let tests = rule_scratch_tests W k links rs (length scratch) m from in
-      let e : out ≡ Refused n d = tests_out r ∙ rule_tests_early W k links rs (length scratch) m from _ _ _ (sym (gives_outcome tests (Refused n d) g)) in
+      let e : out ≡ Err x = tests_out r ∙ rule_tests_early W k links rs (length scratch) m from _ _ _ (sym (gives_outcome tests (Err x) g)) in
       let kept = b.keeps.refused (λ a. refused_not_accepted (sym e ∙ a)) in
-      (e, kept.0, b.untouched m from r (λ a. refused_not_accepted (gives_unique tests (Refused n d) Accepted g a)), kept.1, kept.2)
+      (e, kept.0, b.untouched m from r (λ a. refused_not_accepted (gives_unique tests (Err x) (Ok tt) g a)), kept.1, kept.2)
 
   -- past them, scratch is all zero
-  past_scratch : {m : ℕ} {from : ℕ → ℕ} → RunsOf rs m from → ((n d : ℕ) → out ≡ Refused n d → 6 < n) → s ≡ replicate (length scratch) 0
+  past_scratch : {m : ℕ} {from : ℕ → ℕ} → RunsOf rs m from → ((x : Refusal) → out ≡ Err x → 6 < refusal_number x) → s ≡ replicate (length scratch) 0
   past_scratch {m} {from} r late = b.zeroed m from r (go (outcome tests) refl)
     where
       tests : List Test
       tests = rule_scratch_tests W k links rs (length scratch) m from
 
-      go : (o : Outcome) → outcome tests ≡ o → Gives tests Accepted
-      go Accepted p = subst (Gives tests) p (outcome_gives tests)
-      go (Refused n x) p =
+      go : (o : Outcome) → outcome tests ≡ o → Gives tests (Ok tt)
+      go (Ok tt) p = subst (Gives tests) p (outcome_gives tests)
+      go (Err x) p =
           let g = subst (Gives tests) p (outcome_gives tests) in
-          absurd (omega (arith, refused_number 6 tests n x (numbered_rule_scratch W k links rs (length scratch) m from 6 (omega arith)) g, late n x (rules_early r g).0))
+          absurd (omega (arith, refused_number 6 tests x (numbered_rule_scratch W k links rs (length scratch) m from 6 (omega arith)) g, late x (rules_early r g).0))
 
   own_runs : RunsOf rs (run_count (at rs.dvals) (at rs.dlens) (rule_count rs)) (run_from (at rs.dvals) (at rs.dlens) (rule_count rs))
   own_runs = runs_exist (at rs.dvals) (at rs.dlens) (rule_count rs)
 
   -- refusal 7, for elements or for the list of tries, zeroes all scratch and changes nothing else
-  pub rules_room : {d : ℕ} → out ≡ Refused 7 d → NoRuleRecord rec × (s ≡ replicate (length scratch) 0) × (rows' ≡ rows) × (list' ≡ list)
+  pub rules_room : {d : ℕ} → out ≡ Err (Room d) → NoRuleRecord rec × (s ≡ replicate (length scratch) 0) × (rows' ≡ rows) × (list' ≡ list)
   rules_room {d} e =
       let kept = b.keeps.refused (λ a. refused_not_accepted (sym e ∙ a)) in
-      (kept.0, past_scratch own_runs (λ n x f. omega (arith, seven n x (sym e ∙ f))), kept.1, kept.2)
-    where
-      seven : (n x : ℕ) → Refused 7 d ≡ Refused n x → 7 ≡ n
-      seven n x q = cc
+      (kept.0, past_scratch own_runs (λ x f. omega (arith, ap outcome_number (sym e ∙ f))), kept.1, kept.2)
 
   -- past test 6: 7 where the least costs of all tries together exceed the room lent or the most elements; else 7, "after elements, detail
   -- the rows needed", where the list has fewer rows than there are source tries; else the build is accepted
   module _ (m : ℕ) (from least : ℕ → ℕ) (r : RunsOf rs m from) (c : (g : ℕ) → g ≤ m → 1 ≤ k → Cheapest kind k (rule_trie W rs m from g) (least g))
-      (p : Gives (rule_scratch_tests W k links rs (length scratch) m from) Accepted) where
+      (p : Gives (rule_scratch_tests W k links rs (length scratch) m from) (Ok tt)) where
     abbrev total : ℕ
     total = sum_first least (suc m)
 
     past : out ≡ outcome (room_test total (shortest rows) ∷ trie_list_test (length list) m ∷ [])
     past =
         gives_outcome _ out (b.tested m from least r c)
-        ∙ rule_tests_late W k links rs (length scratch) m from (shortest rows) (length list) least (sym (gives_outcome _ Accepted p))
+        ∙ rule_tests_late W k links rs (length scratch) m from (shortest rows) (length list) least (sym (gives_outcome _ (Ok tt) p))
 
-    pub rules_elements : (shortest rows < total) ⊎ (ELEMENTS < total) → out ≡ Refused 7 total
+    pub rules_elements : (shortest rows < total) ⊎ (ELEMENTS < total) → out ≡ Err (Room total)
     rules_elements o = past ∙ outcome_fails (room_test total (shortest rows)) (trie_list_test (length list) m ∷ []) (over o)
       where
         over : (shortest rows < total) ⊎ (ELEMENTS < total) → (ltb (shortest rows) total || ltb ELEMENTS total) ≡ true
@@ -146,23 +143,23 @@ module _ {kind : Kind} {W k links : ℕ} {rs : Rules} {scratch : List ℕ} {rows
     within h q =
         past ∙ outcome_passes (room_test total (shortest rows)) (trie_list_test (length list) m ∷ []) (rw (le-ltb (shortest rows) total h, le-ltb ELEMENTS total q) refl)
 
-    pub rules_list : total ≤ shortest rows → total ≤ ELEMENTS → length list / trie_row_cells < m → out ≡ Refused 7 m
+    pub rules_list : total ≤ shortest rows → total ≤ ELEMENTS → length list / trie_row_cells < m → out ≡ Err (Room m)
     rules_list h q l = within h q ∙ outcome_fails (trie_list_test (length list) m) [] (lt-ltb (length list / trie_row_cells) m l)
 
-    pub rules_fit : total ≤ shortest rows → total ≤ ELEMENTS → m ≤ length list / trie_row_cells → out ≡ Accepted
+    pub rules_fit : total ≤ shortest rows → total ≤ ELEMENTS → m ≤ length list / trie_row_cells → out ≡ Ok tt
     unfolding outcome
     rules_fit h q l = within h q ∙ outcome_passes (trie_list_test (length list) m) [] (le-ltb (length list / trie_row_cells) m l)
 
-  module _ (e : out ≡ Accepted) where
+  module _ (e : out ≡ Ok tt) where
     -- an accepted build zeroes all scratch, writes rows 0 to E - 1 and the rows of its tries in the list, and keeps what comes after them
     pub rules_accepted : (s ≡ replicate (length scratch) 0) × ((i : ℕ) → rec.elements ≤ i → row_at rows' i ≡ row_at rows i)
         × ((i : ℕ) → (b.laid e).m * trie_row_cells ≤ i → at list' i ≡ at list i)
-    rules_accepted = (past_scratch own_runs (λ n x f. absurd (refused_not_accepted (sym f ∙ e))), b.keeps.later e, (b.laid e).rest)
+    rules_accepted = (past_scratch own_runs (λ x f. absurd (refused_not_accepted (sym f ∙ e))), b.keeps.later e, (b.laid e).rest)
 
     up_to_scratch_lem :
         let m = run_count (at rs.dvals) (at rs.dlens) (rule_count rs) in
         let from = run_from (at rs.dvals) (at rs.dlens) (rule_count rs) in
-        outcome (rule_scratch_tests W k links rs (length scratch) m from) ≡ Accepted
+        outcome (rule_scratch_tests W k links rs (length scratch) m from) ≡ Ok tt
     up_to_scratch_lem = rule_tests_scratch W k links rs (length scratch) _ _ (shortest rows) (length list) _ (sym (tests_out own_runs) ∙ e)
 
     pub rules_are_good : GoodRules W rs
@@ -252,7 +249,7 @@ module _ {kind : Kind} {W k links : ℕ} {rs : Rules} {scratch : List ℕ} {rows
 -- one list of rules decides one action, however it is built: any kinds, any k, any numbers of links, any room
 pub one_rules : {kind kind' : Kind} {W k k' links links' : ℕ} {rs : Rules} {scratch scratch' : List ℕ} {rows rows' : Lists} {list list' : List ℕ} {out out' : Outcome} {rec rec' : RuleRecord}
     {s s' : List ℕ} {rows1 rows2 : Lists} {list1 list2 : List ℕ} → RuleBuilds kind W k links rs scratch rows list out rec s rows1 list1
-    → RuleBuilds kind' W k' links' rs scratch' rows' list' out' rec' s' rows2 list2 → out ≡ Accepted → out' ≡ Accepted → (da sa : ℕ) → da < 2 ^ W → sa < 2 ^ W
+    → RuleBuilds kind' W k' links' rs scratch' rows' list' out' rec' s' rows2 list2 → out ≡ Ok tt → out' ≡ Ok tt → (da sa : ℕ) → da < 2 ^ W → sa < 2 ^ W
     → {v v' : Verdict} → Classified rec rows1 list1 da sa WIDTH v → Classified rec' rows2 list2 da sa WIDTH v' → action_of v ≡ action_of v'
 one_rules b b' e e' da sa hd hs c c' =
     action_unique (rules_are_good b e) (rules_decide b e da sa hd hs c).1 (rules_decide b' e' da sa hd hs c').1

@@ -86,12 +86,6 @@ gathered_more {dvals} {dlens} {i} {m} {first} {vals} {lens} {nums} r (new_run b 
         listed_more (λ g. f (at (set first (m + 1) (i + 1)) g)) xs m (f i) h (e ∙ listed_same _ _ m (λ g l. ap f (sym (kept g (omega arith)))))
         (ap f (sym (kept m (omega arith) ∙ r.runs.last)))
 
--- at most one destination a rule
-pub taken_few : {dvals dlens : List ℕ} {i m : ℕ} {vals lens nums : List ℕ} {m' : ℕ} {vals' lens' nums' : List ℕ} → Taken dvals dlens i m vals lens nums m' vals' lens' nums'
-    → m ≤ i → m' ≤ i + 1
-taken_few (new_run o em ev el en) h = omega arith
-taken_few (same_run o em ev el en) h = omega arith
-
 -- ---- what is gathered is the table of destinations
 
 module _ (rs : Rules) {n m : ℕ} {first vals lens nums : List ℕ} (r : Gathered rs.dvals rs.dlens n m first vals lens nums) where

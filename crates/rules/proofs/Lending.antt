@@ -6,10 +6,9 @@ use native.Mathlib.Omega.{arith}
 use native.Mathlib.Nat.{le_trans}
 use lib.ListN.{length, take, drop, get_or, length-append, length-take, length-drop, take-append-drop, drop_of_length-le, get_or-append}
 use borrow.Author.Tests.{le-ltb}
+use Rattle.std.specs.Prelude.{Ok}
 use Rattle.table.specs.Limits.{link_limit}
-use Rattle.table.specs.Refusals.{outcome}
-use Rattle.table.specs.declared.entry.Outcome.{Outcome}
-use Rattle.table.specs.declared.entry.Outcome.TheVariants.{Accepted}
+use Rattle.table.specs.Refusals.{Outcome, outcome}
 use Rattle.table.proofs.Refusals.{outcome_passes}
 use Rattle.strides.specs.Trie.{size}
 use Rattle.strides.specs.Cheapest.{Kind}
@@ -120,7 +119,7 @@ module _ {kind : Kind} {W k : ℕ} {vs ls hs : List ℕ} {scratch : List ℕ} {p
   fits_part = subst (λ (zs : Lists). least ≤ shortest zs) (sym (lent_from_lem place rows)) (room_from place least rows can.fits)
 
   -- it is accepted
-  accepted_at : out ≡ Accepted
+  pub accepted_at : out ≡ Ok tt
   unfolding outcome
   accepted_at =
       b.tests ∙ late W k link_limit vs ls hs (length scratch) (shortest (lent_from place rows)) least (plan_passes can.plan (length scratch) enough)

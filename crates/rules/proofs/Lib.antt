@@ -5,7 +5,6 @@ pub mod Links
 pub mod Planning
 pub mod Splitting
 pub mod Lending
-pub mod Listing
 pub mod Standing
 pub mod Steps
 pub mod Whole

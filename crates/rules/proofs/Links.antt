@@ -1,20 +1,14 @@
 -- The last destination before g that begins it is the longest that is shorter and a start of it: what `next` is.
 use mathlib.Core.Path.{◌≡◌}
-use mathlib.Core.List.{List}
 use Prim.Native.Nat.{ℕ, ◌<◌}
 use native.Mathlib.Omega.{arith}
 use lib.ListN.{length}
-use Rattle.table.specs.Table.{at, Table}
+use Rattle.table.specs.Table.{at}
 use Rattle.table.specs.Longest.{matches, Wins}
 use Rattle.fields.specs.Rules.{Rules, rule_count, GoodRules}
 use Rattle.fields.specs.Runs.{Runs, EntryLists, trie_table, starts_shorter, last_before}
 use Rattle.fields.proofs.Tables.{dest_lengths, dest_table}
 use Rattle.fields.proofs.Nearest.{nearest_wins}
-use Rattle.rules.specs.Gathering.{Short}
-
--- no prefix of a table is longer than the width
-pub table_short : (W : ℕ) (vs ls hs : List ℕ) → Table W vs ls hs → Short W ls
-table_short W vs ls hs t i h = (t.entry i (omega (arith, t.lengths))).prefix.short
 
 -- the link of destination g
 module _ (W : ℕ) (rs : Rules) (good : GoodRules W rs) {m : ℕ} {from : ℕ → ℕ} (r : Runs (at rs.dvals) (at rs.dlens) (rule_count rs) m from) where

@@ -5,9 +5,8 @@ use Prim.Native.Nat.{ℕ, suc, ◌≤◌}
 use native.Mathlib.Nat.{le_of_suc-le-suc}
 use native.Mathlib.Omega.{arith}
 use lib.ListN.{length, replicate}
-use Rattle.table.specs.Refusals.{Test, outcome, Gives}
-use Rattle.table.specs.declared.entry.Outcome.{Outcome}
-use Rattle.table.specs.declared.entry.Outcome.TheVariants.{Accepted, Refused}
+use Rattle.std.specs.Prelude.{Ok, Err}
+use Rattle.table.specs.Refusals.{Outcome, Test, outcome, Gives}
 use Rattle.table.proofs.Refusals.{outcome_gives, gives_outcome}
 use Rattle.strides.specs.Trie.{Trie, size}
 use Rattle.strides.specs.Cheapest.{Kind, Cheapest}
@@ -71,11 +70,11 @@ module _ (W : ℕ) (rs : Rules) {m : ℕ} {from : ℕ → ℕ} (r : RunsOf rs m 
 
       go : (o : Outcome) → outcome (rule_scratch_tests W k links rs words m from) ≡ o
           → outcome (rule_build_tests W k links rs words room numbers m from own) ≡ outcome (rule_build_tests W k links rs words room numbers m' from' least)
-      go Accepted e =
+      go (Ok tt) e =
           let some = (scratch_tests_levels W k links rs words m from e).0 in
           ap outcome (build_tests_same W rs m from from' u.1 k links words room numbers own least (least_same some)
           ∙ ap (λ (x : ℕ). rule_build_tests W k links rs words room numbers x from' least) u.0)
-      go (Refused n d) e =
+      go (Err r) e =
           rule_tests_early W k links rs words m from room numbers own e
           ∙ sym (rule_tests_early W k links rs words m' from' room numbers least (ap outcome (sym (scratch_tests_one r' k links words)) ∙ e))
 
@@ -89,7 +88,7 @@ module _ {kind : Kind} {W k links : ℕ} {rs : Rules} {scratch : List ℕ} {rows
   abbrev tests : List Test
   tests = rule_scratch_tests W k links rs (length scratch) b.m b.from
 
-  some_levels : out ≡ Accepted → 1 ≤ k
+  some_levels : out ≡ Ok tt → 1 ≤ k
   some_levels e = let d = (b.laid e).dest in omega (arith, d.levels, d.built.levels.0)
 
   one_tests : {m : ℕ} {from : ℕ → ℕ} → RunsOf rs m from → rule_scratch_tests W k links rs (length scratch) m from ≡ tests
@@ -111,11 +110,11 @@ module _ {kind : Kind} {W k links : ℕ} {rs : Rules} {scratch : List ℕ} {rows
       named = (strides_by plain kind k (trie 0), strides_named kind k (trie 0) (some_levels e), b.named e);
       rest = b.rest e;
     };
-    zeroed = λ m from r a. b.after ∙ rw (sym (gives_outcome tests Accepted (subst (λ (ts : List Test). Gives ts Accepted) (one_tests r) a)));
-    untouched = λ m from r ne. b.after ∙ kept (outcome tests) refl (λ a. ne (subst (λ (ts : List Test). Gives ts Accepted) (sym (one_tests r)) a));
+    zeroed = λ m from r a. b.after ∙ rw (sym (gives_outcome tests (Ok tt) (subst (λ (ts : List Test). Gives ts (Ok tt)) (one_tests r) a)));
+    untouched = λ m from r ne. b.after ∙ kept (outcome tests) refl (λ a. ne (subst (λ (ts : List Test). Gives ts (Ok tt)) (sym (one_tests r)) a));
     keeps = b.keeps;
   }
     where
-      kept : (o : Outcome) → outcome tests ≡ o → (Gives tests Accepted → ⊥) → if_accepted o (replicate (length scratch) 0) scratch ≡ scratch
-      kept Accepted e ne = absurd (ne (subst (Gives tests) e (outcome_gives tests)))
-      kept (Refused n d) e ne = refl
+      kept : (o : Outcome) → outcome tests ≡ o → (Gives tests (Ok tt) → ⊥) → if_accepted o (replicate (length scratch) 0) scratch ≡ scratch
+      kept (Ok tt) e ne = absurd (ne (subst (Gives tests) e (outcome_gives tests)))
+      kept (Err r) e ne = refl

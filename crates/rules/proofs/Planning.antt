@@ -8,11 +8,12 @@ use native.Mathlib.Nat.{le_refl, le_trans, sub-le, suc-mul, mul-le-mul}
 use native.Mathlib.Omega.{arith}
 use lib.ListN.{length}
 use lib.Pow.{pow_mono}
+use Rattle.std.specs.Prelude.{Result, Ok, Err, IsOk}
 use Rattle.table.specs.Limits.{outside, entry_limit, width_limit, link_limit}
-use Rattle.table.specs.Refusals.{outcome}
+use Rattle.table.specs.declared.refusal.Refusal.{Refusal}
+use Rattle.table.specs.declared.refusal.Refusal.TheVariants.{Scratch}
+use Rattle.table.specs.Refusals.{Outcome, outcome, outcome_of}
 use Rattle.table.specs.Table.{at, check_of}
-use Rattle.table.specs.declared.entry.Outcome.{Outcome}
-use Rattle.table.specs.declared.entry.Outcome.TheVariants.{Accepted, Refused}
 use Rattle.table.proofs.Refusals.{refused_not_accepted}
 use Rattle.table.proofs.Table.{table_accepted, all_linked}
 use Rattle.strides.specs.Trie.{size, depth}
@@ -35,6 +36,11 @@ use Rattle.rules.specs.Splitting.{CanPlan}
 pub within_inside : {x most : ℕ} → Within x most → outside x most ≡ false
 within_inside {x} {most} w = outside_cases x most (λ (t : Bool). t ≡ false) (λ o. absurd (within_not w o)) (λ i. refl)
 
+-- the refusal of an outcome, and another where there is none
+abbrev refusal_in : Refusal → Outcome → Refusal
+refusal_in other (Ok _) = other
+refusal_in other (Err x) = x
+
 module _ {W k : ℕ} {vs ls hs : List ℕ} (can : CanPlan W k vs ls hs) where
   count_is : node_count W (at vs) (at ls) (length vs) ≡ size (table_trie W vs ls hs)
   count_is =
@@ -44,36 +50,33 @@ module _ {W k : ℕ} {vs ls hs : List ℕ} (can : CanPlan W k vs ls hs) where
   width_inside : outside W WIDTH ≡ false
   width_inside = within_inside (can.table.some_width, can.table.width)
 
-  accepted_table_is : check_of W link_limit vs ls hs ≡ Accepted
+  accepted_table_is : check_of W link_limit vs ls hs ≡ Ok tt
   accepted_table_is = table_accepted W link_limit vs ls hs can.table (λ i h. all_linked (at hs i))
 
   -- with a row for each node the tests 1 to 6 pass
-  pub plan_passes : (words : ℕ) → size (table_trie W vs ls hs) * ROW ≤ words → outcome (choose_tests W k link_limit vs ls hs words) ≡ Accepted
+  pub plan_passes : (words : ℕ) → size (table_trie W vs ls hs) * ROW ≤ words → outcome (choose_tests W k link_limit vs ls hs words) ≡ Ok tt
   plan_passes words h =
       tests_pass W k link_limit vs ls hs words width_inside (within_inside can.levels) accepted_table_is _ refl (omega (arith, count_is))
 
   -- with fewer, 6 says how many nodes there are
-  pub plan_lacks_rows : (words : ℕ) → words / ROW < size (table_trie W vs ls hs) → outcome (choose_tests W k link_limit vs ls hs words) ≡ Refused 6 (size (table_trie W vs ls hs))
+  pub plan_lacks_rows : (words : ℕ) → words / ROW < size (table_trie W vs ls hs) → outcome (choose_tests W k link_limit vs ls hs words) ≡ Err (Scratch (size (table_trie W vs ls hs)))
   plan_lacks_rows words h =
-      tests_scratch W k link_limit vs ls hs words width_inside (within_inside can.levels) accepted_table_is _ refl (omega (arith, count_is)) ∙ ap (Refused 6) count_is
+      tests_scratch W k link_limit vs ls hs words width_inside (within_inside can.levels) accepted_table_is _ refl (omega (arith, count_is)) ∙ ap (λ (n : ℕ). Err (Scratch n)) count_is
 
   -- ---- so a chooser that is lent less than a row says the number of nodes
-  pub no_nodes : {o : Outcome} → o ≡ outcome (choose_tests W k link_limit vs ls hs 1) → o ≡ Accepted → 0 ≡ size (table_trie W vs ls hs)
+  pub no_nodes : {o : Outcome} → o ≡ outcome (choose_tests W k link_limit vs ls hs 1) → o ≡ Ok tt → 0 ≡ size (table_trie W vs ls hs)
   no_nodes e a = go (size (table_trie W vs ls hs)) refl
     where
       go : (n : ℕ) → size (table_trie W vs ls hs) ≡ n → 0 ≡ n
       go zero q = refl
       go (suc n) q = absurd (refused_not_accepted (sym (plan_lacks_rows 1 (omega arith)) ∙ sym e ∙ a))
 
-  pub some_nodes : {o : Outcome} {n d : ℕ} → o ≡ outcome (choose_tests W k link_limit vs ls hs 1) → o ≡ Refused n d → d ≡ size (table_trie W vs ls hs)
-  some_nodes {o} {n} {d} e r = go (size (table_trie W vs ls hs)) refl
+  pub needs_nodes : {o : Outcome} (x : Refusal) → o ≡ outcome (choose_tests W k link_limit vs ls hs 1) → o ≡ Err x → x ≡ Scratch (size (table_trie W vs ls hs))
+  needs_nodes x e r = go (size (table_trie W vs ls hs)) refl
     where
-      detail : (x : ℕ) → Refused n d ≡ Refused 6 x → d ≡ x
-      detail x q = cc
-
-      go : (x : ℕ) → size (table_trie W vs ls hs) ≡ x → d ≡ size (table_trie W vs ls hs)
+      go : (n : ℕ) → size (table_trie W vs ls hs) ≡ n → x ≡ Scratch (size (table_trie W vs ls hs))
       go zero q = absurd (refused_not_accepted (sym r ∙ e ∙ plan_passes 1 (omega arith)))
-      go (suc x) q = detail (size (table_trie W vs ls hs)) (sym r ∙ e ∙ plan_lacks_rows 1 (omega arith))
+      go (suc n) q = ap (refusal_in x) (sym r ∙ e ∙ plan_lacks_rows 1 (omega arith))
 
   -- ---- how large they can be
   few_new : (i : ℕ) → i < length vs → new_nodes W (at vs) (at ls) i ≤ W
@@ -96,3 +99,9 @@ module _ {W k : ℕ} {vs ls hs : List ℕ} (can : CanPlan W k vs ls hs) where
       = omega (arith, trie_depth_width W (at vs) (at ls) (entry_marks ls hs) (length vs) (table_prefixes W vs ls hs can.table).prefix, can.table.width) in
       let p : 2 ^ depth (table_trie W vs ls hs) ≤ 2 ^ WIDTH = pow_mono d in
       cap_never_bites cost_cap kind k (table_trie W vs ls hs) (omega (arith, p))
+
+-- a call whose outcome accepts is accepted
+pub is_accepted : {A : Type 0} (r : Result A Refusal) → outcome_of r ≡ Ok tt → IsOk r
+unfolding outcome_of
+is_accepted (Ok x) e = refl
+is_accepted (Err y) e = absurd (refused_not_accepted e)

@@ -4,10 +4,10 @@ use mathlib.Core.Bool.{false}
 use mathlib.Core.List.{List, [], ◌∷◌, ◌++◌}
 use Prim.Native.Nat.{ℕ, suc, ◌≤◌}
 use native.Mathlib.Omega.{arith}
-use Rattle.table.specs.Refusals.{Test, outcome, Numbered, and_then}
+use Rattle.std.specs.Prelude.{Ok, Err}
+use Rattle.table.specs.declared.refusal.Refusal.{Refusal}
+use Rattle.table.specs.Refusals.{Outcome, Test, outcome, Numbered, and_then}
 use Rattle.table.specs.Table.{width_test, Linked}
-use Rattle.table.specs.declared.entry.Outcome.{Outcome}
-use Rattle.table.specs.declared.entry.Outcome.TheVariants.{Accepted, Refused}
 use Rattle.table.proofs.Refusals.{outcome_passes, outcome_append, accepted_passes, accepted_parts}
 use Rattle.table.proofs.Table.{width_passes}
 use Rattle.table.proofs.Numbered.{numbered_append}
@@ -26,25 +26,25 @@ module _ (W k links : ℕ) (rs : Rules) (words m : ℕ) (from : ℕ → ℕ) whe
   last_test = all_nodes_test words (sum_first (λ g. size (rule_trie W rs m from g)) (suc m)) ∷ []
 
   -- what acceptance says
-  past_width : outcome (rule_scratch_tests W k links rs words m from) ≡ Accepted
-      → ((width_test W).fails ≡ false) × ((levels_test k).fails ≡ false) × (outcome (rule_list_tests W links rs) ≡ Accepted)
+  past_width : outcome (rule_scratch_tests W k links rs words m from) ≡ Ok tt
+      → ((width_test W).fails ≡ false) × ((levels_test k).fails ≡ false) × (outcome (rule_list_tests W links rs) ≡ Ok tt)
   unfolding rule_scratch_tests
   past_width e =
       let p = accepted_passes (width_test W) (levels_test k ∷ (rule_list_tests W links rs ++ last_test)) e in
       let q = accepted_passes (levels_test k) (rule_list_tests W links rs ++ last_test) p.1 in
       (p.0, q.0, (accepted_parts (rule_list_tests W links rs) last_test q.1).0)
 
-  pub scratch_tests_levels : outcome (rule_scratch_tests W k links rs words m from) ≡ Accepted → Within k LEVELS
+  pub scratch_tests_levels : outcome (rule_scratch_tests W k links rs words m from) ≡ Ok tt → Within k LEVELS
   scratch_tests_levels e = within_levels k LEVELS (past_width e).1
 
-  past_rules : outcome (rule_scratch_tests W k links rs words m from) ≡ Accepted → outcome (rule_tests W links rs) ≡ Accepted
+  past_rules : outcome (rule_scratch_tests W k links rs words m from) ≡ Ok tt → outcome (rule_tests W links rs) ≡ Ok tt
   unfolding rule_tests
   past_rules e = let p = past_width e in outcome_passes (width_test W) (rule_list_tests W links rs) p.0 ∙ p.2
 
-  pub scratch_tests_good : outcome (rule_scratch_tests W k links rs words m from) ≡ Accepted → GoodRules W rs
+  pub scratch_tests_good : outcome (rule_scratch_tests W k links rs words m from) ≡ Ok tt → GoodRules W rs
   scratch_tests_good e = rules_good W links rs (past_rules e)
 
-  pub scratch_tests_linked : outcome (rule_scratch_tests W k links rs words m from) ≡ Accepted → Linked links rs.actions
+  pub scratch_tests_linked : outcome (rule_scratch_tests W k links rs words m from) ≡ Ok tt → Linked links rs.actions
   scratch_tests_linked e = rules_linked W links rs (past_rules e)
 
   -- for good rules whose actions the gateway has, and an allowed level count, test 6 alone is left
@@ -71,18 +71,18 @@ module _ (W k links : ℕ) (rs : Rules) (words m : ℕ) (from : ℕ → ℕ) whe
     unfolding rule_build_tests
     two_parts = outcome_append (rule_scratch_tests W k links rs words m from) room_tests
 
-    pub rule_tests_early : {n d : ℕ} → outcome (rule_scratch_tests W k links rs words m from) ≡ Refused n d
-        → outcome (rule_build_tests W k links rs words room numbers m from least) ≡ Refused n d
+    pub rule_tests_early : {r : Refusal} → outcome (rule_scratch_tests W k links rs words m from) ≡ Err r
+        → outcome (rule_build_tests W k links rs words room numbers m from least) ≡ Err r
     unfolding and_then
     rule_tests_early e = two_parts ∙ ap (λ (o : Outcome). and_then o (outcome room_tests)) e
 
-    pub rule_tests_late : outcome (rule_scratch_tests W k links rs words m from) ≡ Accepted
+    pub rule_tests_late : outcome (rule_scratch_tests W k links rs words m from) ≡ Ok tt
         → outcome (rule_build_tests W k links rs words room numbers m from least) ≡ outcome room_tests
     unfolding and_then
     rule_tests_late e = two_parts ∙ ap (λ (o : Outcome). and_then o (outcome room_tests)) e
 
-    pub rule_tests_scratch : outcome (rule_build_tests W k links rs words room numbers m from least) ≡ Accepted
-        → outcome (rule_scratch_tests W k links rs words m from) ≡ Accepted
+    pub rule_tests_scratch : outcome (rule_build_tests W k links rs words room numbers m from least) ≡ Ok tt
+        → outcome (rule_scratch_tests W k links rs words m from) ≡ Ok tt
     unfolding rule_build_tests
     rule_tests_scratch e = (accepted_parts (rule_scratch_tests W k links rs words m from) room_tests e).0
 

@@ -1,8 +1,6 @@
 -- The tables of all tries as the build holds them: one of them taken out, and sums that grow by one.
 use mathlib.Core.Path.{◌≡◌}
-use mathlib.Core.List.{List}
 use Prim.Native.Nat.{ℕ, suc, ◌*◌, ◌≤◌, ◌<◌}
-use native.Mathlib.Numerals.{add-one}
 use native.Mathlib.Omega.{arith}
 use lib.ListN.{length}
 use Rattle.strides.specs.Trie.{size}
@@ -12,25 +10,26 @@ use Rattle.table.specs.Limits.{entry_limit, width_limit}
 use Rattle.choosers.specs.Limits.{cost_cap}
 use Rattle.choosers.specs.Scratch.{ROW}
 use Rattle.fields.specs.Runs.{sum_first}
-use Rattle.rules.specs.Splitting.{SplitRules, split_trie, part_trie, CanPart, CanSplit, Roomy}
+use Rattle.fields.specs.Runs.{EntryLists}
+use Rattle.layout.specs.Laid.{table_trie}
+use Rattle.rules.specs.Splitting.{SplitRules, split_table, split_trie, CanPlan, CanSplit, Roomy}
 use Rattle.rules.proofs.Planning.{size_few, least_few}
 use Rattle.rules.proofs.Sums.{sum_few}
 
 module _ {W k : ℕ} {s : SplitRules} (can : CanSplit W k s) where
-  pub part_can : (g : ℕ) → g < length s.vals → CanPart W k s.first s.svals s.slens s.actions g
-  part_can g h = record {
-    inside = omega (arith, can.firsts);
-    rises = can.rising g h;
-    svalues = rw (add-one g) (can.svalues (suc g) h);
-    slengths = rw (add-one g) (can.slengths (suc g) h);
-    acts = rw (add-one g) (can.acts (suc g) h);
-    plan = can.plans (suc g) h;
-  }
+  -- table x, wherever it is held, and scratch for it
+  module _ (x : ℕ) (h : x ≤ length s.vals) {t : EntryLists} (e : t ≡ split_table s x) where
+    pub table_can : CanPlan W k t.vals t.lens t.hops
+    table_can = rw e (can.plans x h)
 
-  -- whichever part is asked for its cost
-  pub part_ready : {words lent : ℕ} → lent ≡ words → Roomy W s words → (g : ℕ) → g < length s.vals
-      → CanPart W k s.first s.svals s.slens s.actions g × (size (part_trie W s.first s.svals s.slens s.actions g) * ROW ≤ lent)
-  part_ready e r g h = (part_can g h, rw e (r (suc g) h))
+    pub table_size : {n : ℕ} → n ≡ size (table_trie W t.vals t.lens t.hops) → n ≡ size (split_trie W s x)
+    table_size q = rw e at q
+
+    pub table_least : (kind : Kind) {n : ℕ} → n ≡ least_by plain kind k (table_trie W t.vals t.lens t.hops) → n ≡ least_by plain kind k (split_trie W s x)
+    table_least kind q = rw e at q
+
+    pub table_roomy : {words lent : ℕ} → lent ≡ words → Roomy W s words → size (table_trie W t.vals t.lens t.hops) * ROW ≤ lent
+    table_roomy l r = rw (e, l) (r x h)
 
   -- the sums stay far below what a word holds
   pub nodes_fit : (n : ℕ) → n ≤ suc (length s.vals) → sum_first (λ g. size (split_trie W s g)) n ≤ n * (entry_limit * width_limit)
@@ -40,10 +39,9 @@ module _ {W k : ℕ} {s : SplitRules} (can : CanSplit W k s) where
   costs_fit kind n h =
       sum_few (λ g. least_by plain kind k (split_trie W s g)) n cost_cap (λ g l. omega (arith, least_few (can.plans g (omega arith)) kind))
 
--- and so does what is added to them, whichever part it is of
-module _ {W k : ℕ} {first svals slens actions : List ℕ} {g : ℕ} (can : CanPart W k first svals slens actions g) where
-  pub part_size : {x : ℕ} → x ≡ size (part_trie W first svals slens actions g) → x ≤ entry_limit * width_limit
-  part_size e = rw e (size_few can.plan)
+  -- and so does what is added to them
+  pub size_fits : (x : ℕ) → x ≤ length s.vals → {n : ℕ} → n ≡ size (split_trie W s x) → n ≤ entry_limit * width_limit
+  size_fits x h q = rw q (size_few (can.plans x h))
 
-  pub part_least : (kind : Kind) {x : ℕ} → x ≡ least_by plain kind k (part_trie W first svals slens actions g) → x < cost_cap
-  part_least kind e = rw e (least_few can.plan kind)
+  pub least_fits : (kind : Kind) (x : ℕ) → x ≤ length s.vals → {n : ℕ} → n ≡ least_by plain kind k (split_trie W s x) → n < cost_cap
+  least_fits kind x h q = rw q (least_few (can.plans x h) kind)

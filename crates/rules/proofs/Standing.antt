@@ -14,20 +14,21 @@ use Rattle.strides.specs.Cheapest.{Kind}
 use Rattle.strides.specs.Recurrence.{plain}
 use Rattle.strides.specs.Strides.{chosen_by}
 use Rattle.walk.specs.Limits.{WIDTH, HOPS}
-use Rattle.walk.specs.Rows.{Row, Lists, shortest, row_at, root}
+use Rattle.walk.specs.Rows.{Lists, shortest, row_at, root}
+use Rattle.walk.specs.Rows.{Row}
 use Rattle.walk.specs.declared.record.Record.{Record}
 use Rattle.layout.specs.Blocks.{Strides, rows_of, Hold}
 use Rattle.layout.specs.Laid.{table_trie, Laid}
 use Rattle.layout.proofs.Blocks.{rows_length}
 use Rattle.fields.specs.Runs.{part, sum_first, last_before}
 use Rattle.verdicts.specs.Limits.{trie_row_cells}
-use Rattle.verdicts.specs.Tries.{TrieRow, trie_row, source_record, from_place}
+use Rattle.verdicts.specs.declared.tries.TrieRow.{TrieRow}
+use Rattle.verdicts.specs.Tries.{trie_row, source_record, from_place}
 use Rattle.verdicts.proofs.Alone.{row_from, shortest_from}
 use Rattle.tries.specs.Limits.{ELEMENTS}
-use Rattle.rules.specs.Splitting.{SplitRules, split_table, split_trie, CanPart}
+use Rattle.rules.specs.Splitting.{SplitRules, split_table, split_trie}
 use Rattle.rules.specs.Build.{SameRoom}
 use Rattle.rules.specs.Laying.{CanLayAt, LaysSource, next_of, source_cost, place_of, SourceStands, CanLaySources, LaidTo}
-use Rattle.rules.proofs.Splitting.{part_can}
 use Rattle.rules.proofs.Sums.{sum_mono}
 
 -- the last one before g is at most g
@@ -192,11 +193,7 @@ module _ (kind : Kind) (W k : ℕ) (s : SplitRules) where
         ⊎_elim (λ (e : g ≡ length s.vals). omega (arith, t.reached, ap (place_of kind W k s start) e, can.few))
         (λ (l : g < length s.vals). omega (arith, next_fits l, can.few)) (eq-or-lt_of_le t.inside)
 
-    pub may_part : g < length s.vals → CanPart W k s.first s.svals s.slens s.actions g
-    may_part h = part_can can.split g h
-
-    pub may_lay_source : g < length s.vals → let i = at s.first g in let j = at s.first (g + 1) in
-        CanLayAt kind W k (part i j s.svals) (part i j s.slens) (part i j s.actions) words place rows
+    pub may_lay_source : g < length s.vals → let u = split_table s (suc g) in CanLayAt kind W k u.vals u.lens u.hops words place rows
     may_lay_source h =
         let short : shortest rows ≡ shortest rows₀ = same_shortest t.room in
         record {

@@ -8,9 +8,11 @@ use native.Mathlib.Omega.{arith}
 use lib.Dec.{ltb}
 use lib.ListN.{length, replicate}
 use borrow.Author.Tests.{lt-ltb, le-ltb, ltb-false}
-use Rattle.table.specs.Refusals.{Test, outcome}
-use Rattle.table.specs.declared.entry.Outcome.{Outcome}
-use Rattle.table.specs.declared.entry.Outcome.TheVariants.{Accepted, Refused}
+use Rattle.std.specs.Prelude.{Ok, Err}
+use Rattle.table.specs.declared.refusal.Refusal.{Refusal}
+use Rattle.table.specs.declared.refusal.Refusal.TheVariants.{Scratch}
+use Rattle.table.specs.Lists.{padded}
+use Rattle.table.specs.Refusals.{Outcome, Test, outcome}
 use Rattle.table.proofs.Bools.{or_false}
 use Rattle.table.proofs.Refusals.{outcome_fails, outcome_passes, accepted_passes, refused_not_accepted}
 use Rattle.strides.specs.Trie.{size}
@@ -28,7 +30,7 @@ use Rattle.tries.specs.Limits.{ELEMENTS}
 use Rattle.fields.specs.Runs.{sum_first}
 use Rattle.verdicts.specs.Limits.{trie_row_cells}
 use Rattle.verdicts.specs.declared.record.RuleRecord.{RuleRecord}
-use Rattle.rules.specs.Build.{all_nodes_test, trie_list_test, NoRuleRecord}
+use Rattle.rules.specs.Build.{all_nodes_test, trie_list_test, NoRuleRecord, rule_record_of}
 use Rattle.rules.specs.Splitting.{SplitRules, split_trie, split_nodes, split_costs, CanSplit, Roomy}
 use Rattle.rules.specs.Laying.{CanLayAt, LaysAt, source_cost, place_of, CanLaySources, LaidTo}
 use Rattle.rules.specs.Building.{CanLayAll, SplitWritten, TriesBuilt, SplitBuilt}
@@ -42,15 +44,19 @@ all_roomy W s words h g l =
 
 -- ---- refused: nothing is written
 
-nothing_written : (kind : Kind) (W k : ℕ) (s : SplitRules) (rows : Lists) (list : List ℕ) {out : Outcome} {n d : ℕ} {rec : RuleRecord} → out ≡ Refused n d
-    → NoRuleRecord rec → SplitWritten kind W k s rows list out rec rows list
-nothing_written kind W k s rows list e z = record {
-  laid = λ a. absurd (refused_not_accepted (sym e ∙ a));
+pub no_record : (e : Refusal) → NoRuleRecord (rule_record_of (Err e))
+unfolding padded
+no_record e = record { dest = record { width = refl; levels = refl; elements = refl; floor = refl; strides = refl }; elements = refl }
+
+nothing_written : (kind : Kind) (W k : ℕ) (s : SplitRules) (rows : Lists) (list : List ℕ) (e : Refusal)
+    → SplitWritten kind W k s rows list (Err e) (rule_record_of (Err e)) rows list
+nothing_written kind W k s rows list e = record {
+  laid = λ a. absurd (refused_not_accepted a);
   keeps = record {
     room = record { hops = refl; lens = refl; links = refl; strides = refl };
     long = refl;
-    later = λ a. absurd (refused_not_accepted (sym e ∙ a));
-    refused = λ ne. (z, refl, refl);
+    later = λ a. absurd (refused_not_accepted a);
+    refused = λ ne. (no_record e, refl, refl);
   };
 }
 
@@ -93,7 +99,7 @@ module _ (kind : Kind) (W k : ℕ) (s : SplitRules) {words : ℕ} {rows : Lists}
       dest_kept : Laid WIDTH W s.vals s.lens s.nums (chosen_by plain kind k (split_trie W s 0)) k dest rows2
       dest_kept = laid_kept 0 rows1 rows2 (same_shortest t.room) (λ i a b. t.before i (omega arith)) l.laid
 
-      pub all_laid : {rec : RuleRecord} → rec.dest ≡ dest → rec.elements ≡ e → SplitWritten kind W k s rows list Accepted rec rows2 list2
+      pub all_laid : {rec : RuleRecord} → rec.dest ≡ dest → rec.elements ≡ e → SplitWritten kind W k s rows list (Ok tt) rec rows2 list2
       all_laid {rec} d q = record {
         laid = λ a. record {
           dest = rw d dest_kept;
@@ -120,11 +126,10 @@ module _ (kind : Kind) (W k : ℕ) (s : SplitRules) {words : ℕ} {rows : Lists}
 
 module _ (kind : Kind) (W k : ℕ) (s : SplitRules) (rows : Lists) (list : List ℕ) {cost : ℕ} (costs : cost ≡ split_costs kind W k s) {o : Outcome}
     (tested : o ≡ outcome (room_test cost (shortest rows) ∷ trie_list_test (length list) (length s.vals) ∷ [])) where
-  pub room_lacks : {n d : ℕ} {out : Outcome} {rec : RuleRecord} → o ≡ Refused n d → out ≡ Refused n d → NoRuleRecord rec
-      → TriesBuilt kind W k s rows list out rec rows list
-  room_lacks f e z = record { tests = e ∙ sym f ∙ rw (sym costs) tested; written = nothing_written kind W k s rows list e z }
+  pub room_lacks : (e : Refusal) → o ≡ Err e → TriesBuilt kind W k s rows list (Err e) (rule_record_of (Err e)) rows list
+  room_lacks e f = record { tests = sym f ∙ rw (sym costs) tested; written = nothing_written kind W k s rows list e }
 
-  module _ (passed : o ≡ Accepted) where
+  module _ (passed : o ≡ Ok tt) where
     pub may_lay_all : {words : ℕ} → CanSplit W k s → Roomy W s words → CanLayAll kind W k s words rows list
     may_lay_all split roomy =
         let p = accepted_passes (room_test cost (shortest rows)) (trie_list_test (length list) (length s.vals) ∷ []) (sym tested ∙ passed) in
@@ -138,7 +143,7 @@ module _ (kind : Kind) (W k : ℕ) (s : SplitRules) (rows : Lists) (list : List 
           long = omega (arith, ltb-false (length list / trie_row_cells) (length s.vals) q.0);
         }
 
-    pub tries_built : {rec : RuleRecord} {rows' : Lists} {list' : List ℕ} → SplitWritten kind W k s rows list Accepted rec rows' list'
+    pub tries_built : {rec : RuleRecord} {rows' : Lists} {list' : List ℕ} → SplitWritten kind W k s rows list (Ok tt) rec rows' list'
         → TriesBuilt kind W k s rows list o rec rows' list'
     tries_built w = record { tests = rw (sym costs) tested; written = rw passed w }
 
@@ -148,19 +153,20 @@ module _ (kind : Kind) (W k : ℕ) (s : SplitRules) (scratch : List ℕ) (rows :
   abbrev sevens : List Test
   sevens = room_test (split_costs kind W k s) (shortest rows) ∷ trie_list_test (length list) (length s.vals) ∷ []
 
-  module _ {out : Outcome} {rec : RuleRecord} {nodes : ℕ} (counted : nodes ≡ split_nodes W s) where
-    pub all_scratch_short : length scratch / ROW < nodes → out ≡ Refused 6 nodes → NoRuleRecord rec → SplitBuilt kind W k s scratch rows list out rec scratch rows list
+  module _ {nodes : ℕ} (counted : nodes ≡ split_nodes W s) where
+    pub all_scratch_short : length scratch / ROW < nodes
+        → SplitBuilt kind W k s scratch rows list (Err (Scratch nodes)) (rule_record_of (Err (Scratch nodes))) scratch rows list
     unfolding outcome if_accepted
-    all_scratch_short h e z =
+    all_scratch_short h =
         let f : ltb (length scratch / ROW) (split_nodes W s) ≡ true = rw (sym counted) (lt-ltb (length scratch / ROW) nodes h) in
         record {
-          tests = e ∙ ap (Refused 6) counted ∙ sym (outcome_fails (all_nodes_test (length scratch) (split_nodes W s)) sevens f);
+          tests = ap (λ (n : ℕ). Err (Scratch n)) counted ∙ sym (outcome_fails (all_nodes_test (length scratch) (split_nodes W s)) sevens f);
           after = rw f refl;
-          written = nothing_written kind W k s rows list e z;
+          written = nothing_written kind W k s rows list (Scratch nodes);
         }
 
-    pub split_built : nodes ≤ length scratch / ROW → {scratch' : List ℕ} {rows' : Lists} {list' : List ℕ} → TriesBuilt kind W k s rows list out rec rows' list'
-        → scratch' ≡ replicate (length scratch) 0 → SplitBuilt kind W k s scratch rows list out rec scratch' rows' list'
+    pub split_built : nodes ≤ length scratch / ROW → {out : Outcome} {rec : RuleRecord} {scratch' : List ℕ} {rows' : Lists} {list' : List ℕ}
+        → TriesBuilt kind W k s rows list out rec rows' list' → scratch' ≡ replicate (length scratch) 0 → SplitBuilt kind W k s scratch rows list out rec scratch' rows' list'
     unfolding outcome if_accepted
     split_built h b z =
         let f : ltb (length scratch / ROW) (split_nodes W s) ≡ false = rw (sym counted) (le-ltb (length scratch / ROW) nodes h) in

@@ -11,10 +11,9 @@ use lib.ListN.{length}
 use lib.Seq.{ext_get_or}
 use Rattle.tries.proofs.Laying.{same_rows_one}
 use Rattle.tries.proofs.Unique.{record_same}
+use Rattle.std.specs.Prelude.{Ok, Err}
 use Rattle.table.specs.Table.{at}
-use Rattle.table.specs.Refusals.{Test, outcome, Gives}
-use Rattle.table.specs.declared.entry.Outcome.{Outcome}
-use Rattle.table.specs.declared.entry.Outcome.TheVariants.{Accepted, Refused}
+use Rattle.table.specs.Refusals.{Outcome, Test, outcome, Gives}
 use Rattle.table.specs.Lists.{padded}
 use Rattle.table.specs.Longest.{Wins}
 use Rattle.table.proofs.Lists.{padded_read}
@@ -233,12 +232,12 @@ module _ (kind : Kind) (W k links : ℕ) (rs : Rules) (scratch : List ℕ) (rows
     rule_scratch_one = go (outcome tests) refl
       where
         go : (o : Outcome) → outcome tests ≡ o → s ≡ s'
-        go Accepted e = let a = subst (Gives tests) e (outcome_gives tests) in c.zeroed m from runs a ∙ sym (d.zeroed m from runs a)
-        go (Refused n x) e =
-            let ne : Gives tests Accepted → ⊥ = λ a. refused_not_accepted (sym e ∙ sym (gives_outcome tests Accepted a)) in
+        go (Ok tt) e = let a = subst (Gives tests) e (outcome_gives tests) in c.zeroed m from runs a ∙ sym (d.zeroed m from runs a)
+        go (Err r) e =
+            let ne : Gives tests (Ok tt) → ⊥ = λ a. refused_not_accepted (sym e ∙ sym (gives_outcome tests (Ok tt) a)) in
             c.untouched m from runs ne ∙ sym (d.untouched m from runs ne)
 
-    rules_refused_one : (out ≡ Accepted → ⊥) → (out' ≡ Accepted → ⊥) → (rec ≡ rec') × (rows1 ≡ rows2) × (list1 ≡ list2)
+    rules_refused_one : (out ≡ Ok tt → ⊥) → (out' ≡ Ok tt → ⊥) → (rec ≡ rec') × (rows1 ≡ rows2) × (list1 ≡ list2)
     rules_refused_one ne ne' =
         let r = c.keeps.refused ne in
         let r' = d.keeps.refused ne' in
@@ -250,7 +249,7 @@ module _ (kind : Kind) (W k links : ℕ) (rs : Rules) (scratch : List ℕ) (rows
           r.2 ∙ sym r'.2,
         )
 
-    module _ (e : out ≡ Accepted) (e' : out' ≡ Accepted) where
+    module _ (e : out ≡ Ok tt) (e' : out' ≡ Ok tt) where
       one : LaidAt kind W k rs list m from rec rows1 list1
       one = laid_at (c.laid e) runs
 
@@ -296,6 +295,6 @@ module _ (kind : Kind) (W k links : ℕ) (rs : Rules) (scratch : List ℕ) (rows
     rule_builds_unique =
         let o = rule_outcome_one in
         let rest : (rec ≡ rec') × (rows1 ≡ rows2) × (list1 ≡ list2)
-        = ⊎_elim (λ (e : out ≡ Accepted). rules_accepted_one e (sym o ∙ e)) (λ (ne : out ≡ Accepted → ⊥). rules_refused_one ne (λ (e : out' ≡ Accepted). ne (o ∙ e)))
+        = ⊎_elim (λ (e : out ≡ Ok tt). rules_accepted_one e (sym o ∙ e)) (λ (ne : out ≡ Ok tt → ⊥). rules_refused_one ne (λ (e : out' ≡ Ok tt). ne (o ∙ e)))
         (accepted_or out) in
         (o, rest.0, rule_scratch_one, rest.1, rest.2)

@@ -6,12 +6,13 @@ use Prim.Native.Nat.{ℕ, zero, suc, ◌+◌, ◌-◌, ◌≤◌, ◌<◌}
 use native.Mathlib.Numerals.{add-one}
 use native.Mathlib.Omega.{arith}
 use lib.ListN.{length, replicate, take}
+use Rattle.std.specs.Prelude.{Ok, Err}
 use Rattle.table.specs.Limits.{outside}
-use Rattle.table.specs.Refusals.{Test, outcome, and_then}
+use Rattle.table.specs.declared.refusal.Refusal.{Refusal}
+use Rattle.table.specs.declared.refusal.Refusal.TheVariants.{Width, Levels}
+use Rattle.table.specs.Refusals.{Outcome, Test, outcome, and_then}
 use Rattle.table.specs.Table.{at, width_test, Linked}
 use Rattle.table.specs.Longest.{Wins}
-use Rattle.table.specs.declared.entry.Outcome.{Outcome}
-use Rattle.table.specs.declared.entry.Outcome.TheVariants.{Refused}
 use Rattle.table.proofs.Refusals.{outcome_fails, outcome_passes, outcome_append, refused_not_accepted}
 use Rattle.strides.specs.Trie.{Trie, size}
 use Rattle.strides.specs.Cheapest.{Kind}
@@ -20,16 +21,19 @@ use Rattle.strides.specs.Strides.{chosen_by}
 use Rattle.walk.specs.Limits.{WIDTH, LEVELS, Within}
 use Rattle.walk.specs.Rows.{Lists, shortest}
 use Rattle.layout.specs.Laid.{table_trie}
+use Rattle.choosers.proofs.ChooseTests.{within_levels}
 use Rattle.choosers.specs.Chooser.{levels_test, if_accepted}
 use Rattle.tries.specs.Build.{room_test}
 use Rattle.fields.specs.Rules.{Rules, rule_count, rule_list_tests, rule_tests, check_rules_of, GoodRules}
 use Rattle.fields.specs.Runs.{EntryLists, trie_table, sum_first, starts_shorter}
 use Rattle.fields.proofs.Runs.{run_count, run_from, runs_exist, from_mono, from_within, runs_few}
-use Rattle.fields.proofs.Rules.{good_rules}
+use Rattle.fields.specs.Limits.{rule_limit}
+use Rattle.fields.proofs.Rules.{rules_good, rules_linked, good_rules}
 use Rattle.fields.proofs.Tables.{dest_lengths, dest_table, source_table}
 use Rattle.verdicts.specs.Tries.{trie_row}
 use Rattle.verdicts.specs.declared.record.RuleRecord.{RuleRecord}
-use Rattle.rules.specs.Build.{RunsOf, rule_trie, all_nodes_test, trie_list_test, rule_scratch_tests, rule_build_tests, NoRuleRecord, TriesLaid, RulesAre}
+use Rattle.rules.specs.Build.{rule_record_of, RunsOf, rule_trie, all_nodes_test, trie_list_test, rule_scratch_tests, rule_build_tests, TriesLaid, RulesAre}
+use Rattle.rules.proofs.Steps.{no_record}
 use Rattle.rules.specs.Gathering.{Gathered}
 use Rattle.rules.specs.Splitting.{SplitRules, split_rules, split_table, split_trie, split_nodes, split_costs, CanPlan, CanSplit}
 use Rattle.rules.specs.Laying.{source_cost, SourceStands}
@@ -53,44 +57,44 @@ module _ (W k links : ℕ) (rs : Rules) (words m : ℕ) (from : ℕ → ℕ) (w 
 
 -- ---- refused before the destinations are gathered
 
-module _ (kind : Kind) (W k links : ℕ) (rs : Rules) (scratch : List ℕ) (rows : Lists) (list : List ℕ) {out : Outcome} {rec : RuleRecord} where
-  gathered_none : {n d : ℕ} → ((m : ℕ) (from : ℕ → ℕ) → outcome (rule_scratch_tests W k links rs (length scratch) m from) ≡ Refused n d) → out ≡ Refused n d
-      → NoRuleRecord rec → RulesAre kind W k links rs scratch rows list out rec scratch rows list
+module _ (kind : Kind) (W k links : ℕ) (rs : Rules) (scratch : List ℕ) (rows : Lists) (list : List ℕ) where
+  abbrev RefusedBy : Refusal → Type 0
+  RefusedBy e = RulesAre kind W k links rs scratch rows list (Err e) (rule_record_of (Err e)) scratch rows list
+
+  gathered_none : (e : Refusal) → ((m : ℕ) (from : ℕ → ℕ) → outcome (rule_scratch_tests W k links rs (length scratch) m from) ≡ Err e) → RefusedBy e
   unfolding if_accepted
-  gathered_none f e z =
+  gathered_none e f =
       let M = run_count (at rs.dvals) (at rs.dlens) (rule_count rs) in
       let F = run_from (at rs.dvals) (at rs.dlens) (rule_count rs) in
       record {
         m = M;
         from = F;
         runs = runs_exist (at rs.dvals) (at rs.dlens) (rule_count rs);
-        tests = e ∙ sym (rule_tests_early W k links rs (length scratch) M F (shortest rows) (length list) (λ g. least_by plain kind k (rule_trie W rs M F g)) (f M F));
+        tests = sym (rule_tests_early W k links rs (length scratch) M F (shortest rows) (length list) (λ g. least_by plain kind k (rule_trie W rs M F g)) (f M F));
         after = rw (f M F) refl;
-        laid = λ a. absurd (refused_not_accepted (sym e ∙ a));
-        named = λ a. absurd (refused_not_accepted (sym e ∙ a));
-        rest = λ a. absurd (refused_not_accepted (sym e ∙ a));
+        laid = λ a. absurd (refused_not_accepted a);
+        named = λ a. absurd (refused_not_accepted a);
+        rest = λ a. absurd (refused_not_accepted a);
         keeps = record {
           room = record { hops = refl; lens = refl; links = refl; strides = refl };
           long = refl;
-          later = λ a. absurd (refused_not_accepted (sym e ∙ a));
-          refused = λ ne. (z, refl, refl);
+          later = λ a. absurd (refused_not_accepted a);
+          refused = λ ne. (no_record e, refl, refl);
         };
       }
 
-  pub width_refused : outside W WIDTH ≡ true → out ≡ Refused 1 0 → NoRuleRecord rec → RulesAre kind W k links rs scratch rows list out rec scratch rows list
+  pub width_refused : outside W WIDTH ≡ true → RefusedBy Width
   unfolding rule_scratch_tests
-  width_refused f = gathered_none (λ m from. outcome_fails (width_test W) _ f)
+  width_refused f = gathered_none Width (λ m from. outcome_fails (width_test W) _ f)
 
-  pub levels_refused : outside W WIDTH ≡ false → outside k LEVELS ≡ true → out ≡ Refused 2 0 → NoRuleRecord rec
-      → RulesAre kind W k links rs scratch rows list out rec scratch rows list
+  pub levels_refused : outside W WIDTH ≡ false → outside k LEVELS ≡ true → RefusedBy Levels
   unfolding rule_scratch_tests
-  levels_refused w f = gathered_none (λ m from. outcome_passes (width_test W) _ w ∙ outcome_fails (levels_test k) _ f)
+  levels_refused w f = gathered_none Levels (λ m from. outcome_passes (width_test W) _ w ∙ outcome_fails (levels_test k) _ f)
 
-  pub rules_refused : outside W WIDTH ≡ false → outside k LEVELS ≡ false → {n d : ℕ} → check_rules_of W links rs ≡ Refused n d → out ≡ Refused n d → NoRuleRecord rec
-      → RulesAre kind W k links rs scratch rows list out rec scratch rows list
+  pub rules_refused : outside W WIDTH ≡ false → outside k LEVELS ≡ false → (e : Refusal) → check_rules_of W links rs ≡ Err e → RefusedBy e
   unfolding check_rules_of and_then
-  rules_refused w l {n} {d} f =
-      gathered_none (λ m from. past_levels W k links rs (length scratch) m from w l ∙ ap (λ (o : Outcome). and_then o (outcome (last_test W k links rs (length scratch) m from w l))) f)
+  rules_refused w l e f =
+      gathered_none e (λ m from. past_levels W k links rs (length scratch) m from w l ∙ ap (λ (o : Outcome). and_then o (outcome (last_test W k links rs (length scratch) m from w l))) f)
 
 -- ---- the tables that were gathered
 
@@ -223,3 +227,35 @@ module _ (W k : ℕ) (rs : Rules) (good : GoodRules W rs) (levels : Within k LEV
       ∙ ap (λ (xs : List ℕ). split_rules first xs (take m lens) (take m nums) rs.svals rs.slens rs.actions) (gathered_values rs r)
       ∙ ap (λ (xs : List ℕ). split_rules first (tab 0).vals xs (take m nums) rs.svals rs.slens rs.actions) (gathered_lengths rs r)
       ∙ ap (λ (xs : List ℕ). split_rules first (tab 0).vals (tab 0).lens xs rs.svals rs.slens rs.actions) (gathered_numbers rs r)
+
+-- ---- past the check of the rules, with the destinations gathered
+
+module _ (W links : ℕ) (rs : Rules) (checked : check_rules_of W links rs ≡ Ok tt) where
+  pub checked_good : GoodRules W rs
+  unfolding check_rules_of
+  checked_good = rules_good W links rs checked
+
+  checked_linked : Linked links rs.actions
+  unfolding check_rules_of
+  checked_linked = rules_linked W links rs checked
+
+  module _ (k : ℕ) (levels : outside k LEVELS ≡ false) {m : ℕ} {first vals lens nums : List ℕ} (r : Gathered rs.dvals rs.dlens (rule_count rs) m first vals lens nums)
+      (long : length first ≡ rule_limit + 1) where
+    levels_in : Within k LEVELS
+    levels_in = within_levels k LEVELS levels
+
+    enough_first : m < length first
+    enough_first = omega (arith, r.few, checked_good.few, long)
+
+    abbrev lent_on : SplitRules
+    lent_on = split_rules first (take (m - 0) vals) (take (m - 0) lens) (take (m - 0) nums) rs.svals rs.slens rs.actions
+
+    lent_is : lent_on ≡ held_rules W k rs checked_good levels_in m first r.runs enough_first
+    lent_is = held_lists W k rs checked_good levels_in m first r.runs enough_first r
+
+    pub gathered_can : CanSplit W k lent_on
+    gathered_can = rw lent_is (held_can W k rs checked_good levels_in m first r.runs enough_first)
+
+    pub gathered_built : {kind : Kind} {scratch scratch' : List ℕ} {rows rows' : Lists} {list list' : List ℕ} {out : Outcome} {rec : RuleRecord}
+        → SplitBuilt kind W k lent_on scratch rows list out rec scratch' rows' list' → RulesAre kind W k links rs scratch rows list out rec scratch' rows' list'
+    gathered_built b = whole_built W k rs checked_good levels_in m first r.runs enough_first links checked_linked (rw lent_is at b)

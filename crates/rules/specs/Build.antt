@@ -1,12 +1,12 @@
 -- The build of rules (02, [6]): tests 1 to 7, "with rules for entries", 6 and 7 over all tries; what it hands back, and what each lent list
 -- then holds. Each trie lies at its place as an ordinary build of its table leaves it (layout's `Laid`).
-use Rattle.std.specs.Prelude.{◌≡◌, List, [], ◌∷◌, ◌++◌, ℕ, suc, ◌+◌, ◌*◌, ◌/◌, ◌≤◌, ◌<◌, ltb, length, replicate}
-use Rattle.table.specs.Refusals.{Test, test, outcome, Gives}
+use Rattle.std.specs.Prelude.{Result, Ok, Err, ◌≡◌, List, [], ◌∷◌, ◌++◌, ℕ, suc, ◌+◌, ◌*◌, ◌/◌, ◌≤◌, ◌<◌, ltb, length, replicate}
+use Rattle.table.specs.declared.refusal.Refusal.{Refusal}
+use Rattle.table.specs.declared.refusal.Refusal.TheVariants.{Scratch, Room}
+use Rattle.table.specs.Refusals.{Outcome, Test, test, outcome, Gives}
 use Rattle.table.specs.Table.{at, width_test}
 use Rattle.table.specs.Lists.{padded}
 use Rattle.table.specs.Longest.{Wins}
-use Rattle.table.specs.declared.entry.Outcome.{Outcome}
-use Rattle.table.specs.declared.entry.Outcome.TheVariants.{Accepted}
 use Rattle.strides.specs.Trie.{Trie, size}
 use Rattle.strides.specs.Cheapest.{Kind, Cheapest, Named}
 use Rattle.strides.specs.Recurrence.{plain, least_by, strides_by}
@@ -36,11 +36,11 @@ rule_trie W rs m from g = table_trie W (trie_table rs m from g).vals (trie_table
 
 -- 6: scratch of so many numbers has fewer whole rows than all tries have 1-bit nodes; the detail is the rows needed
 abbrev pub all_nodes_test : (words nodes : ℕ) → Test
-all_nodes_test words nodes = test 6 nodes (ltb (words / ROW) nodes)
+all_nodes_test words nodes = test (Scratch nodes) (ltb (words / ROW) nodes)
 
 -- 7, after elements: a list of so many numbers has fewer whole rows than there are source tries; the detail is the rows needed
 abbrev pub trie_list_test : (numbers m : ℕ) → Test
-trie_list_test numbers m = test 7 m (ltb (numbers / trie_row_cells) m)
+trie_list_test numbers m = test (Room m) (ltb (numbers / trie_row_cells) m)
 
 -- 1, 2, 3, then 4 and 5 rule by rule, 6; 4 by the number of links that the caller states (02, [7])
 unfoldable pub rule_scratch_tests : (W k links : ℕ) (rs : Rules) (words m : ℕ) (from : ℕ → ℕ) → List Test
@@ -72,6 +72,11 @@ pub record NoRuleRecord (rec : RuleRecord) : Type 0 where
   pub dest : NoRecord rec.dest
   pub elements : rec.elements ≡ 0
 
+-- the record in an answer, all zeros where it is a refusal
+abbrev pub rule_record_of : Result RuleRecord Refusal → RuleRecord
+rule_record_of (Ok r) = r
+rule_record_of (Err e) = record { dest = record { width = 0; levels = 0; elements = 0; floor = 0; strides = padded LEVELS [] }; elements = 0 }
+
 -- the four element lists keep their lengths
 pub record SameRoom (rows rows' : Lists) : Type 0 where
   pub hops : length rows'.hop ≡ length rows.hop
@@ -83,8 +88,8 @@ pub record SameRoom (rows rows' : Lists) : Type 0 where
 pub record RulesKept (rows : Lists) (list : List ℕ) (out : Outcome) (rec : RuleRecord) (rows' : Lists) (list' : List ℕ) : Type 0 where
   pub room : SameRoom rows rows'
   pub long : length list' ≡ length list
-  pub later : out ≡ Accepted → (i : ℕ) → rec.elements ≤ i → row_at rows' i ≡ row_at rows i
-  pub refused : (out ≡ Accepted → ⊥) → NoRuleRecord rec × (rows' ≡ rows) × (list' ≡ list)
+  pub later : out ≡ Ok tt → (i : ℕ) → rec.elements ≤ i → row_at rows' i ≡ row_at rows i
+  pub refused : (out ≡ Ok tt → ⊥) → NoRuleRecord rec × (rows' ≡ rows) × (list' ≡ list)
 
 -- the exact answer: all tests, then the tries of the strides that the recurrences find; scratch is zeroed past test 6
 pub record RulesAre (kind : Kind) (W k links : ℕ) (rs : Rules) (scratch : List ℕ) (rows : Lists) (list : List ℕ) (out : Outcome) (rec : RuleRecord)
@@ -95,9 +100,9 @@ pub record RulesAre (kind : Kind) (W k links : ℕ) (rs : Rules) (scratch : List
   pub tests : out ≡ outcome
       (rule_build_tests W k links rs (length scratch) (shortest rows) (length list) m from (λ g. least_by plain kind k (rule_trie W rs m from g)))
   pub after : scratch' ≡ if_accepted (outcome (rule_scratch_tests W k links rs (length scratch) m from)) (replicate (length scratch) 0) scratch
-  pub laid : out ≡ Accepted → TriesLaid W k rs m from (λ g. chosen_by plain kind k (rule_trie W rs m from g)) rec rows' list'
-  pub named : out ≡ Accepted → rec.dest.strides ≡ padded LEVELS (strides_by plain kind k (rule_trie W rs m from 0))
-  pub rest : out ≡ Accepted → (i : ℕ) → m * trie_row_cells ≤ i → at list' i ≡ at list i
+  pub laid : out ≡ Ok tt → TriesLaid W k rs m from (λ g. chosen_by plain kind k (rule_trie W rs m from g)) rec rows' list'
+  pub named : out ≡ Ok tt → rec.dest.strides ≡ padded LEVELS (strides_by plain kind k (rule_trie W rs m from 0))
+  pub rest : out ≡ Ok tt → (i : ℕ) → m * trie_row_cells ≤ i → at list' i ≡ at list i
   pub keeps : RulesKept rows list out rec rows' list'
 
 -- accepted: the tries of choices that the tie rule names, the destination's strides in the record, and later numbers of the list kept
@@ -117,8 +122,8 @@ pub record RuleBuilds (kind : Kind) (W k links : ℕ) (rs : Rules) (scratch : Li
     (scratch' : List ℕ) (rows' : Lists) (list' : List ℕ) : Type 0 where
   pub tested : (m : ℕ) (from least : ℕ → ℕ) → RunsOf rs m from → ((g : ℕ) → g ≤ m → 1 ≤ k → Cheapest kind k (rule_trie W rs m from g) (least g))
       → Gives (rule_build_tests W k links rs (length scratch) (shortest rows) (length list) m from least) out
-  pub laid : out ≡ Accepted → RulesLaid kind W k rs list rec rows' list'
-  pub zeroed : (m : ℕ) (from : ℕ → ℕ) → RunsOf rs m from → Gives (rule_scratch_tests W k links rs (length scratch) m from) Accepted
+  pub laid : out ≡ Ok tt → RulesLaid kind W k rs list rec rows' list'
+  pub zeroed : (m : ℕ) (from : ℕ → ℕ) → RunsOf rs m from → Gives (rule_scratch_tests W k links rs (length scratch) m from) (Ok tt)
       → scratch' ≡ replicate (length scratch) 0
-  pub untouched : (m : ℕ) (from : ℕ → ℕ) → RunsOf rs m from → (Gives (rule_scratch_tests W k links rs (length scratch) m from) Accepted → ⊥) → scratch' ≡ scratch
+  pub untouched : (m : ℕ) (from : ℕ → ℕ) → RunsOf rs m from → (Gives (rule_scratch_tests W k links rs (length scratch) m from) (Ok tt) → ⊥) → scratch' ≡ scratch
   pub keeps : RulesKept rows list out rec rows' list'

@@ -1,10 +1,8 @@
 -- Past the tests of the rules: what the functions of the build ask and give, over the tables as they hold them.
-use Rattle.std.specs.Prelude.{◌≡◌, List, [], ◌∷◌, ℕ, ◌*◌, ◌≤◌, ◌<◌, length, replicate}
-use Rattle.table.specs.Refusals.{outcome}
+use Rattle.std.specs.Prelude.{Ok, ◌≡◌, List, [], ◌∷◌, ℕ, ◌*◌, ◌≤◌, ◌<◌, length, replicate}
+use Rattle.table.specs.Refusals.{Outcome, outcome}
 use Rattle.table.specs.Table.{at}
 use Rattle.table.specs.Lists.{padded}
-use Rattle.table.specs.declared.entry.Outcome.{Outcome}
-use Rattle.table.specs.declared.entry.Outcome.TheVariants.{Accepted}
 use Rattle.strides.specs.Cheapest.{Kind}
 use Rattle.strides.specs.Recurrence.{plain, strides_by}
 use Rattle.strides.specs.Strides.{chosen_by}
@@ -31,7 +29,7 @@ pub record SplitLaid (kind : Kind) (W k : ℕ) (s : SplitRules) (list : List ℕ
 
 pub record SplitWritten (kind : Kind) (W k : ℕ) (s : SplitRules) (rows : Lists) (list : List ℕ) (out : Outcome) (rec : RuleRecord) (rows' : Lists)
     (list' : List ℕ) : Type 0 where
-  pub laid : out ≡ Accepted → SplitLaid kind W k s list rec rows' list'
+  pub laid : out ≡ Ok tt → SplitLaid kind W k s list rec rows' list'
   pub keeps : RulesKept rows list out rec rows' list'
 
 -- the tests have passed

@@ -16,7 +16,8 @@ use Rattle.tries.specs.Limits.{ELEMENTS}
 use Rattle.choosers.specs.Scratch.{ROW}
 use Rattle.fields.specs.Runs.{sum_first, last_before}
 use Rattle.verdicts.specs.Limits.{trie_row_cells}
-use Rattle.verdicts.specs.Tries.{TrieRow, trie_row, source_record, from_place}
+use Rattle.verdicts.specs.declared.tries.TrieRow.{TrieRow}
+use Rattle.verdicts.specs.Tries.{trie_row, source_record, from_place}
 use Rattle.rules.specs.Build.{SameRoom}
 use Rattle.rules.specs.Splitting.{SplitRules, split_table, split_trie, CanPlan, CanSplit, Roomy}
 

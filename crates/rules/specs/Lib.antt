@@ -6,3 +6,4 @@ pub mod Gathering
 pub mod Splitting
 pub mod Laying
 pub mod Building
+pub mod Tables

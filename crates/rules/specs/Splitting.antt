@@ -25,17 +25,13 @@ abbrev pub split_rules : (first vals lens nums svals slens actions : List ℕ) �
 split_rules first vals lens nums svals slens actions =
     record { first = first; vals = vals; lens = lens; nums = nums; svals = svals; slens = slens; actions = actions }
 
--- the sources of destination g, as the code takes them
-abbrev pub part_table : (first svals slens actions : List ℕ) → ℕ → EntryLists
-part_table first svals slens actions g =
-    let i = at first g in
-    let j = at first (g + 1) in
-    entry_lists (part i j svals) (part i j slens) (part i j actions)
-
 -- table number 0 is the destinations', suc g that of the sources of destination g
 abbrev pub split_table : SplitRules → ℕ → EntryLists
 split_table s zero = entry_lists s.vals s.lens s.nums
-split_table s (suc g) = part_table s.first s.svals s.slens s.actions g
+split_table s (suc g) =
+    let i = at s.first g in
+    let j = at s.first (g + 1) in
+    entry_lists (part i j s.svals) (part i j s.slens) (part i j s.actions)
 
 abbrev pub split_trie : ℕ → SplitRules → ℕ → Trie
 split_trie W s g = table_trie W (split_table s g).vals (split_table s g).lens (split_table s g).hops
@@ -44,18 +40,6 @@ split_trie W s g = table_trie W (split_table s g).vals (split_table s g).lens (s
 pub record CanPlan (W k : ℕ) (vs ls hs : List ℕ) : Type 0 where
   pub table : Table W vs ls hs
   pub levels : Within k LEVELS
-
--- so did the sources of destination g, and they lie in their lists
-pub record CanPart (W k : ℕ) (first svals slens actions : List ℕ) (g : ℕ) : Type 0 where
-  pub inside : g + 1 < length first
-  pub rises : at first g ≤ at first (g + 1)
-  pub svalues : at first (g + 1) ≤ length svals
-  pub slengths : at first (g + 1) ≤ length slens
-  pub acts : at first (g + 1) ≤ length actions
-  pub plan : let t = part_table first svals slens actions g in CanPlan W k t.vals t.lens t.hops
-
-abbrev pub part_trie : (W : ℕ) (first svals slens actions : List ℕ) → ℕ → Trie
-part_trie W first svals slens actions g = let t = part_table first svals slens actions g in table_trie W t.vals t.lens t.hops
 
 -- so did all of them
 pub record CanSplit (W k : ℕ) (s : SplitRules) : Type 0 where

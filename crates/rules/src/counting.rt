@@ -6,161 +6,79 @@ ghost use Rattle.strides.specs.Recurrence.{plain, least_by};
 ghost use Rattle.layout.specs.Laid.{table_trie};
 ghost use Rattle.choosers.specs.Kinds.{kind_of};
 ghost use Rattle.choosers.specs.Scratch.{ROW};
-ghost use Rattle.rules.specs.Splitting.{split_rules, part_trie, split_nodes, split_costs, CanPlan, CanPart, CanSplit, Roomy};
+ghost use Rattle.rules.specs.Tables.{tables};
+ghost use Rattle.rules.specs.Splitting.{split_nodes, split_costs, CanPlan, CanSplit, Roomy};
 
-use choosers::{Kind, ROW, choose_fixed, plan_choice};
-use table::{LINKS, Outcome};
+use crate::split::Split;
+use choosers::{Kind, ROW, choose, plan_choice};
+use table::{Entries, LINKS, Refusal};
 
 // The 1-bit nodes of a table: a chooser that is lent no row of scratch is refused by 6 and says how many it needs, or needs none.
-pub(crate) fn nodes_of(width: u32, levels: u32, value: &[u32], lens: &[u8], hop: &[u16]) -> usize
-    requires { CanPlan width levels value.now lens.now hop.now }
-    ensures { result ≡ size (table_trie width value.now lens.now hop.now) }
+#[tactic(auto, using(crate::proofs::Planning::no_nodes), unfolding(table::specs::Refusals::outcome_of))]
+pub(crate) fn nodes_of(split: &Split, entries: Entries) -> usize
+    requires { CanPlan split.now.width split.now.levels entries.value.now entries.length.now entries.hop.now }
+    ensures { result ≡ size (table_trie split.now.width entries.entry.value.now entries.entry.length.now entries.entry.hop.now) }
 {
     let mut word = [0u64; 1];
-    let chosen = choose_fixed(width, levels, LINKS, value, lens, hop, &mut word);
-    let outcome = chosen.outcome;
-    match outcome {
-        Outcome::Accepted => 0,
-        Outcome::Refused { number: _, detail } => detail as usize,
+    let chosen = choose(
+        Kind::Fixed,
+        split.width,
+        split.levels,
+        LINKS,
+        entries,
+        &mut word,
+    );
+    let Err(refusal) = chosen else {
+        return 0;
+    };
+    match refusal {
+        Refusal::Scratch { needed } => needed as usize,
+        _ => 0,
     }
 }
 
-// The least cost of a table. Only the rows that its trie needs are lent on, since a chooser zeroes all that it is lent.
-fn cost_of(
-    kind: Kind,
-    width: u32,
-    levels: u32,
-    value: &[u32],
-    lens: &[u8],
-    hop: &[u16],
-    scratch: &mut [u64],
-) -> u64
-    requires can_plan { CanPlan width levels value.now lens.now hop.now }
-    requires hop_in_bounds { size (table_trie width value.now lens.now hop.now) * ROW ≤ length scratch.old }
-    ensures { result ≡ least_by plain (kind_of kind) levels (table_trie width value.now lens.now hop.now) }
+// The least cost of a table that has passed its tests. Only the rows that its trie needs are lent on, since a chooser zeroes all that
+// it is lent.
+fn cost_of(split: &Split, entries: Entries, scratch: &mut [u64]) -> u64
+    requires can_plan { CanPlan split.now.width split.now.levels entries.value.now entries.length.now entries.hop.now }
+    requires roomy { size (table_trie split.now.width entries.value.now entries.length.now entries.hop.now) * ROW ≤ length scratch.old }
+    ensures { result ≡ least_by plain (kind_of split.now.kind) split.now.levels
+        (table_trie split.now.width entries.entry.value.now entries.entry.length.now entries.entry.hop.now) }
 {
-    let words = nodes_of(width, levels, value, lens, hop) * ROW;
-    let planned = plan_choice(
-        kind,
-        width,
-        levels,
+    let words = nodes_of(split, entries) * ROW;
+    let plan = plan_choice(
+        split.kind,
+        split.width,
+        split.levels,
         LINKS,
-        value,
-        lens,
-        hop,
+        entries,
         &mut scratch[0..words],
-    );
-    planned.cost
-}
-
-// The nodes of source trie g.
-fn source_nodes(
-    width: u32,
-    levels: u32,
-    first: &[u16],
-    svals: &[u32],
-    slens: &[u8],
-    actions: &[u16],
-    g: usize,
-) -> usize
-    requires { CanPart width levels first.now svals.now slens.now actions.now g }
-    ensures { result ≡ size (part_trie width first.now svals.now slens.now actions.now g) }
-{
-    let from = first[g] as usize;
-    let to = first[g + 1] as usize;
-    nodes_of(
-        width,
-        levels,
-        &svals[from..to],
-        &slens[from..to],
-        &actions[from..to],
     )
-}
-
-// The least cost of source trie g.
-fn source_cost(
-    kind: Kind,
-    width: u32,
-    levels: u32,
-    first: &[u16],
-    svals: &[u32],
-    slens: &[u8],
-    actions: &[u16],
-    g: usize,
-    scratch: &mut [u64],
-) -> u64
-    requires can_part { CanPart width levels first.now svals.now slens.now actions.now g }
-    requires g_in_bounds { size (part_trie width first.now svals.now slens.now actions.now g) * ROW ≤ length scratch.old }
-    ensures { result ≡ least_by plain (kind_of kind) levels (part_trie width first.now svals.now slens.now actions.now g) }
-{
-    let from = first[g] as usize;
-    let to = first[g + 1] as usize;
-    cost_of(
-        kind,
-        width,
-        levels,
-        &svals[from..to],
-        &slens[from..to],
-        &actions[from..to],
-        scratch,
-    )
+    .unwrap();
+    plan.cost
 }
 
 // Test 6's count: the nodes of all tries, the destinations' first.
-pub(crate) fn all_nodes(
-    width: u32,
-    levels: u32,
-    first: &[u16],
-    vals: &[u32],
-    lens: &[u8],
-    nums: &[u16],
-    svals: &[u32],
-    slens: &[u8],
-    actions: &[u16],
-) -> usize
-    requires { CanSplit width levels (split_rules first.now vals.now lens.now nums.now svals.now slens.now actions.now) }
-    ensures { result ≡ split_nodes width
-        (split_rules first.now vals.now lens.now nums.now svals.now slens.now
-        actions.now) }
+pub(crate) fn all_nodes(split: &Split) -> usize
+    requires { CanSplit split.now.width split.now.levels (tables split.now) }
+    ensures { result ≡ split_nodes split.now.width (tables split.now) }
 {
-    let m = vals.len();
-    let mut nodes = nodes_of(width, levels, vals, lens, nums);
-    let mut g = 0;
-    while g < m {
-        nodes += source_nodes(width, levels, first, svals, slens, actions, g);
-        g += 1;
+    let mut nodes = nodes_of(split, split.destinations);
+    for g in 0..split.destinations.value.len() {
+        nodes += nodes_of(split, split.part(g));
     }
     nodes
 }
 
 // Test 7's sum: the least costs of all tries.
-pub(crate) fn all_costs(
-    kind: Kind,
-    width: u32,
-    levels: u32,
-    first: &[u16],
-    vals: &[u32],
-    lens: &[u8],
-    nums: &[u16],
-    svals: &[u32],
-    slens: &[u8],
-    actions: &[u16],
-    scratch: &mut [u64],
-) -> u64
-    requires can_split { CanSplit width levels (split_rules first.now vals.now lens.now nums.now svals.now slens.now actions.now) }
-    requires roomy { Roomy width (split_rules first.now vals.now lens.now nums.now svals.now slens.now actions.now) (length scratch.old) }
-    ensures { result ≡ split_costs (kind_of kind) width levels
-        (split_rules first.now vals.now lens.now nums.now svals.now slens.now
-        actions.now) }
+pub(crate) fn all_costs(split: &Split, scratch: &mut [u64]) -> u64
+    requires can_split { CanSplit split.now.width split.now.levels (tables split.now) }
+    requires roomy { Roomy split.now.width (tables split.now) (length scratch.old) }
+    ensures { result ≡ split_costs (kind_of split.now.kind) split.now.width split.now.levels (tables split.now) }
 {
-    let m = vals.len();
-    let mut cost = cost_of(kind, width, levels, vals, lens, nums, scratch);
-    let mut g = 0;
-    while g < m {
-        cost += source_cost(
-            kind, width, levels, first, svals, slens, actions, g, scratch,
-        );
-        g += 1;
+    let mut cost = cost_of(split, split.destinations, scratch);
+    for g in 0..split.destinations.value.len() {
+        cost += cost_of(split, split.part(g), scratch);
     }
     cost
 }

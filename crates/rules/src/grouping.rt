@@ -5,21 +5,18 @@ ghost use Rattle.fields.specs.Limits.{rule_limit};
 ghost use Rattle.fields.specs.Runs.{begins_run};
 ghost use Rattle.rules.specs.Gathering.{Gathered, Taken};
 
-// Whether rule i has another destination than the rule before, or is the first.
+// Whether rule i has another destination than the rule before, or is the first. (Two tests: as an inequality of pairs it is no shorter.)
+#[tactic(auto, using(crate::proofs::Gathering::begins_first, crate::proofs::Gathering::begins_value, crate::proofs::Gathering::begins_length))]
 fn is_new(dvals: &[u32], dlens: &[u8], i: usize) -> bool
     requires { (i < length dvals.now) × (i < length dlens.now) }
     ensures { result ≡ begins_run (at dvals.now) (at dlens.now) i }
 {
-    if i == 0 {
-        return true;
-    }
-    if dvals[i - 1] != dvals[i] {
-        return true;
-    }
-    dlens[i - 1] != dlens[i]
+    i == 0 || dvals[i - 1] != dvals[i] || dlens[i - 1] != dlens[i]
 }
 
-// Takes the destination of rule i to the m that were found, where it is a new one. Returns how many there are then.
+// Takes the destination of rule i to the m that were found, where it is a new one. Returns how many there are then. (The lists stay apart:
+// this and `gather` are all that take the three, and `build_rules` uses their fronts next, as a table's.)
+#[tactic(auto, using(crate::specs::Gathering::new_run, crate::specs::Gathering::same_run))]
 fn taken(
     dvals: &[u32],
     dlens: &[u8],
@@ -58,14 +55,11 @@ pub(crate) fn gather(
     ensures { Gathered dvals.now dlens.now (length dvals.now) result
         first.new vals.new lens.new nums.new }
 {
-    let n = dvals.len();
     let mut m = 0;
-    let mut i = 0;
     first[0] = 0;
-    while i < n {
+    for i in 0..dvals.len() {
         m = taken(dvals, dlens, i, m, vals, lens, nums);
-        i += 1;
-        first[m] = i as u16;
+        first[m] = (i + 1) as u16;
     }
     m
 }

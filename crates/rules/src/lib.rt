@@ -7,6 +7,6 @@ mod counting;
 mod grouping;
 mod laying;
 mod linking;
-mod room;
+mod split;
 
-pub use building::{BuiltRules, build_rules};
+pub use building::build_rules;

@@ -23,7 +23,7 @@ use Rattle.verdicts.specs.Verdicts.{verdict_number, action_of, verdict_reads}
 use Rattle.verdicts.specs.Meaning.{BadTrie, past_list, past_rows, breaks_rule, SourcePath, action_on, VisitsTries, no_more, too_many, broken_off}
 use Rattle.verdicts.specs.Meaning.{matched_in, goes_on, called_first, RuleDamage, short_lists, past_all, breaks_dest, breaks_source, TriesWay, RuleTested, Classified, SameTries, SameRows}
 use Rattle.verdicts.specs.declared.record.RuleRecord.{RuleRecord}
-use Rattle.verdicts.specs.declared.visiting.Verdict.{Verdict}
+use Rattle.verdicts.specs.Cases.{Verdict}
 use Rattle.verdicts.proofs.Answers.{refusal_bare}
 use Rattle.verdicts.proofs.Visits.{placed_length}
 use Rattle.verdicts.proofs.Unique.{visits_unique, tries_way_unique, classified_unique}

@@ -10,12 +10,12 @@ use lib.Dec.{eqb}
 use borrow.Author.Tests.{eqb-true, eqb-false, ne_eqb}
 use Rattle.table.specs.Limits.{discard_hop}
 use Rattle.walk.specs.Answers.{answer}
-use Rattle.walk.specs.declared.walk.Answer.TheVariants.{Match}
-use Rattle.walk.specs.declared.walk.Answer as found
+use Rattle.walk.specs.Cases.{Match}
+use Rattle.walk.specs.Cases as found
 use Rattle.verdicts.specs.Classify.{onward}
 use Rattle.verdicts.specs.Verdicts.{verdict_number, action_of, verdict_reads, VerdictCase}
-use Rattle.verdicts.specs.declared.visiting.Verdict.{Verdict}
-use Rattle.verdicts.specs.declared.visiting.Verdict.TheVariants.{Act, Discard, NoRule, Refused}
+use Rattle.verdicts.specs.Cases.{Verdict}
+use Rattle.verdicts.specs.Cases.{Act, Discard, NoRule, Refused}
 
 -- the verdict of an action: 0 is no rule, `discard_hop` a discard, every other is to act
 unfoldable pub verdict : (action reads : ℕ) → Verdict
@@ -95,6 +95,6 @@ pub onward_some : (h len r reads : ℕ) (go : ℕ → Verdict) → 0 < h → onw
 unfolding onward answer verdict
 onward_some h len r reads go p = rw (ne_eqb h 0 (λ (e : h ≡ 0). omega arith)) (by (eqb h discard_hop))
   where
-    by : (d : Bool) → onward (cond d (found.TheVariants.Discard len r) (Match h len r)) reads go ≡ cond d (Discard (reads + r)) (Act h (reads + r))
+    by : (d : Bool) → onward (cond d (found.Discard len r) (Match h len r)) reads go ≡ cond d (Discard (reads + r)) (Act h (reads + r))
     by true = refl
     by false = refl

@@ -1,6 +1,6 @@
 -- The verdicts that the promise allows: the classification's is one (and there is no other, `classified_unique`).
 use Prim.Native.Nat.{ℕ, ◌+◌, ◌^◌, ◌≤◌, ◌<◌}
-use mathlib.Core.Path.{◌≡◌, refl, ap, subst, ◌∙◌}
+use mathlib.Core.Path.{◌≡◌, refl, sym, ap, subst, ◌∙◌}
 use mathlib.Core.Bool.{Bool, true, false, cond, true≢false, ◌||◌}
 use mathlib.Core.List.{List, ◌++◌}
 use mathlib.Core.Logic.{◌⊎◌, inl, inr, ⊎_elim}
@@ -8,6 +8,7 @@ use native.Mathlib.Omega.{arith}
 use native.Mathlib.Decide.{dec_le}
 use lib.Dec.{eqb, ltb, leb}
 use lib.ListN.{length, length-append}
+use Rattle.std.specs.Prelude.{Ok, Err}
 use borrow.Author.Tests.{ltb-true, ltb-false, leb-true, leb-false, ne_eqb}
 use Rattle.table.specs.Limits.{outside}
 use Rattle.walk.specs.Limits.{WIDTH, LEVELS, Outside, Within}
@@ -15,8 +16,15 @@ use Rattle.walk.specs.Refusals.{fails, passes}
 use Rattle.walk.specs.Rows.{Lists, shortest}
 use Rattle.walk.specs.Answers.{number_of, hop_of, reads_of}
 use Rattle.walk.specs.Lookup.{lookup_of}
-use Rattle.walk.specs.Meaning.{Damage, OnPath, Tested}
-use Rattle.walk.specs.declared.walk.Answer.{Answer}
+use Rattle.walk.specs.Meaning.{OnPath}
+use Rattle.walk.specs.Answers.{answer, answer_numbers}
+use Rattle.walk.specs.Told.{lookup_refusal_number, numbers_of}
+use Rattle.walk.specs.Cases.{Answer}
+use Rattle.walk.specs.declared.numbers.LookupRefusal.{LookupRefusal}
+use Rattle.walk.proofs.Reading.{reads_most}
+use Rattle.walk.specs.declared.numbers.Found.{Found}
+use Rattle.walk.specs.declared.numbers.AnswerNumbers.{AnswerNumbers}
+use Rattle.walk.proofs.Told.{numbered, found_answer}
 use Rattle.walk.proofs.Tests.{outside_cases, within_not}
 use Rattle.walk.proofs.Looked.{looked, damage_refused}
 use Rattle.walk.proofs.Unique.{on_path_unique}
@@ -25,9 +33,10 @@ use Rattle.verdicts.specs.Classify.{through_tries, early_refusal, from_dest, cla
 use Rattle.verdicts.specs.Meaning.{VisitsTries, called_first, RuleDamage, short_lists, past_all, breaks_dest, breaks_source, TriesWay, RuleTested, Classified}
 use Rattle.verdicts.specs.Visiting.{CanVisit}
 use Rattle.verdicts.specs.declared.record.RuleRecord.{RuleRecord}
-use Rattle.verdicts.specs.declared.visiting.Verdict.{Verdict}
-use Rattle.verdicts.specs.declared.visiting.Verdict.TheVariants.{Refused}
+use Rattle.verdicts.specs.Cases.{Verdict}
+use Rattle.verdicts.specs.Cases.{Refused}
 use Rattle.verdicts.proofs.Answers.{verdict, verdict_number_lem, verdict_action, verdict_reads_lem, verdict_case}
+use Rattle.verdicts.proofs.Sources.{only_damage, refused_nine}
 use Rattle.verdicts.proofs.Visits.{VisitsSay, through_says}
 use Rattle.verdicts.proofs.Unique.{visits_unique}
 
@@ -96,14 +105,6 @@ module _ (rec : RuleRecord) (ls : Lists) (list : List ℕ) (dest source : ℕ) w
         (passes (λ o. ⊎_elim (λ (a : 2 ^ rec.dest.width ≤ dest). omega (arith, p.dest_in)) (λ (b : 2 ^ rec.dest.width ≤ source). omega (arith, p.source_in)) o)
         (passes s refl)))
 
-    -- past these tests the destination's lookup is refused for damage only
-    dest_damage : {n : ℕ} → Tested WIDTH rec.dest ls dest n → 0 < n → Damage rec.dest ls dest
-    dest_damage (fails o) h = absurd (within_not p.width o)
-    dest_damage (passes a (fails o)) h = absurd (within_not p.levels o)
-    dest_damage (passes a (passes b (fails o))) h = absurd (omega (arith, p.dest_in))
-    dest_damage (passes a (passes b (passes c (fails d)))) h = d
-    dest_damage (passes a (passes b (passes c (passes d e)))) h = absurd (omega arith)
-
     -- a way that comes to its end leaves no damage
     sound_way : number_of found ≡ 0 → {ts rows : List ℕ} {a : ℕ} → TriesWay rec ls list dest source ts rows a → RuleDamage rec ls list dest source → ⊥
     sound_way z w (short_lists d) = omega (arith, p.enough)
@@ -143,7 +144,7 @@ module _ (rec : RuleRecord) (ls : Lists) (list : List ℕ) (dest source : ℕ) w
           rw y (said y t.1 t.2.2 t.2.0 (through_says rec ls list source (can_visit p) VISITS (hop_of found) (reads_of found)))
       | no z ↦
           rw (ne_eqb (number_of found) 0 (λ (e : number_of found ≡ 0). omega arith))
-          (refused_classified (nine (breaks_dest (dest_damage (looked WIDTH rec.dest ls dest).tested (omega arith)))) (omega arith))
+          (refused_classified (nine (breaks_dest (only_damage p.width p.levels p.dest_in (looked WIDTH rec.dest ls dest).tested (omega arith)))) (omega arith))
     ]
 
   -- the classification's verdict is allowed
@@ -160,27 +161,52 @@ module _ (rec : RuleRecord) (ls : Lists) (list : List ℕ) (dest source : ℕ) w
       (fails (⊎_elim short_lists past_all d))))) (omega arith))
       past_early
 
-  -- the promise's two clauses, from the first
-  pub verdict_promised : {v : Verdict} → v ≡ classify_of WIDTH rec ls list dest source
-      → (v ≡ classify_of WIDTH rec ls list dest source) × Classified rec ls list dest source WIDTH v
-  verdict_promised e = (e, rw e classified)
+  -- ---- the promise's two clauses, case by case of the code
 
-  -- ---- the classification step by step
-  -- a test fails before a row is read
-  pub classify_early : {n : ℕ} → n ≡ early_refusal WIDTH rec (shortest ls) dest source → (n ≡ 0 → ⊥) → Refused n ≡ classify_of WIDTH rec ls list dest source
-  unfolding classify_of
-  classify_early {n} e z = rw (← e, ne_eqb n 0 z) refl
+  abbrev Promised : Verdict → Type 0
+  Promised v = (v ≡ classify_of WIDTH rec ls list dest source) × Classified rec ls list dest source WIDTH v
 
-  -- the destination's lookup is refused
-  pub classify_damaged : early_refusal WIDTH rec (shortest ls) dest source ≡ 0 → {x : ℕ} → found ≡ Answer.Refused x → Refused 9 ≡ classify_of WIDTH rec ls list dest source
-  unfolding classify_of from_dest
-  classify_damaged z {x} e =
-      let p : 0 < x = rw e at (looked WIDTH rec.dest ls dest).case in
-      rw (z, e, ne_eqb x 0 (λ (y : x ≡ 0). omega (arith, p))) refl
+  promised : {v : Verdict} → v ≡ classify_of WIDTH rec ls list dest source → Promised v
+  promised e = (e, rw e classified)
 
-  -- it is not, and the source tries tell
-  pub classify_on : early_refusal WIDTH rec (shortest ls) dest source ≡ 0 → number_of found ≡ 0
-      → through_tries WIDTH rec.elements rec.dest.width rec.dest.levels ls list source VISITS (hop_of found) (reads_of found)
-      ≡ classify_of WIDTH rec ls list dest source
-  unfolding classify_of from_dest
-  classify_on z e = rw (z, e) refl
+  module _ {n : ℕ} (n_is : n ≡ shortest ls) where
+    -- a test fails before a row is read
+    pub promised_early : (x : LookupRefusal) → lookup_refusal_number x ≡ early_refusal WIDTH rec n dest source → Promised (Refused (lookup_refusal_number x))
+    unfolding classify_of
+    promised_early x e = promised (early (lookup_refusal_number x) (rw n_is at e) (numbered x))
+      where
+        early : (m : ℕ) → m ≡ early_refusal WIDTH rec (shortest ls) dest source → (m ≡ 0 → ⊥) → Refused m ≡ classify_of WIDTH rec ls list dest source
+        early m e z = rw (← e, ne_eqb m 0 z) refl
+
+    module _ (t : 0 ≡ early_refusal WIDTH rec n dest source) where
+      passes_early : early_refusal WIDTH rec (shortest ls) dest source ≡ 0
+      passes_early = rw n_is at (sym t)
+
+      pub early_tests_passed : EarlyPassed WIDTH rec (shortest ls) dest source
+      early_tests_passed = early_passed WIDTH rec (shortest ls) dest source passes_early
+
+      -- the destination's lookup is refused
+      pub promised_damaged : (x : LookupRefusal) → numbers_of (Err x) ≡ answer_numbers found → Promised (Refused (lookup_refusal_number x))
+      unfolding classify_of from_dest
+      promised_damaged x e =
+          let r = refused_nine rec.dest ls dest early_tests_passed.width early_tests_passed.levels early_tests_passed.dest_in x e in rw r.1 (promised (damaged r.0))
+        where
+          damaged : found ≡ Answer.Refused 9 → Refused 9 ≡ classify_of WIDTH rec ls list dest source
+          damaged q = rw (passes_early, q) refl
+
+      -- it is not, and the source tries tell
+      module _ {a : Answer} (f : Found) (q : a ≡ answer f.hop f.length f.reads) (p : numbers_of (Ok f) ≡ answer_numbers found) where
+        is_found : a ≡ found
+        is_found = (found_answer WIDTH rec.dest ls dest f q p).0
+
+        pub promised_on : {v : Verdict}
+            → v ≡ through_tries WIDTH rec.elements rec.dest.width rec.dest.levels ls list source VISITS (hop_of a) f.reads → Promised v
+        unfolding classify_of from_dest
+        promised_on e = promised (e ∙ on is_found (ap (λ (y : AnswerNumbers). y.number) p) (ap (λ (y : AnswerNumbers). y.reads) p))
+          where
+            on : {b : Answer} {r : ℕ} → b ≡ found → 0 ≡ number_of found → r ≡ reads_of found
+                → through_tries WIDTH rec.elements rec.dest.width rec.dest.levels ls list source VISITS (hop_of b) r ≡ classify_of WIDTH rec ls list dest source
+            on x z y = rw (passes_early, x, sym z, y) refl
+
+        pub dest_reads : f.reads ≤ LEVELS
+        dest_reads = omega (arith, ap (λ (y : AnswerNumbers). y.reads) p, reads_most WIDTH rec.dest ls dest, early_tests_passed.levels.1)

@@ -15,7 +15,7 @@ use Rattle.verdicts.specs.Tries.{trie_row, at_place}
 use Rattle.verdicts.specs.Verdicts.{verdict_number, action_of, verdict_reads}
 use Rattle.verdicts.specs.Meaning.{SourcePath, action_on, VisitsTries, no_more, too_many, broken_off, matched_in, goes_on, called_first, TriesWay, RuleTested, Classified}
 use Rattle.verdicts.specs.declared.record.RuleRecord.{RuleRecord}
-use Rattle.verdicts.specs.declared.visiting.Verdict.{Verdict}
+use Rattle.verdicts.specs.Cases.{Verdict}
 use Rattle.verdicts.proofs.Answers.{refusal_bare, verdict_unique}
 
 module _ {rec : RuleRecord} {ls : Lists} {list : List ℕ} {source : ℕ} where

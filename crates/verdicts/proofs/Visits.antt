@@ -1,5 +1,5 @@
 -- The way through the source tries as the meaning has it: what the exact rule answers is what some visiting says.
-use Prim.Native.Nat.{ℕ, zero, suc, ◌+◌, ◌/◌, ◌<◌}
+use Prim.Native.Nat.{ℕ, zero, suc, ◌+◌, ◌/◌}
 use mathlib.Core.Path.{◌≡◌, refl, sym, ap, ◌∙◌}
 use mathlib.Core.Bool.{Bool, true, false, cond, true≢false}
 use mathlib.Core.List.{List, [], ◌∷◌, ◌++◌}
@@ -11,12 +11,10 @@ use borrow.Author.Tests.{lt-ltb, le-leb}
 use Rattle.walk.specs.Limits.{WIDTH}
 use Rattle.walk.specs.Rows.{Lists}
 use Rattle.walk.specs.Answers.{number_of, length_of, answer}
-use Rattle.walk.specs.Meaning.{Damage, Tested, Looked}
-use Rattle.walk.specs.Refusals.{fails, passes}
+use Rattle.walk.specs.Meaning.{Looked}
 use Rattle.walk.specs.declared.record.Record.{Record}
-use Rattle.walk.specs.declared.walk.Answer.{Answer}
+use Rattle.walk.specs.Cases.{Answer}
 use Rattle.walk.proofs.Answers.{accepted_is}
-use Rattle.walk.proofs.Tests.{within_not}
 use Rattle.walk.proofs.Looked.{looked, tested_refused, damage_refused}
 use Rattle.verdicts.specs.Limits.{trie_row_cells}
 use Rattle.verdicts.specs.Tries.{trie_row, source_record, from_place, at_place}
@@ -24,10 +22,10 @@ use Rattle.verdicts.specs.Classify.{visitable, onward, source_lookup, source_of,
 use Rattle.verdicts.specs.Meaning.{BadTrie, past_list, past_rows, breaks_rule, SourcePath, action_on, VisitsTries, no_more, too_many, broken_off, matched_in, goes_on}
 use Rattle.verdicts.specs.Visiting.{CanVisit}
 use Rattle.verdicts.specs.declared.record.RuleRecord.{RuleRecord}
-use Rattle.verdicts.specs.declared.visiting.Verdict.{Verdict}
-use Rattle.verdicts.specs.declared.visiting.Verdict.TheVariants.{NoRule, Refused}
+use Rattle.verdicts.specs.Cases.{Verdict}
+use Rattle.verdicts.specs.Cases.{NoRule, Refused}
 use Rattle.verdicts.proofs.Answers.{verdict, onward_none, onward_some}
-use Rattle.verdicts.proofs.Sources.{visitable_is}
+use Rattle.verdicts.proofs.Sources.{visitable_is, only_damage}
 
 pub placed_length : (p : ℕ) (rs : List ℕ) → length (at_place p rs) ≡ length rs
 placed_length p [] = refl
@@ -70,14 +68,6 @@ module _ (rec : RuleRecord) (ls : Lists) (list : List ℕ) (source : ℕ)
   unfolding source_lookup
   looked_in g = looked WIDTH (own g) (rows_in g) source
 
-  -- past the tests of its row only 9 is left
-  only_damage : (g : ℕ) → {n : ℕ} → Tested WIDTH (own g) (rows_in g) source n → 0 < n → Damage (own g) (rows_in g) source
-  only_damage g (fails o) h = absurd (within_not can.width o)
-  only_damage g (passes a (fails o)) h = absurd (within_not can.levels o)
-  only_damage g (passes a (passes b (fails o))) h = absurd (omega (arith, can.inside))
-  only_damage g (passes a (passes b (passes c (fails d)))) h = d
-  only_damage g (passes a (passes b (passes c (passes d e)))) h = absurd (omega arith)
-
   sound_source : (g : ℕ) → visitable rec.elements list g ≡ true → number_of (answer_in g) ≡ 0 → BadTrie rec ls list source g → ⊥
   unfolding source_lookup
   sound_source g v z (past_list p) = omega (arith, (visitable_is _ list g v).listed)
@@ -92,7 +82,7 @@ module _ (rec : RuleRecord) (ls : Lists) (list : List ℕ) (source : ℕ)
         let t = (looked_in g).told (omega arith) in
         let path : SourcePath rec ls list source g t.0 = record { sound = sound_source g v (omega arith); path = t.1 } in
         good_source (length_of (answer_in g)) path (accepted_is (answer_in g) (omega arith) (looked_in g).case ∙ rw (t.2.0, t.2.2) refl)
-    | no z ↦ bad_source_lem (breaks_rule (only_damage g (looked_in g).tested (omega arith))) (tested_refused WIDTH (own g) (rows_in g) source (looked_in g).tested (omega arith))
+    | no z ↦ bad_source_lem (breaks_rule (only_damage can.width can.levels can.inside (looked_in g).tested (omega arith))) (tested_refused WIDTH (own g) (rows_in g) source (looked_in g).tested (omega arith))
   ]
 
   source_at : (g : ℕ) → Source g (answer_at g)

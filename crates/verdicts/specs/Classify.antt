@@ -6,13 +6,13 @@ use Rattle.walk.specs.Limits.{LEVELS}
 use Rattle.walk.specs.Rows.{Lists, shortest}
 use Rattle.walk.specs.Answers.{number_of, hop_of, reads_of}
 use Rattle.walk.specs.Lookup.{lookup_of}
-use Rattle.walk.specs.declared.walk.Answer.{Answer}
-use Rattle.walk.specs.declared.walk.Answer.TheVariants.{Match, Discard, NoRoute}
+use Rattle.walk.specs.Cases.{Answer}
+use Rattle.walk.specs.Cases.{Match, Discard, NoRoute}
 use Rattle.verdicts.specs.Limits.{trie_row_cells, VISITS}
-use Rattle.verdicts.specs.Tries.{trie_row, source_record, from_place}
+use Rattle.verdicts.specs.Tries.{TrieRow, trie_row, source_record, from_place}
 use Rattle.verdicts.specs.declared.record.RuleRecord.{RuleRecord}
-use Rattle.verdicts.specs.declared.visiting.Verdict.{Verdict}
-use Rattle.verdicts.specs.declared.visiting.Verdict.TheVariants.{Act, NoRule, Refused}
+use Rattle.verdicts.specs.Cases.{Verdict}
+use Rattle.verdicts.specs.Cases.{Act, NoRule, Refused}
 
 -- a trie that can be visited: its row stands in the list, and its rows do not run past the E of all tries
 unfoldable pub visitable : (e : ℕ) → List ℕ → (g : ℕ) → Bool
@@ -25,9 +25,13 @@ onward (Discard len r) reads next = Verdict.Discard (reads + r)
 onward (NoRoute r) reads next = next (reads + r)
 onward (Answer.Refused n) reads next = Refused 9
 
--- the lookup in source trie g that can be visited
+-- the lookup in a source trie that can be visited, by its row in the list
+abbrev pub lookup_in : (most W k : ℕ) → Lists → (source : ℕ) → TrieRow → Answer
+lookup_in most W k ls source t = lookup_of most (source_record W k t) (from_place t.place ls) source
+
+-- in source trie g
 unfoldable pub source_lookup : (most W k : ℕ) → Lists → List ℕ → (source g : ℕ) → Answer
-source_lookup most W k ls list source g = lookup_of most (source_record W k (trie_row list g)) (from_place (trie_row list g).place ls) source
+source_lookup most W k ls list source g = lookup_in most W k ls source (trie_row list g)
 
 -- e is the E of all tries
 module _ (most e W k : ℕ) (ls : Lists) (list : List ℕ) (source : ℕ) where

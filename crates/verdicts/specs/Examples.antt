@@ -10,8 +10,8 @@ use Rattle.walk.specs.Lookup.{readable, trail, tell, path_of, unfit, refusal_of,
 use Rattle.verdicts.specs.Tries.{trie_row}
 use Rattle.verdicts.specs.Classify.{visitable, onward, source_lookup, source_of, through_tries, early_refusal, from_dest, classify_of}
 use Rattle.verdicts.specs.declared.record.RuleRecord.{RuleRecord}
-use Rattle.verdicts.specs.declared.visiting.Verdict.{Verdict}
-use Rattle.verdicts.specs.declared.visiting.Verdict.TheVariants.{Act, Discard, NoRule, Refused}
+use Rattle.verdicts.specs.Cases.{Verdict}
+use Rattle.verdicts.specs.Cases.{Act, Discard, NoRule, Refused}
 
 -- e is the E of all tries
 abbrev five_rec : (e : ℕ) → RuleRecord

@@ -2,6 +2,7 @@
 -- classified by computation.
 pub mod Limits
 pub mod Tries
+pub mod Cases
 pub mod Verdicts
 pub mod Meaning
 pub mod Examples

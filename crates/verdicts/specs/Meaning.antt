@@ -15,7 +15,7 @@ use Rattle.verdicts.specs.Limits.{trie_row_cells, VISITS}
 use Rattle.verdicts.specs.Tries.{trie_row, source_record, from_place, at_place}
 use Rattle.verdicts.specs.Verdicts.{verdict_number, action_of, verdict_reads, VerdictCase}
 use Rattle.verdicts.specs.declared.record.RuleRecord.{RuleRecord}
-use Rattle.verdicts.specs.declared.visiting.Verdict.{Verdict}
+use Rattle.verdicts.specs.Cases.{Verdict}
 
 module _ (rec : RuleRecord) (ls : Lists) (list : List ℕ) (source : ℕ) where
   -- by these source trie g is looked up

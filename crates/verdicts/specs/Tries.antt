@@ -7,13 +7,7 @@ use Rattle.walk.specs.Limits.{LEVELS, HOPS}
 use Rattle.walk.specs.Rows.{Lists, lists}
 use Rattle.walk.specs.declared.record.Record.{Record}
 use Rattle.verdicts.specs.Limits.{trie_row_cells}
-
-pub record TrieRow : Type 0 where
-  pub floor : ℕ
-  pub root : ℕ
-  pub place : ℕ
-  pub elements : ℕ
-  pub next : ℕ
+pub use Rattle.verdicts.specs.declared.tries.TrieRow.{TrieRow}
 
 -- row g, whatever stands there: of the floor the last 16 bits count, as a hop has no more
 abbrev pub trie_row : List ℕ → ℕ → TrieRow

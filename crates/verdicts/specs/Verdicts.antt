@@ -1,9 +1,12 @@
 -- What a classification answers (02, [6]: "the action and the blocks read in all tries"): number and values of each case. "Actions follow
 -- the hop rules of [4]": a discard is an answer of its own.
-use Rattle.std.specs.Prelude.{ℕ, ◌<◌, ◌≡◌}
+use Rattle.std.specs.Prelude.{ℕ, ◌<◌, ◌≡◌, Result, Ok, Err}
 use Rattle.table.specs.Limits.{discard_hop}
-use Rattle.verdicts.specs.declared.visiting.Verdict.{Verdict}
-use Rattle.verdicts.specs.declared.visiting.Verdict.TheVariants.{Act, Discard, NoRule, Refused}
+use Rattle.walk.specs.Told.{lookup_refusal_number}
+use Rattle.walk.specs.declared.numbers.LookupRefusal.{LookupRefusal}
+use Rattle.verdicts.specs.declared.verdict.Verdict as code
+use Rattle.verdicts.specs.Cases.{Verdict}
+use Rattle.verdicts.specs.Cases.{Act, Discard, NoRule, Refused}
 
 -- the refusal's number, 0 for an accepted classification
 abbrev pub verdict_number : Verdict → ℕ
@@ -31,3 +34,13 @@ VerdictCase (Act action reads) = (0 < action) × (action ≡ discard_hop → ⊥
 VerdictCase (Discard reads) = Unit {0}
 VerdictCase (NoRule reads) = Unit {0}
 VerdictCase (Refused number) = 0 < number
+
+-- a verdict of the code, or its refusal, as the laws have it
+abbrev pub case_of : code.Verdict → Verdict
+case_of (code.TheVariants.Act action reads) = Act action reads
+case_of (code.TheVariants.Discard reads) = Discard reads
+case_of (code.TheVariants.NoRule reads) = NoRule reads
+
+abbrev pub said : Result code.Verdict LookupRefusal → Verdict
+said (Ok v) = case_of v
+said (Err e) = Refused (lookup_refusal_number e)

@@ -1,117 +1,75 @@
 // The classification of two addresses (02, [6]).
 ghost use Rattle.std.specs.Prelude.{◌≡◌};
 ghost use Rattle.walk.specs.Limits.{WIDTH};
-ghost use Rattle.walk.specs.Rows.{lists};
-ghost use Rattle.walk.specs.Answers.{hop_of, reads_of};
+ghost use Rattle.walk.specs.Lent.{lent};
+ghost use Rattle.walk.specs.Answers.{hop_of};
+ghost use Rattle.walk.specs.Told.{case_of, tested_number};
 ghost use Rattle.verdicts.specs.Classify.{early_refusal, classify_of};
 ghost use Rattle.verdicts.specs.Meaning.{Classified};
+ghost use Rattle.verdicts.specs.Verdicts.{said};
 
 use crate::record::RuleRecord;
-use crate::visiting::{Verdict, visit_tries};
-use table::{DISCARD, WIDTH, is_outside, smaller};
-use walk::{Answer, LEVELS, is_beyond};
+use crate::tries::{Tries, visit_tries};
+use crate::verdict::Verdict;
+use table::{DISCARD, WIDTH, is_outside};
+use walk::{Answer, LEVELS, LookupRefusal, Rows, is_beyond};
 
-// The number of the first test that fails before a row is read, in the order 1, 2, 8, 9; 0 for none.
-fn early_refusal(rec: RuleRecord, rows: usize, dest: u32, source: u32) -> u32
-    ensures { result ≡ early_refusal WIDTH rec rows dest source }
+// The first test that fails before a row is read, in the order 1, 2, 8, 9.
+#[tactic(auto, unfolding(crate::specs::Classify::early_refusal))]
+fn tested(rec: RuleRecord, rows: usize, destination: u32, source: u32) -> Result<(), LookupRefusal>
+    ensures { tested_number result ≡ early_refusal WIDTH rec rows destination source }
 {
     let width = rec.dest.width;
     if is_outside(width, WIDTH) {
-        return 1;
+        return Err(LookupRefusal::Width);
     }
     if is_outside(rec.dest.levels, LEVELS) {
-        return 2;
+        return Err(LookupRefusal::Levels);
     }
-    if is_beyond(dest, width) {
-        return 8;
+    if is_beyond(destination, width) || is_beyond(source, width) {
+        return Err(LookupRefusal::Address);
     }
-    if is_beyond(source, width) {
-        return 8;
+    if rows < rec.elements as usize || rec.elements < rec.dest.elements {
+        return Err(LookupRefusal::Damage);
     }
-    if rows < rec.elements as usize {
-        return 9;
-    }
-    if rec.elements < rec.dest.elements {
-        return 9;
-    }
-    0
+    Ok(())
 }
 
-// The number of the source trie that the destination's answer calls for: its hop, whatever it is; 0 for none.
-fn called(found: Answer) -> u16
-    ensures { result ≡ hop_of found }
+// The number of the source trie that the destination's answer calls for, which is its hop, whatever it is; 0 for none. (`found.hop` is the
+// same number: 01, "Forms by place", has the classifier take a lookup's answer apart, case by case.)
+fn called(answer: Answer) -> u16
+    ensures { result ≡ hop_of (case_of answer) }
 {
-    match found {
-        Answer::Match {
-            hop,
-            length: _,
-            reads: _,
-        } => hop,
-        Answer::Discard {
-            length: _,
-            reads: _,
-        } => DISCARD,
-        Answer::NoRoute { reads: _ } => 0,
-        Answer::Refused { number: _ } => 0,
-    }
-}
-
-fn reads_of(found: Answer) -> u32
-    ensures { result ≡ reads_of found }
-{
-    match found {
-        Answer::Match {
-            hop: _,
-            length: _,
-            reads,
-        } => reads,
-        Answer::Discard { length: _, reads } => reads,
-        Answer::NoRoute { reads } => reads,
-        Answer::Refused { number: _ } => 0,
+    match answer {
+        Answer::Match { hop, .. } => hop,
+        Answer::Discard { .. } => DISCARD,
+        Answer::NoRoute { .. } => 0,
     }
 }
 
 // Judges a packet by its two addresses, over any record and any lists: the action of the rule that wins, a discard or no rule, with the
-// blocks read in all tries; or a refusal by number, 1 (width), 2 (levels), 8 (either address) or 9 (damage). No list changes.
+// blocks read in all tries; or a refusal, 1 (width), 2 (levels), 8 (either address) or 9 (damage). No list changes.
 pub fn classify(
     rec: RuleRecord,
-    rowhops: &[u16],
-    rowlens: &[u8],
-    rowlinks: &[u32],
-    rowstrides: &[u8],
+    rows: Rows,
     list: &[u32],
-    dest: u32,
+    destination: u32,
     source: u32,
-) -> Verdict
-    ensures exact { result ≡ classify_of WIDTH rec (lists rowhops.now rowlens.now rowlinks.now rowstrides.now) list.now
-        dest source }
-    ensures meaning { Classified rec (lists rowhops.now rowlens.now rowlinks.now rowstrides.now) list.now dest source
-        WIDTH result }
+) -> Result<Verdict, LookupRefusal>
+    ensures exact { said result ≡ classify_of WIDTH rec (lent rows.entry) list.now destination source }
+    ensures meaning { Classified rec (lent rows.entry) list.now destination source WIDTH (said result) }
 {
-    let rows = smaller(
-        rowhops.len(),
-        smaller(rowlens.len(), smaller(rowlinks.len(), rowstrides.len())),
-    );
-    let refusal = early_refusal(rec, rows, dest, source);
-    if refusal != 0 {
-        return Verdict::Refused { number: refusal };
-    }
+    tested(rec, rows.len(), destination, source)?;
     let own = rec.dest;
-    let found = walk::lookup(own, rowhops, rowlens, rowlinks, rowstrides, dest);
-    if let Answer::Refused { number: _ } = found {
-        return Verdict::Refused { number: 9 };
-    }
-    visit_tries(
-        own.width,
-        own.levels,
-        rec.elements,
-        rowhops,
-        rowlens,
-        rowlinks,
-        rowstrides,
+    // Past the tests it is refused for damage only.
+    let found = walk::find(own, rows, destination)?;
+    let tries = Tries {
+        width: own.width,
+        levels: own.levels,
+        elements: rec.elements,
+        rows,
         list,
         source,
-        called(found) as usize,
-        reads_of(found),
-    )
+    };
+    visit_tries(tries, usize::from(called(Answer::from(found))), found.reads)
 }

@@ -5,9 +5,11 @@
 mod classifying;
 mod limits;
 mod record;
-mod visiting;
+mod tries;
+mod verdict;
 
 pub use classifying::classify;
 pub use limits::{NEXT, OWN_ELEMENTS, PLACE, ROOT, TRIE_ROW};
 pub use record::RuleRecord;
-pub use visiting::Verdict;
+pub use tries::TrieRow;
+pub use verdict::Verdict;

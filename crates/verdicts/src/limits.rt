@@ -1,7 +1,8 @@
 // The numbers of the list of tries and of the way through it (02, [6]); `specs/Limits.antt` has `trie_row_cells` and `VISITS` for the promises,
 // `trie_row` of `specs/Tries.antt` the columns.
 
-// Numbers in a row of the list, one row a source trie: its floor, then its root stride, place and E, and the number of the trie to go on to.
+// Numbers in a row of the list, one row a source trie: its floor, then its root stride, place and E, and the number of the trie to go on
+// to. Rows of numbers in one list, as C passes it.
 pub const TRIE_ROW: usize = 5;
 
 pub const ROOT: usize = 1;

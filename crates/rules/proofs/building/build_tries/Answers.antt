@@ -1,36 +1,30 @@
-use mathlib.Core.Path.{◌∙◌}
-use Rattle.walk.specs.Rows.{Lists, lists}
+use mathlib.Core.Path.{refl}
+use Rattle.table.specs.Refusals.{outcome_of}
+use Rattle.table.proofs.Refusals.{handed_on}
+use Rattle.walk.specs.Lent.{held}
 use Rattle.choosers.specs.Kinds.{kind_of}
-use Rattle.rules.specs.Splitting.{SplitRules, split_rules}
+use Rattle.rules.specs.Tables.{tables}
 use Rattle.rules.proofs.Steps.{room_lacks, may_lay_all, tries_built}
 use Rattle.rules.proofs.building.build_tries.Goals as goal
 
--- src/building.rt:209:9
-pub returns-in-Refused : goal.returns-in-Refused
-returns-in-Refused c =
-    let tables : SplitRules = let a = c.args in split_rules a.first.now a.vals.now a.lens.now a.nums.now a.svals.now a.slens.now a.actions.now in
-    let rowsLent : Lists = lists c.args.rowhops.now c.args.rowlens.now c.args.rowlinks.now c.args.rowstrides.now in
-    room_lacks (kind_of c.args.kind) c.args.width c.args.levels tables rowsLent c.args.list.now c.all_costs-cost.ensures
-    c.room_outcome-outcome.ensures c.in-Refused.is c.refused.ensures.told c.refused.ensures.empty
+pub returns-in_err-room_outcome-clause-built : goal.returns-in_err-room_outcome-clause-built
+unfolding outcome_of
+returns-in_err-room_outcome-clause-built c =
+    let s = c.args.split.now in
+    rw (handed_on _ c.from_residual.ensures.1)
+    (room_lacks (kind_of s.kind) s.width s.levels (tables s) (held c.args.rows.now) c.args.list.now c.all_costs-cost.ensures
+    (rw c.len.ensures at c.in_err-room_outcome.ensures) _ refl)
 
--- src/building.rt:211:9
-pub lay_all-record-requires : goal.lay_all-record-requires
-lay_all-record-requires c =
-    let tables : SplitRules = let a = c.args in split_rules a.first.now a.vals.now a.lens.now a.nums.now a.svals.now a.slens.now a.actions.now in
-    let rowsLent : Lists = lists c.args.rowhops.now c.args.rowlens.now c.args.rowlinks.now c.args.rowstrides.now in
+pub lay_all-requires : goal.lay_all-requires
+lay_all-requires c =
+    let s = c.args.split.now in
     rw c.all_costs-cost.auto.scratch
-    (may_lay_all (kind_of c.args.kind) c.args.width c.args.levels tables rowsLent c.args.list.now c.all_costs-cost.ensures
-    c.room_outcome-outcome.ensures c.in_default.is c.requires.can_split c.requires.roomy)
+    (may_lay_all (kind_of s.kind) s.width s.levels (tables s) (held c.args.rows.now) c.args.list.now c.all_costs-cost.ensures
+    (rw c.len.ensures at c.in_ok-room_outcome.ensures) refl c.requires.can_split c.requires.roomy)
 
--- src/building.rt:167:1
-pub shape_of-scratch : goal.shape_of-scratch
-shape_of-scratch c =
-    c.lay_all-record.auto.scratch ∙ c.all_costs-cost.auto.scratch
-
--- src/building.rt:167:1
-pub returns : goal.returns
-returns c =
-    let tables : SplitRules = let a = c.args in split_rules a.first.now a.vals.now a.lens.now a.nums.now a.svals.now a.slens.now a.actions.now in
-    let rowsLent : Lists = lists c.args.rowhops.now c.args.rowlens.now c.args.rowlinks.now c.args.rowstrides.now in
-    tries_built (kind_of c.args.kind) c.args.width c.args.levels tables rowsLent c.args.list.now c.all_costs-cost.ensures
-    c.room_outcome-outcome.ensures c.in_default.is c.lay_all-record.ensures
+pub returns-clause-built : goal.returns-clause-built
+unfolding outcome_of
+returns-clause-built c =
+    let s = c.args.split.now in
+    tries_built (kind_of s.kind) s.width s.levels (tables s) (held c.args.rows.now) c.args.list.now c.all_costs-cost.ensures
+    (rw c.len.ensures at c.in_ok-room_outcome.ensures) refl c.lay_all.ensures.built

@@ -1,11 +1,14 @@
-use Rattle.rules.proofs.Planning.{no_nodes, some_nodes}
+use mathlib.Core.Path.{sym, ap, ◌∙◌}
+use Rattle.table.specs.Refusals.{refusal_detail, outcome_of}
+use Rattle.rules.proofs.Planning.{needs_nodes}
 use Rattle.rules.proofs.counting.nodes_of.Goals as goal
 
--- src/counting.rt:18:1
-pub returns-in-Accepted : goal.returns-in-Accepted
-returns-in-Accepted c = no_nodes c.requires c.choose_fixed-chosen.ensures.exact.tests c.in-Accepted.is
+pub returns-in-Scratch : goal.returns-in-Scratch
+unfolding outcome_of
+returns-in-Scratch c =
+    ap refusal_detail (sym c.in-Scratch.is ∙ needs_nodes c.requires c.in-Err.refusal c.choose-chosen.ensures.exact.tests (ap outcome_of c.in-Err.is))
 
--- src/counting.rt:18:1
-pub returns-in-Refused : goal.returns-in-Refused
-returns-in-Refused c =
-    some_nodes c.requires c.choose_fixed-chosen.ensures.exact.tests c.in-Refused.is
+pub returns-in_default-refusal : goal.returns-in_default-refusal
+unfolding outcome_of
+returns-in_default-refusal c =
+    absurd (c.in_default-refusal.not-Scratch _ (needs_nodes c.requires c.in-Err.refusal c.choose-chosen.ensures.exact.tests (ap outcome_of c.in-Err.is)))
