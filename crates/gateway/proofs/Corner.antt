@@ -8,15 +8,15 @@ use Rattle.table.specs.Prefix.{start, starts_with}
 use Rattle.table.specs.Table.{at}
 use Rattle.table.specs.Longest.{longer, best, of_winner, matches, winner, longest, matched, LongestEntry}
 use Rattle.table.specs.Corner.{corner_values, corner_lengths, corner_hops}
-use Rattle.table.specs.declared.entry.Outcome.{Outcome}
-use Rattle.table.specs.declared.entry.Outcome.TheVariants.{Accepted}
+use Rattle.table.specs.Refusals.{Outcome}
+use Rattle.std.specs.Prelude.{Ok}
 use Rattle.table.proofs.Table.{accepted_table}
 use Rattle.table.proofs.Longest.{longest_is}
 use Rattle.table.proofs.Unique.{longest_unique}
 use Rattle.table.proofs.Corner.{corner_accepted}
 use Rattle.strides.specs.Cheapest.{Kind}
 use Rattle.walk.specs.declared.record.Record.{Record}
-use Rattle.walk.specs.declared.walk.Answer.{Answer}
+use Rattle.walk.specs.Cases.{Answer}
 use Rattle.walk.specs.Limits.{WIDTH}
 use Rattle.walk.specs.Rows.{Lists}
 use Rattle.walk.specs.Answers.{number_of, hop_of, length_of, reads_of, Case, answer}
@@ -49,10 +49,10 @@ corner_answers Allows f = record {
 }
 
 pub corner_elements : {kind : Kind} {k links : ℕ} {scratch : List ℕ} {rows : Lists} {out : Outcome} {rec : Record} {s : List ℕ} {rows' : Lists}
-    → Builds kind 4 k links corner_values corner_lengths corner_hops scratch rows out rec s rows' → out ≡ Accepted → CornerAnswers (λ a r. Looked WIDTH rec rows' a r)
+    → Builds kind 4 k links corner_values corner_lengths corner_hops scratch rows out rec s rows' → out ≡ Ok tt → CornerAnswers (λ a r. Looked WIDTH rec rows' a r)
 corner_elements b e = corner_answers _ (λ a h r l. (l.case, build_longest b e a h l))
 
 pub corner_bitmap : {links : ℕ} {scratch : List ℕ} {rows : RowLists} {hops : List ℕ} {out : Outcome} {rec : Bitmap} {s : List ℕ} {rows' : RowLists} {hops' : List ℕ}
-    → BuildsBitmap 4 links corner_values corner_lengths corner_hops scratch rows hops out rec s rows' hops' → out ≡ Accepted
+    → BuildsBitmap 4 links corner_values corner_lengths corner_hops scratch rows hops out rec s rows' hops' → out ≡ Ok tt
     → CornerAnswers (λ a r. LookedBitmap WIDTH rec rows' hops' a r)
 corner_bitmap b e = corner_answers _ (λ a h r l. (l.case, bitmap_longest b e a h l))

@@ -1,4 +1,5 @@
 pub mod Writing
+pub mod Zeros
 pub mod Numbers
 pub mod Unique
 pub mod OneTable

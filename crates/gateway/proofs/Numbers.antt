@@ -6,10 +6,9 @@ use mathlib.Core.Logic.{inl, inr}
 use Prim.Native.Nat.{ℕ, ◌≤◌}
 use native.Mathlib.Omega.{arith}
 use lib.ListN.{length}
-use Rattle.table.specs.Refusals.{outcome_number, outcome_detail, Gives, Tells}
+use Rattle.table.specs.Refusals.{Outcome, outcome_of, outcome_number, outcome_detail, Gives, Tells}
 use Rattle.table.specs.Table.{table_tests}
-use Rattle.table.specs.Answers.{Told, shared_outcome, shared_tests, Shares, span_outcome, zone_tests, Spans}
-use Rattle.table.specs.declared.entry.Outcome.{Outcome}
+use Rattle.table.specs.Answers.{Told, shared_tests, Shares, zone_tests, Spans}
 use Rattle.table.proofs.Numbered.{gives_tells, numbered_table, numbered_zone, numbered_shared}
 use Rattle.strides.specs.Cheapest.{Kind, Cheapest}
 use Rattle.walk.specs.Limits.{WIDTH}
@@ -60,20 +59,20 @@ shared_detail W a l b m o (inr (f, inr (h, inr (j, g)))) = ap outcome_detail g
 
 pub shared_bits_tells : (W a l b m : ℕ) {r : SharedNumbers} → Told (Shares W a l b m) shared_numbers r → Tells (shared_tests W a l b m) r.number 0
 shared_bits_tells W a l b m t =
-    let o = shared_outcome t.0 in
+    let o = outcome_of t.0 in
     let g = t.1.tested in
     rw t.2 (subst (Tells (shared_tests W a l b m) (outcome_number o)) (shared_detail W a l b m o g) (gives_tells 10 (shared_tests W a l b m) (numbered_shared W a l b m) o g))
 
 pub zone_span_tells : (W links : ℕ) (vs ls hs : List ℕ) (p b : ℕ) {r : SpanNumbers} → Told (Spans W links vs ls hs p b) span_numbers r
     → Tells (zone_tests W links vs ls hs p b) r.number r.detail
 zone_span_tells W links vs ls hs p b t =
-    rw t.2 (gives_tells 10 (zone_tests W links vs ls hs p b) (numbered_zone W links vs ls hs p b) (span_outcome t.0) t.1.tested)
+    rw t.2 (gives_tells 10 (zone_tests W links vs ls hs p b) (numbered_zone W links vs ls hs p b) (outcome_of t.0) t.1.tested)
 
 module _ (kind : Kind) (W k links : ℕ) (vs ls hs scratch : List ℕ) where
   pub choice_tells : {s : List ℕ} {r : ChosenNumbers} → Told (AllowedChoice kind W k links vs ls hs scratch s) choice_numbers r
       → Tells (choose_tests W k links vs ls hs (length scratch)) r.number r.detail
   choice_tells t =
-      rw t.2 (gives_tells 6 (choose_tests W k links vs ls hs (length scratch)) (numbered_choose 6 (omega arith) W k links vs ls hs (length scratch)) t.0.outcome t.1.tested)
+      rw t.2 (gives_tells 6 (choose_tests W k links vs ls hs (length scratch)) (numbered_choose 6 (omega arith) W k links vs ls hs (length scratch)) (outcome_of t.0) t.1.tested)
 
   -- where the cheapest choice costs `least`
   pub built_tells : {rows rows' : Lists} {s : List ℕ} {r : BuiltNumbers} → Told (AllowedBuild kind W k links vs ls hs scratch rows s rows') build_numbers r
@@ -82,7 +81,7 @@ module _ (kind : Kind) (W k links : ℕ) (vs ls hs scratch : List ℕ) where
   built_tells {rows} t least c =
       rw t.2
       (gives_tells 7 (build_tests W k links vs ls hs (length scratch) (shortest rows) least)
-      (numbered_build W k links vs ls hs (length scratch) (shortest rows) least) t.0.outcome (t.1.tested least c))
+      (numbered_build W k links vs ls hs (length scratch) (shortest rows) least) (outcome_of t.0) (t.1.tested least c))
 
 -- ---- a lookup's number
 
@@ -99,7 +98,7 @@ pub bitmap_tells : (W links : ℕ) (vs ls hs scratch : List ℕ) {rows rows' : R
 bitmap_tells W links vs ls hs scratch {rows} {hops = hops} t =
     rw t.2
     (gives_tells 7 (bitmap_tests W links vs ls hs (length scratch) (row_room rows) (length hops))
-    (numbered_bitmap W links vs ls hs (length scratch) (row_room rows) (length hops)) t.0.outcome t.1.tested)
+    (numbered_bitmap W links vs ls hs (length scratch) (row_room rows) (length hops)) (outcome_of t.0) t.1.tested)
 
 pub lookup_bitmap_tells : (rec : Bitmap) (rows : RowLists) (hops : List ℕ) (address : ℕ) {r : AnswerNumbers}
     → Told (LookedBitmap WIDTH rec rows hops address) answer_numbers r → BitmapTested WIDTH rec rows hops address r.number
@@ -113,7 +112,7 @@ module _ (kind : Kind) (W k links : ℕ) (rs : Rules) (scratch : List ℕ) where
       → Tells (rule_build_tests W k links rs (length scratch) (shortest rows) (length list) m from least) r.number r.detail
   built_rules_tells {rows} {list = list} t m from least runs c =
       let numbered = numbered_rule_build W k links rs (length scratch) m from (shortest rows) (length list) least in
-      rw t.2 (gives_tells 7 (rule_build_tests W k links rs (length scratch) (shortest rows) (length list) m from least) numbered t.0.outcome (t.1.tested m from least runs c))
+      rw t.2 (gives_tells 7 (rule_build_tests W k links rs (length scratch) (shortest rows) (length list) m from least) numbered (outcome_of t.0) (t.1.tested m from least runs c))
 
 pub classify_tells : (rec : RuleRecord) (ls : Lists) (list : List ℕ) (dest source : ℕ) {r : VerdictNumbers}
     → Told (Classified rec ls list dest source WIDTH) verdict_numbers r → RuleTested rec ls list dest source WIDTH r.number

@@ -5,7 +5,14 @@ use Prim.Native.Nat.{ℕ}
 use native.Mathlib.Omega.{arith}
 use native.Mathlib.Decide.{dec_le}
 use lib.Seq.{ext_get_or}
-use Rattle.table.specs.Refusals.{Gives}
+use Rattle.std.specs.Prelude.{Result}
+use Rattle.table.specs.Refusals.{Gives, outcome_of}
+use Rattle.table.specs.declared.refusal.Refusal.{Refusal}
+use Rattle.choosers.specs.Answered.{answered_cost, answered_strides}
+use Rattle.tries.specs.Build.{record_of}
+use Rattle.supernodes.specs.Build.{record_of as bitmap_of}
+use Rattle.rules.specs.Build.{rule_record_of}
+use Rattle.visits.specs.declared.record.Bitmap.{Bitmap}
 use Rattle.table.specs.Table.{table_tests}
 use Rattle.table.specs.Answers.{Told, Shares, Spans}
 use Rattle.table.proofs.Unique.{told_unique, check_unique, shares_unique, spans_unique}
@@ -14,16 +21,13 @@ use Rattle.walk.specs.Limits.{WIDTH}
 use Rattle.walk.specs.Rows.{Lists}
 use Rattle.walk.specs.Meaning.{Looked}
 use Rattle.choosers.specs.declared.chooser.Chosen.{Chosen}
-use Rattle.tries.specs.declared.building.Built.{Built}
 use Rattle.walk.specs.declared.record.Record.{Record}
 use Rattle.visits.specs.Rows.{RowLists}
-use Rattle.supernodes.specs.declared.building.BuiltBitmap.{BuiltBitmap}
 use Rattle.supernodes.proofs.Unique.{bitmap_unique}
 use Rattle.fields.specs.Rules.{Rules}
 use Rattle.verdicts.specs.Meaning.{Classified}
 use Rattle.verdicts.specs.declared.record.RuleRecord.{RuleRecord}
 use Rattle.verdicts.proofs.Unique.{classified_unique}
-use Rattle.rules.specs.declared.building.BuiltRules.{BuiltRules}
 use Rattle.rules.proofs.Unique.{rule_builds_unique}
 use Rattle.choosers.proofs.Choosing.{chooses_unique}
 use Rattle.tries.proofs.Unique.{builds_unique}
@@ -54,24 +58,24 @@ zone_span_unique W links vs ls hs p b = told_unique (spans_unique W links vs ls 
 
 -- ---- with what is left in the lists
 
-choice_same : {c c' : Chosen} → c.outcome ≡ c'.outcome → c.cost ≡ c'.cost → c.strides ≡ c'.strides → choice_numbers c ≡ choice_numbers c'
-choice_same p q r = rw (p, q, r)
+choice_same : (c c' : Result Chosen Refusal) → outcome_of c ≡ outcome_of c' → answered_cost c ≡ answered_cost c' → answered_strides c ≡ answered_strides c' → choice_numbers c ≡ choice_numbers c'
+choice_same c c' p q r = rw (p, q, r)
 
-build_same : {b b' : Built} → b.outcome ≡ b'.outcome → b.record ≡ b'.record → build_numbers b ≡ build_numbers b'
-build_same p q = rw (p, q)
+build_same : (b b' : Result Record Refusal) → outcome_of b ≡ outcome_of b' → record_of b ≡ record_of b' → build_numbers b ≡ build_numbers b'
+build_same b b' p q = rw (p, q)
 
 module _ (kind : Kind) (W k links : ℕ) (vs ls hs scratch : List ℕ) where
   pub choice_unique : {s s' : List ℕ} {r r' : ChosenNumbers} → Told (AllowedChoice kind W k links vs ls hs scratch s) choice_numbers r
       → Told (AllowedChoice kind W k links vs ls hs scratch s') choice_numbers r' → (r ≡ r') × (s ≡ s')
   choice_unique t t' =
       let u = chooses_unique kind W k links vs ls hs scratch t.1 t'.1 in
-      (t.2 ∙ choice_same {c = t.0} {c' = t'.0} u.0 u.1 u.2 ∙ sym t'.2, u.3)
+      (t.2 ∙ choice_same t.0 t'.0 u.0 u.1 u.2 ∙ sym t'.2, u.3)
 
   pub built_unique : {rows rows1 rows2 : Lists} {s s' : List ℕ} {r r' : BuiltNumbers} → Told (AllowedBuild kind W k links vs ls hs scratch rows s rows1) build_numbers r
       → Told (AllowedBuild kind W k links vs ls hs scratch rows s' rows2) build_numbers r' → (r ≡ r') × (s ≡ s') × (rows1 ≡ rows2)
   built_unique {rows} t t' =
       let u = builds_unique kind W k links vs ls hs scratch rows t.1 t'.1 in
-      (t.2 ∙ build_same {b = t.0} {b' = t'.0} u.0 u.1 ∙ sym t'.2, u.2, u.3)
+      (t.2 ∙ build_same t.0 t'.0 u.0 u.1 ∙ sym t'.2, u.2, u.3)
 
 columns_same : {a a' b b' c c' d d' : List ℕ} → a ≡ a' → b ≡ b' → c ≡ c' → d ≡ d' → columns a b c d ≡ columns a' b' c' d'
 columns_same p q r s = rw (p, q, r, s)
@@ -102,27 +106,27 @@ module _ (rec : Record) (ls : Lists) (xs : List ℕ) (cs : Columns) where
 
 -- ---- tree bitmap arrays
 
-bitmap_same : {b b' : BuiltBitmap} → b.outcome ≡ b'.outcome → b.record ≡ b'.record → bitmap_numbers b ≡ bitmap_numbers b'
-bitmap_same p q = rw (p, q)
+bitmap_same : (b b' : Result Bitmap Refusal) → outcome_of b ≡ outcome_of b' → bitmap_of b ≡ bitmap_of b' → bitmap_numbers b ≡ bitmap_numbers b'
+bitmap_same b b' p q = rw (p, q)
 
 pub built_bitmap_unique : (W links : ℕ) (vs ls hs scratch : List ℕ) {rows rows1 rows2 : RowLists} {hops s hops1 s' hops2 : List ℕ} {r r' : BuiltBitmapNumbers}
     → Told (AllowedBitmap W links vs ls hs scratch rows hops s rows1 hops1) bitmap_numbers r → Told (AllowedBitmap W links vs ls hs scratch rows hops s' rows2 hops2) bitmap_numbers r'
     → (r ≡ r') × (s ≡ s') × (rows1 ≡ rows2) × (hops1 ≡ hops2)
 built_bitmap_unique W links vs ls hs scratch {rows} {hops = hops} t t' =
     let u = bitmap_unique W links vs ls hs scratch rows hops t.1 t'.1 in
-    (t.2 ∙ bitmap_same {b = t.0} {b' = t'.0} u.0 u.1 ∙ sym t'.2, u.2, u.3, u.4)
+    (t.2 ∙ bitmap_same t.0 t'.0 u.0 u.1 ∙ sym t'.2, u.2, u.3, u.4)
 
 -- ---- rules of two fields
 
-rule_build_same : {b b' : BuiltRules} → b.outcome ≡ b'.outcome → b.record ≡ b'.record → rule_build_numbers b ≡ rule_build_numbers b'
-rule_build_same p q = rw (p, q)
+rule_build_same : (b b' : Result RuleRecord Refusal) → outcome_of b ≡ outcome_of b' → rule_record_of b ≡ rule_record_of b' → rule_build_numbers b ≡ rule_build_numbers b'
+rule_build_same b b' p q = rw (p, q)
 
 pub built_rules_unique : (kind : Kind) (W k links : ℕ) (rs : Rules) (scratch : List ℕ) {rows rows1 rows2 : Lists} {list s list1 s' list2 : List ℕ} {r r' : BuiltRulesNumbers}
     → Told (AllowedRules kind W k links rs scratch rows list s rows1 list1) rule_build_numbers r → Told (AllowedRules kind W k links rs scratch rows list s' rows2 list2) rule_build_numbers r'
     → (r ≡ r') × (s ≡ s') × (rows1 ≡ rows2) × (list1 ≡ list2)
 built_rules_unique kind W k links rs scratch {rows} {list = list} t t' =
     let u = rule_builds_unique kind W k links rs scratch rows list t.1 t'.1 in
-    (t.2 ∙ rule_build_same {b = t.0} {b' = t'.0} u.0 u.1 ∙ sym t'.2, u.2, u.3, u.4)
+    (t.2 ∙ rule_build_same t.0 t'.0 u.0 u.1 ∙ sym t'.2, u.2, u.3, u.4)
 
 pub classify_unique : (rec : RuleRecord) (ls : Lists) (list : List ℕ) (dest source : ℕ) {r r' : VerdictNumbers}
     → Told (Classified rec ls list dest source WIDTH) verdict_numbers r → Told (Classified rec ls list dest source WIDTH) verdict_numbers r' → r ≡ r'

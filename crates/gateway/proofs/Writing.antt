@@ -1,29 +1,25 @@
 -- One lookup more is written at the next index: what was told stays, and later places are kept.
-use mathlib.Core.Path.{◌≡◌, refl, ◌∙◌}
+use mathlib.Core.Path.{◌≡◌, refl, sym, subst, ◌∙◌}
 use mathlib.Core.List.{List}
 use Prim.Native.Nat.{ℕ, ◌+◌, ◌<◌}
 use native.Mathlib.Omega.{arith}
 use borrow.Author.Count.{below_more}
-use lib.ListN.{length, set, length-set}
+use lib.ListN.{length, length-set}
 use lib.Seq.{get_or-set_same, get_or-set_other}
 use Rattle.table.specs.Table.{at}
 use Rattle.walk.specs.Limits.{WIDTH}
 use Rattle.walk.specs.Rows.{Lists}
 use Rattle.walk.specs.Meaning.{Looked}
 use Rattle.walk.specs.declared.record.Record.{Record}
-use Rattle.walk.specs.declared.walk.Answer.{Answer}
+use Rattle.walk.specs.Cases.{Answer}
 use Rattle.table.specs.Answers.{Told}
 use Rattle.walk.specs.Answers.{answer_numbers}
-use Rattle.gateway.specs.Batch.{Columns, columns, answer_at, ExactAnswer, BatchWritten}
+use Rattle.gateway.specs.Batch.{Columns, answer_at, put_answer, ExactAnswer, BatchWritten}
 use Rattle.walk.specs.declared.numbers.AnswerNumbers.{AnswerNumbers}
 
 -- both clauses of the lookup's promise
 abbrev pub Promised : Record → Lists → (address : ℕ) → Answer → Type 0
 Promised rec ls address a = ExactAnswer rec ls address a × Looked WIDTH rec ls address a
-
--- an answer put at index i of the lists
-abbrev pub put_answer : Columns → ℕ → AnswerNumbers → Columns
-put_answer cs i f = columns (set cs.number i f.number) (set cs.hop i f.hop) (set cs.len i f.length) (set cs.reads i f.reads)
 
 found_same : {a a' b b' c c' d d' : ℕ} → a ≡ a' → b ≡ b' → c ≡ c' → d ≡ d'
     → ◌≡◌ {A = AnswerNumbers} (record { number = a; hop = b; length = c; reads = d }) (record { number = a'; hop = b'; length = c'; reads = d' })
@@ -56,7 +52,7 @@ module _ {Allows : (address : ℕ) → Answer → Type 0} {xs : List ℕ} {cs : 
   pub written_none : BatchWritten Allows xs cs cs 0
   written_none = record { told = λ i h. absurd (omega arith); later = λ i h. refl; numbers = refl; hops = refl; lens = refl; counts = refl }
 
-  pub written_more : {now : Columns} {i : ℕ} {f : AnswerNumbers} → BatchWritten Allows xs cs now i
+  written_more : {now : Columns} {i : ℕ} {f : AnswerNumbers} → BatchWritten Allows xs cs now i
       → HasPlace now i → Told (Allows (at xs i)) answer_numbers f → BatchWritten Allows xs cs (put_answer now i f) (i + 1)
   written_more {now} {i} {f} w fits t = record {
     told = below_more (λ (k : ℕ). Told (Allows (at xs k)) answer_numbers (answer_at (put_answer now i f) k)) i
@@ -68,6 +64,11 @@ module _ {Allows : (address : ℕ) → Answer → Type 0} {xs : List ℕ} {cs : 
     lens = length-set now.len i f.length ∙ w.lens;
     counts = length-set now.reads i f.reads ∙ w.counts;
   }
+
+  -- the same of lists that hold what was put
+  pub written_put : {now next : Columns} {i : ℕ} {f : AnswerNumbers} → next ≡ put_answer now i f → BatchWritten Allows xs cs now i
+      → HasPlace now i → Told (Allows (at xs i)) answer_numbers f → BatchWritten Allows xs cs next (i + 1)
+  written_put {i = i} e w fits t = subst (λ (n : Columns). BatchWritten Allows xs cs n (i + 1)) (sym e) (written_more w fits t)
 
 -- what is written by a promise is written by one that follows from it
 pub written_by : {Allows Also : (address : ℕ) → Answer → Type 0} {xs : List ℕ} {cs cs' : Columns} {n : ℕ}

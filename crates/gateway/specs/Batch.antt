@@ -1,11 +1,11 @@
 -- Lookups one after the other: which addresses are answered, and what the four answer lists then hold.
-use Rattle.std.specs.Prelude.{◌≡◌, List, ℕ, min, ◌≤◌, ◌<◌, length}
+use Rattle.std.specs.Prelude.{◌≡◌, List, ℕ, min, ◌≤◌, ◌<◌, length, set}
 use Rattle.table.specs.Table.{at}
 use Rattle.walk.specs.Limits.{WIDTH}
 use Rattle.walk.specs.Rows.{Lists}
 use Rattle.walk.specs.Lookup.{lookup_of}
 use Rattle.walk.specs.declared.record.Record.{Record}
-use Rattle.walk.specs.declared.walk.Answer.{Answer}
+use Rattle.walk.specs.Cases.{Answer}
 use Rattle.table.specs.Answers.{Told}
 use Rattle.walk.specs.Answers.{answer_numbers}
 use Rattle.walk.specs.declared.numbers.AnswerNumbers.{AnswerNumbers}
@@ -19,6 +19,14 @@ pub record Columns : Type 0 where
 
 abbrev pub columns : (number hop len reads : List ℕ) → Columns
 columns number hop len reads = record { number = number; hop = hop; len = len; reads = reads }
+
+-- the places that all four have
+abbrev pub places : Columns → ℕ
+places cs = min (length cs.number) (min (length cs.hop) (min (length cs.len) (length cs.reads)))
+
+-- an answer put at index i of the lists
+abbrev pub put_answer : Columns → ℕ → AnswerNumbers → Columns
+put_answer cs i f = columns (set cs.number i f.number) (set cs.hop i f.hop) (set cs.len i f.length) (set cs.reads i f.reads)
 
 -- what stands at an index of them
 abbrev pub answer_at : Columns → ℕ → AnswerNumbers
@@ -40,5 +48,5 @@ pub record BatchWritten (Allows : (address : ℕ) → Answer → Type 0) (xs : L
 
 -- as many as the shortest of the address list and the answer lists has
 pub record Answered (Allows : (address : ℕ) → Answer → Type 0) (xs : List ℕ) (cs cs' : Columns) (n : ℕ) : Type 0 where
-  pub count : n ≡ min (length xs) (min (length cs.number) (min (length cs.hop) (min (length cs.len) (length cs.reads))))
+  pub count : n ≡ min (length xs) (places cs)
   pub written : BatchWritten Allows xs cs cs' n

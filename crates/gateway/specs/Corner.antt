@@ -1,8 +1,7 @@
 -- 02's example of a discard ([4]), with the matched lengths ([5]): what a lookup answers in any build of its table (table Corner), in
 -- elements or as a tree bitmap.
 use Rattle.std.specs.Prelude.{◌≡◌, ℕ}
-use Rattle.walk.specs.declared.walk.Answer.{Answer}
-use Rattle.walk.specs.declared.walk.Answer.TheVariants.{Match, Discard, NoRoute}
+use Rattle.walk.specs.Cases.{Answer, Match, Discard, NoRoute}
 use Rattle.walk.specs.Answers.{reads_of}
 
 -- the answers to the three addresses, `Allows` being what the lookup's promise allows for an address

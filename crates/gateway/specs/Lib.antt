@@ -3,4 +3,5 @@
 pub mod Numbers
 pub mod Allowed
 pub mod Batch
+pub mod Lent
 pub mod Corner

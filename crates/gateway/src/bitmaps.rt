@@ -1,17 +1,16 @@
 // Tree bitmap arrays for C (02 [1]): the build and the lookup.
 ghost use Rattle.std.specs.Prelude.{◌≡◌};
+ghost use Rattle.table.specs.Answers.{Told};
 ghost use Rattle.walk.specs.Limits.{WIDTH};
-ghost use Rattle.visits.specs.Rows.{row_lists};
+ghost use Rattle.walk.specs.Answers.{answer_numbers};
+ghost use Rattle.visits.specs.Lent.{lent, held, SameSupernodes};
 ghost use Rattle.visits.specs.Lookup.{lookup_bitmap_of};
 ghost use Rattle.visits.specs.Meaning.{LookedBitmap};
-ghost use Rattle.table.specs.Answers.{Told};
-ghost use Rattle.walk.specs.Answers.{answer_numbers};
 ghost use Rattle.gateway.specs.Numbers.{bitmap_numbers};
 ghost use Rattle.gateway.specs.Allowed.{ExactBitmap, AllowedBitmap};
 
-use crate::entries::outcome_numbers;
-use supernodes::BuiltBitmap;
-use visits::Bitmap;
+use table::{Entries, Refusal};
+use visits::{Bitmap, Supernodes, SupernodesMut};
 use walk::AnswerNumbers;
 
 #[derive(Clone, Copy)]
@@ -22,16 +21,23 @@ pub struct BuiltBitmapNumbers {
     pub record: Bitmap,
 }
 
-fn bitmap_numbers(built: BuiltBitmap) -> BuiltBitmapNumbers
-    ensures { result ≡ bitmap_numbers built }
-{
-    let outcome = built.outcome;
-    let told = outcome_numbers(outcome);
-    let rec = built.record;
-    BuiltBitmapNumbers {
-        number: told.number,
-        detail: told.detail,
-        record: rec,
+#[tactic(auto, unfolding(table::specs::Refusals::outcome_of))]
+impl From<Result<Bitmap, Refusal>> for BuiltBitmapNumbers {
+    ghost from_gives = { λ built numbers. numbers ≡ bitmap_numbers built };
+
+    fn from(built: Result<Bitmap, Refusal>) -> BuiltBitmapNumbers {
+        match built {
+            Ok(record) => BuiltBitmapNumbers {
+                number: 0,
+                detail: 0,
+                record,
+            },
+            Err(refusal) => BuiltBitmapNumbers {
+                number: refusal.number(),
+                detail: refusal.detail(),
+                record: Bitmap::default(),
+            },
+        }
     }
 }
 
@@ -41,46 +47,29 @@ fn bitmap_numbers(built: BuiltBitmap) -> BuiltBitmapNumbers
 pub fn hongsamuk_build_bitmap(
     width: u32,
     links: u16,
-    value: &[u32],
-    length: &[u8],
-    hop: &[u16],
+    entries: Entries,
     scratch: &mut [u64],
-    internal: &mut [u16],
-    external: &mut [u16],
-    child: &mut [u32],
-    first: &mut [u32],
-    hops: &mut [u16],
+    rows: &mut SupernodesMut,
 ) -> BuiltBitmapNumbers
+    ensures same { SameSupernodes rows.old rows.new }
     ensures exact { Told
-        (ExactBitmap width links value.now length.now hop.now scratch.old
-        (row_lists internal.old external.old child.old first.old) hops.old scratch.new
-        (row_lists internal.new external.new child.new first.new) hops.new) bitmap_numbers result }
+        (ExactBitmap width links entries.entry.value.now entries.entry.length.now entries.entry.hop.now scratch.old
+        (held rows.old) rows.old.hops.now scratch.new (held rows.new) rows.new.hops.now)
+        bitmap_numbers result }
     ensures meaning { Told
-        (AllowedBitmap width links value.now length.now hop.now scratch.old
-        (row_lists internal.old external.old child.old first.old) hops.old scratch.new
-        (row_lists internal.new external.new child.new first.new) hops.new) bitmap_numbers result }
+        (AllowedBitmap width links entries.entry.value.now entries.entry.length.now entries.entry.hop.now scratch.old
+        (held rows.old) rows.old.hops.now scratch.new (held rows.new) rows.new.hops.now)
+        bitmap_numbers result }
 {
-    bitmap_numbers(supernodes::build_bitmap(
-        width, links, value, length, hop, scratch, internal, external, child, first, hops,
-    ))
+    let built = supernodes::build_bitmap(width, links, entries, scratch, rows);
+    BuiltBitmapNumbers::from(built)
 }
 
 // Looks the address up in rows of supernodes: tests 1, 8, 9. Over the record and lists that one accepted build left together it is the
 // hop and the length of the longest prefix that begins the address, a discard's too, or none. No list changes.
-pub fn hongsamuk_lookup_bitmap(
-    rec: Bitmap,
-    internal: &[u16],
-    external: &[u16],
-    child: &[u32],
-    first: &[u32],
-    hops: &[u16],
-    address: u32,
-) -> AnswerNumbers
-    ensures exact { result ≡ answer_numbers (lookup_bitmap_of WIDTH rec
-        (row_lists internal.now external.now child.now first.now) hops.now address) }
-    ensures meaning { Told (LookedBitmap WIDTH rec
-        (row_lists internal.now external.now child.now first.now) hops.now address)
-        answer_numbers result }
+pub fn hongsamuk_lookup_bitmap(rec: Bitmap, rows: Supernodes, address: u32) -> AnswerNumbers
+    ensures exact { result ≡ answer_numbers (lookup_bitmap_of WIDTH rec (lent rows.entry) rows.entry.hops.now address) }
+    ensures meaning { Told (LookedBitmap WIDTH rec (lent rows.entry) rows.entry.hops.now address) answer_numbers result }
 {
-    visits::lookup_bitmap_numbers(rec, internal, external, child, first, hops, address)
+    AnswerNumbers::from(visits::find_bitmap(rec, rows, address))
 }

@@ -1,12 +1,12 @@
 // The stride choosers for C (01, "Stride choices").
 ghost use Rattle.std.specs.Prelude.{◌≡◌};
-ghost use Rattle.strides.specs.Cheapest.{fixed, variable};
 ghost use Rattle.table.specs.Answers.{Told};
+ghost use Rattle.choosers.specs.Kinds.{kind_of};
 ghost use Rattle.gateway.specs.Numbers.{choice_numbers};
 ghost use Rattle.gateway.specs.Allowed.{ExactChoice, AllowedChoice};
 
-use crate::entries::outcome_numbers;
-use tries::Chosen;
+use table::{Entries, Refusal};
+use tries::{Chosen, Kind, LEVELS};
 
 #[derive(Clone, Copy)]
 #[repr(C)]
@@ -14,60 +14,57 @@ pub struct ChosenNumbers {
     pub number: u32,
     pub detail: u64,
     pub cost: u64,
-    pub strides: [u8; tries::LEVELS as usize],
+    pub strides: [u8; LEVELS as usize],
 }
 
-fn choice_numbers(chosen: Chosen) -> ChosenNumbers
-    ensures { result ≡ choice_numbers chosen }
-{
-    let outcome = chosen.outcome;
-    let told = outcome_numbers(outcome);
-    let strides = chosen.strides;
-    ChosenNumbers {
-        number: told.number,
-        detail: told.detail,
-        cost: chosen.cost,
-        strides,
+// (The strides go through a variable: the borrow checker takes no array that goes into a literal straight.)
+#[tactic(auto, unfolding(table::specs::Refusals::outcome_of, table::specs::Lists::padded))]
+impl From<Result<Chosen, Refusal>> for ChosenNumbers {
+    ghost from_gives = { λ chosen numbers. numbers ≡ choice_numbers chosen };
+
+    fn from(chosen: Result<Chosen, Refusal>) -> ChosenNumbers {
+        match chosen {
+            Ok(chosen) => {
+                let strides = chosen.strides;
+                ChosenNumbers {
+                    number: 0,
+                    detail: 0,
+                    cost: chosen.cost,
+                    strides,
+                }
+            }
+            Err(refusal) => {
+                let strides = [0; LEVELS as usize];
+                ChosenNumbers {
+                    number: refusal.number(),
+                    detail: refusal.detail(),
+                    cost: 0,
+                    strides,
+                }
+            }
+        }
     }
 }
 
-// The least cost of one stride a level, with at most `levels` levels, and those strides: tests 1 to 6. Accepted, all of scratch
-// is 0; refused, cost and strides are 0 and scratch is as it was. No other list changes.
-pub fn hongsamuk_choose_fixed(
+// The least cost of a choice of the kind with at most `levels` levels, and the strides that the record names (of one stride a level all,
+// of one stride a block the root's): tests 1 to 6. Accepted, all of scratch is 0; refused, cost and strides are 0 and scratch is as it
+// was. No other list changes.
+pub fn hongsamuk_choose(
+    kind: Kind,
     width: u32,
     levels: u32,
     links: u16,
-    value: &[u32],
-    length: &[u8],
-    hop: &[u16],
+    entries: Entries,
     scratch: &mut [u64],
 ) -> ChosenNumbers
     ensures exact { Told
-        (ExactChoice fixed width levels links value.now length.now hop.now scratch.old scratch.new)
+        (ExactChoice (kind_of kind) width levels links
+        entries.entry.value.now entries.entry.length.now entries.entry.hop.now scratch.old scratch.new)
         choice_numbers result }
     ensures meaning { Told
-        (AllowedChoice fixed width levels links value.now length.now hop.now scratch.old scratch.new)
+        (AllowedChoice (kind_of kind) width levels links
+        entries.entry.value.now entries.entry.length.now entries.entry.hop.now scratch.old scratch.new)
         choice_numbers result }
 {
-    choice_numbers(tries::choose_fixed(width, levels, links, value, length, hop, scratch))
-}
-
-// The same for one stride a block: only the root's is named.
-pub fn hongsamuk_choose_variable(
-    width: u32,
-    levels: u32,
-    links: u16,
-    value: &[u32],
-    length: &[u8],
-    hop: &[u16],
-    scratch: &mut [u64],
-) -> ChosenNumbers
-    ensures exact { Told
-        (ExactChoice variable width levels links value.now length.now hop.now scratch.old scratch.new)
-        choice_numbers result }
-    ensures meaning { Told
-        (AllowedChoice variable width levels links value.now length.now hop.now scratch.old scratch.new)
-        choice_numbers result }
-{
-    choice_numbers(tries::choose_variable(width, levels, links, value, length, hop, scratch))
+    ChosenNumbers::from(tries::choose(kind, width, levels, links, entries, scratch))
 }

@@ -1,11 +1,11 @@
 // The table check and the two answers about entries, for C (01, "Refusals" and "Two answers about entries").
 ghost use Rattle.std.specs.Prelude.{◌≡◌};
-ghost use Rattle.table.specs.Refusals.{Gives};
+ghost use Rattle.table.specs.Refusals.{refusal_number, refusal_detail, Gives};
 ghost use Rattle.table.specs.Table.{table_tests, check_of};
 ghost use Rattle.table.specs.Answers.{Told, shared_of, Shares, span_of, Spans};
 ghost use Rattle.gateway.specs.Numbers.{outcome_numbers, shared_numbers, span_numbers};
 
-use table::{Outcome, Shared, Span};
+use table::{Entries, Refusal, Span};
 
 #[derive(Clone, Copy)]
 #[repr(C)]
@@ -30,54 +30,76 @@ pub struct SpanNumbers {
     pub count: u32,
 }
 
-// An outcome in numbers.
-pub(crate) fn outcome_numbers(outcome: Outcome) -> Checked
-    ensures { result ≡ outcome_numbers outcome }
-{
-    match outcome {
-        Outcome::Accepted => Checked {
-            number: 0,
-            detail: 0,
-        },
-        Outcome::Refused { number, detail } => Checked { number, detail },
+impl From<Refusal> for Checked {
+    ghost from_gives = { λ refusal told. (told.number ≡ refusal_number refusal) × (told.detail ≡ refusal_detail refusal) };
+
+    fn from(refusal: Refusal) -> Checked {
+        Checked {
+            number: refusal.number(),
+            detail: refusal.detail(),
+        }
+    }
+}
+
+impl From<Result<(), Refusal>> for Checked {
+    ghost from_gives = { λ outcome numbers. numbers ≡ outcome_numbers outcome };
+
+    fn from(outcome: Result<(), Refusal>) -> Checked {
+        match outcome {
+            Ok(()) => Checked {
+                number: 0,
+                detail: 0,
+            },
+            Err(refusal) => Checked::from(refusal),
+        }
     }
 }
 
 // The detail of a refused shared length is 0, so it has no place.
-fn shared_numbers(shared: Shared) -> SharedNumbers
-    ensures { result ≡ shared_numbers shared }
-{
-    match shared {
-        Shared::Length(bits) => SharedNumbers { number: 0, bits },
-        Shared::Refused { number, detail: _ } => SharedNumbers { number, bits: 0 },
+#[tactic(auto, unfolding(table::specs::Refusals::outcome_of))]
+impl From<Result<u32, Refusal>> for SharedNumbers {
+    ghost from_gives = { λ shared numbers. numbers ≡ shared_numbers shared };
+
+    fn from(shared: Result<u32, Refusal>) -> SharedNumbers {
+        match shared {
+            Ok(bits) => SharedNumbers { number: 0, bits },
+            Err(refusal) => SharedNumbers {
+                number: refusal.number(),
+                bits: 0,
+            },
+        }
     }
 }
 
-fn span_numbers(span: Span) -> SpanNumbers
-    ensures { result ≡ span_numbers span }
-{
-    match span {
-        Span::Part { index, count } => SpanNumbers {
-            number: 0,
-            detail: 0,
-            index,
-            count,
-        },
-        Span::Refused { number, detail } => SpanNumbers {
-            number,
-            detail,
-            index: 0,
-            count: 0,
-        },
+#[tactic(auto, unfolding(table::specs::Refusals::outcome_of))]
+impl From<Result<Span, Refusal>> for SpanNumbers {
+    ghost from_gives = { λ span numbers. numbers ≡ span_numbers span };
+
+    fn from(span: Result<Span, Refusal>) -> SpanNumbers {
+        match span {
+            Ok(Span { index, count }) => SpanNumbers {
+                number: 0,
+                detail: 0,
+                index,
+                count,
+            },
+            Err(refusal) => SpanNumbers {
+                number: refusal.number(),
+                detail: refusal.detail(),
+                index: 0,
+                count: 0,
+            },
+        }
     }
 }
 
 // Whether three lists are a table of the width: tests 1, 3, 4, 5. No list changes.
-pub fn hongsamuk_check(width: u32, links: u16, value: &[u32], length: &[u8], hop: &[u16]) -> Checked
-    ensures exact { result ≡ outcome_numbers (check_of width links value.now length.now hop.now) }
-    ensures meaning { Told (Gives (table_tests width links value.now length.now hop.now)) outcome_numbers result }
+pub fn hongsamuk_check(width: u32, links: u16, entries: Entries) -> Checked
+    ensures exact { result ≡ outcome_numbers (check_of width links entries.entry.value.now entries.entry.length.now entries.entry.hop.now) }
+    ensures meaning { Told (Gives (table_tests width links entries.entry.value.now entries.entry.length.now entries.entry.hop.now))
+        outcome_numbers result }
 {
-    outcome_numbers(table::check_table(width, links, value, length, hop))
+    Checked::from(table::check_table(width, links, entries))
 }
 
 // How many leading bits the prefixes (a, alen) and (b, blen) share: tests 1, then 10.
@@ -85,7 +107,7 @@ pub fn hongsamuk_shared_length(width: u32, a: u32, alen: u8, b: u32, blen: u8) -
     ensures exact { result ≡ shared_numbers (shared_of width a alen b blen) }
     ensures meaning { Told (Shares width a alen b blen) shared_numbers result }
 {
-    shared_numbers(table::shared_length(width, a, alen, b, blen))
+    SharedNumbers::from(table::shared_length(width, a, alen, b, blen))
 }
 
 // The first index and the number of the entries that start with a prefix; where there are none, count 0 at the index where the
@@ -93,14 +115,14 @@ pub fn hongsamuk_shared_length(width: u32, a: u32, alen: u8, b: u32, blen: u8) -
 pub fn hongsamuk_zone_span(
     width: u32,
     links: u16,
-    value: &[u32],
-    length: &[u8],
-    hop: &[u16],
+    entries: Entries,
     prefix: u32,
     bits: u8,
 ) -> SpanNumbers
-    ensures exact { result ≡ span_numbers (span_of width links value.now length.now hop.now prefix bits) }
-    ensures meaning { Told (Spans width links value.now length.now hop.now prefix bits) span_numbers result }
+    ensures exact { result ≡ span_numbers
+        (span_of width links entries.entry.value.now entries.entry.length.now entries.entry.hop.now prefix bits) }
+    ensures meaning { Told (Spans width links entries.entry.value.now entries.entry.length.now entries.entry.hop.now prefix bits)
+        span_numbers result }
 {
-    span_numbers(table::zone_span(width, links, value, length, hop, prefix, bits))
+    SpanNumbers::from(table::zone_span(width, links, entries, prefix, bits))
 }

@@ -12,14 +12,12 @@ mod making;
 mod ruling;
 
 pub use bitmaps::{BuiltBitmapNumbers, hongsamuk_build_bitmap, hongsamuk_lookup_bitmap};
-pub use choosing::{ChosenNumbers, hongsamuk_choose_fixed, hongsamuk_choose_variable};
+pub use choosing::{ChosenNumbers, hongsamuk_choose};
 pub use entries::{
     Checked, SharedNumbers, SpanNumbers, hongsamuk_check, hongsamuk_shared_length,
     hongsamuk_zone_span,
 };
-pub use looking::{hongsamuk_lookup, hongsamuk_lookup_batch};
-pub use making::{BuiltNumbers, hongsamuk_build_fixed, hongsamuk_build_variable};
-pub use ruling::{
-    BuiltRulesNumbers, VerdictNumbers, hongsamuk_build_rules_fixed, hongsamuk_build_rules_variable,
-    hongsamuk_classify,
-};
+pub use looking::{AnswerLists, hongsamuk_lookup, hongsamuk_lookup_batch};
+pub use making::{BuiltNumbers, hongsamuk_build};
+pub use ruling::{BuiltRulesNumbers, VerdictNumbers, hongsamuk_build_rules, hongsamuk_classify};
+pub use tries::Kind;

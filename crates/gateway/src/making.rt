@@ -1,14 +1,17 @@
 // The builds for C (01, "The element rows").
 ghost use Rattle.std.specs.Prelude.{◌≡◌};
-ghost use Rattle.strides.specs.Cheapest.{fixed, variable};
-ghost use Rattle.walk.specs.Rows.{lists};
 ghost use Rattle.table.specs.Answers.{Told};
+ghost use Rattle.choosers.specs.Kinds.{kind_of};
+ghost use Rattle.walk.specs.Lent.{held, SameLists};
 ghost use Rattle.gateway.specs.Numbers.{build_numbers};
 ghost use Rattle.gateway.specs.Allowed.{ExactBuild, AllowedBuild};
 
-use crate::entries::outcome_numbers;
-use tries::{Built, Kind, Record};
+use table::{Entries, Refusal};
+use tries::Kind;
+use walk::{Record, RowsMut};
 
+// What C reads of a build. Those of a tree bitmap and of rules differ in the record alone, and are structs of their own: the signature of
+// an exported call may have no struct with type arguments.
 #[derive(Clone, Copy)]
 #[repr(C)]
 pub struct BuiltNumbers {
@@ -17,94 +20,48 @@ pub struct BuiltNumbers {
     pub record: Record,
 }
 
-fn build_numbers(built: Built) -> BuiltNumbers
-    ensures { result ≡ build_numbers built }
-{
-    let outcome = built.outcome;
-    let told = outcome_numbers(outcome);
-    let rec = built.record;
-    BuiltNumbers {
-        number: told.number,
-        detail: told.detail,
-        record: rec,
+#[tactic(auto, unfolding(table::specs::Refusals::outcome_of, table::specs::Lists::padded))]
+impl From<Result<Record, Refusal>> for BuiltNumbers {
+    ghost from_gives = { λ built numbers. numbers ≡ build_numbers built };
+
+    fn from(built: Result<Record, Refusal>) -> BuiltNumbers {
+        match built {
+            Ok(record) => BuiltNumbers {
+                number: 0,
+                detail: 0,
+                record,
+            },
+            Err(refusal) => BuiltNumbers {
+                number: refusal.number(),
+                detail: refusal.detail(),
+                record: Record::default(),
+            },
+        }
     }
 }
 
-// Turns a table into a record and element rows, one stride a level, with the least number E of rows: tests 1 to 7. Accepted, all
-// of scratch is 0 and rows 0 to E - 1 are written. Refused, the record is 0 and no element changes; scratch is 0 after 7, else kept.
-pub fn hongsamuk_build_fixed(
+// Turns a table into a record and element rows with the least number E of rows, one stride a level or one a block (the record then names
+// the root's only): tests 1 to 7. Accepted, all of scratch is 0 and rows 0 to E - 1 are written. Refused, the record is 0 and no element
+// changes; scratch is 0 after 7, else kept.
+pub fn hongsamuk_build(
+    kind: Kind,
     width: u32,
     levels: u32,
     links: u16,
-    value: &[u32],
-    length: &[u8],
-    hop: &[u16],
+    entries: Entries,
     scratch: &mut [u64],
-    rowhops: &mut [u16],
-    rowlens: &mut [u8],
-    rowlinks: &mut [u32],
-    rowstrides: &mut [u8],
+    rows: &mut RowsMut,
 ) -> BuiltNumbers
+    ensures same { SameLists rows.old rows.new }
     ensures exact { Told
-        (ExactBuild fixed width levels links value.now length.now hop.now scratch.old
-        (lists rowhops.old rowlens.old rowlinks.old rowstrides.old) scratch.new
-        (lists rowhops.new rowlens.new rowlinks.new rowstrides.new)) build_numbers result }
+        (ExactBuild (kind_of kind) width levels links
+        entries.entry.value.now entries.entry.length.now entries.entry.hop.now scratch.old (held rows.old) scratch.new (held rows.new))
+        build_numbers result }
     ensures meaning { Told
-        (AllowedBuild fixed width levels links value.now length.now hop.now scratch.old
-        (lists rowhops.old rowlens.old rowlinks.old rowstrides.old) scratch.new
-        (lists rowhops.new rowlens.new rowlinks.new rowstrides.new)) build_numbers result }
+        (AllowedBuild (kind_of kind) width levels links
+        entries.entry.value.now entries.entry.length.now entries.entry.hop.now scratch.old (held rows.old) scratch.new (held rows.new))
+        build_numbers result }
 {
-    build_numbers(tries::build(
-        Kind::Fixed,
-        width,
-        levels,
-        links,
-        value,
-        length,
-        hop,
-        scratch,
-        rowhops,
-        rowlens,
-        rowlinks,
-        rowstrides,
-    ))
-}
-
-// The same with one stride a block: the record names the root's only.
-pub fn hongsamuk_build_variable(
-    width: u32,
-    levels: u32,
-    links: u16,
-    value: &[u32],
-    length: &[u8],
-    hop: &[u16],
-    scratch: &mut [u64],
-    rowhops: &mut [u16],
-    rowlens: &mut [u8],
-    rowlinks: &mut [u32],
-    rowstrides: &mut [u8],
-) -> BuiltNumbers
-    ensures exact { Told
-        (ExactBuild variable width levels links value.now length.now hop.now scratch.old
-        (lists rowhops.old rowlens.old rowlinks.old rowstrides.old) scratch.new
-        (lists rowhops.new rowlens.new rowlinks.new rowstrides.new)) build_numbers result }
-    ensures meaning { Told
-        (AllowedBuild variable width levels links value.now length.now hop.now scratch.old
-        (lists rowhops.old rowlens.old rowlinks.old rowstrides.old) scratch.new
-        (lists rowhops.new rowlens.new rowlinks.new rowstrides.new)) build_numbers result }
-{
-    build_numbers(tries::build(
-        Kind::Variable,
-        width,
-        levels,
-        links,
-        value,
-        length,
-        hop,
-        scratch,
-        rowhops,
-        rowlens,
-        rowlinks,
-        rowstrides,
-    ))
+    let built = tries::build(kind, width, levels, links, entries, scratch, rows);
+    BuiltNumbers::from(built)
 }

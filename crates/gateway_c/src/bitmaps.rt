@@ -10,7 +10,8 @@ ghost use Rattle.gateway.specs.Numbers.{bitmap_numbers};
 ghost use Rattle.gateway.specs.Allowed.{ExactBitmap, AllowedBitmap};
 
 use gateway::BuiltBitmapNumbers;
-use visits::Bitmap;
+use table::Entries;
+use visits::{Bitmap, Supernodes, SupernodesMut};
 use walk::AnswerNumbers;
 
 // Turns a table into a record, rows of supernodes and their hops: tests 1, 3 to 6, then 7 for rows and 7 for hops. Accepted, all of
@@ -39,9 +40,15 @@ pub extern "C" fn hongsamuk_build_bitmap(
         (row_lists internal.old external.old child.old first.old) hops.old scratch.new
         (row_lists internal.new external.new child.new first.new) hops.new) bitmap_numbers result }
 {
-    gateway::hongsamuk_build_bitmap(
-        width, links, value, length, hop, scratch, internal, external, child, first, hops,
-    )
+    let entries = Entries { value, length, hop };
+    let mut rows = SupernodesMut {
+        internal,
+        external,
+        child,
+        first,
+        hops,
+    };
+    gateway::hongsamuk_build_bitmap(width, links, entries, scratch, &mut rows)
 }
 
 // Looks the address up in rows of supernodes: tests 1, 8, 9. Over the record and lists that one accepted build left together it is the
@@ -62,5 +69,12 @@ pub extern "C" fn hongsamuk_lookup_bitmap(
         (row_lists internal.now external.now child.now first.now) hops.now address)
         answer_numbers result }
 {
-    gateway::hongsamuk_lookup_bitmap(rec, internal, external, child, first, hops, address)
+    let rows = Supernodes {
+        internal,
+        external,
+        child,
+        first,
+        hops,
+    };
+    gateway::hongsamuk_lookup_bitmap(rec, rows, address)
 }

@@ -4,7 +4,8 @@ ghost use Rattle.table.specs.Answers.{Told};
 ghost use Rattle.gateway.specs.Numbers.{choice_numbers};
 ghost use Rattle.gateway.specs.Allowed.{ExactChoice, AllowedChoice};
 
-use gateway::ChosenNumbers;
+use gateway::{ChosenNumbers, Kind};
+use table::Entries;
 
 // The least cost of one stride a level, with at most `levels` levels, and those strides: tests 1 to 6. Accepted, all of scratch
 // is 0; refused, cost and strides are 0 and scratch is as it was. No other list changes.
@@ -25,7 +26,8 @@ pub extern "C" fn hongsamuk_choose_fixed(
         (AllowedChoice fixed width levels links value.now length.now hop.now scratch.old scratch.new)
         choice_numbers result }
 {
-    gateway::hongsamuk_choose_fixed(width, levels, links, value, length, hop, scratch)
+    let entries = Entries { value, length, hop };
+    gateway::hongsamuk_choose(Kind::Fixed, width, levels, links, entries, scratch)
 }
 
 // The same for one stride a block: only the root's is named.
@@ -46,5 +48,6 @@ pub extern "C" fn hongsamuk_choose_variable(
         (AllowedChoice variable width levels links value.now length.now hop.now scratch.old scratch.new)
         choice_numbers result }
 {
-    gateway::hongsamuk_choose_variable(width, levels, links, value, length, hop, scratch)
+    let entries = Entries { value, length, hop };
+    gateway::hongsamuk_choose(Kind::Variable, width, levels, links, entries, scratch)
 }

@@ -6,6 +6,7 @@ ghost use Rattle.table.specs.Answers.{Told, shared_of, Shares, span_of, Spans};
 ghost use Rattle.gateway.specs.Numbers.{outcome_numbers, shared_numbers, span_numbers};
 
 use gateway::{Checked, SharedNumbers, SpanNumbers};
+use table::Entries;
 
 // Whether three lists are a table of the width: tests 1, 3, 4, 5. No list changes.
 #[unsafe(no_mangle)]
@@ -19,7 +20,7 @@ pub extern "C" fn hongsamuk_check(
     ensures exact { result ≡ outcome_numbers (check_of width links value.now length.now hop.now) }
     ensures meaning { Told (Gives (table_tests width links value.now length.now hop.now)) outcome_numbers result }
 {
-    gateway::hongsamuk_check(width, links, value, length, hop)
+    gateway::hongsamuk_check(width, links, Entries { value, length, hop })
 }
 
 // How many leading bits the prefixes (a, alen) and (b, blen) share: tests 1, then 10.
@@ -52,5 +53,5 @@ pub extern "C" fn hongsamuk_zone_span(
     ensures exact { result ≡ span_numbers (span_of width links value.now length.now hop.now prefix bits) }
     ensures meaning { Told (Spans width links value.now length.now hop.now prefix bits) span_numbers result }
 {
-    gateway::hongsamuk_zone_span(width, links, value, length, hop, prefix, bits)
+    gateway::hongsamuk_zone_span(width, links, Entries { value, length, hop }, prefix, bits)
 }

@@ -1,4 +1,4 @@
-// The calls for C over the library gateway: each has its clauses and calls it.
+// The calls for C over the library gateway: each has its clauses and calls it. (C has a name for each kind: those are exported, and stay.)
 #![tactic(auto)]
 
 mod bitmaps;

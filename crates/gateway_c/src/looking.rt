@@ -8,7 +8,8 @@ ghost use Rattle.table.specs.Answers.{Told};
 ghost use Rattle.walk.specs.Answers.{answer_numbers};
 ghost use Rattle.gateway.specs.Batch.{columns, ExactAnswer, Answered};
 
-use walk::{AnswerNumbers, Record};
+use gateway::AnswerLists;
+use walk::{AnswerNumbers, Record, Rows};
 
 // Looks the address up: tests 1, 2, 8, 9. Over the record and lists that one accepted build left together it is the hop and the
 // length of the longest prefix that begins the address, a discard's too, or none. No list changes.
@@ -26,7 +27,13 @@ pub extern "C" fn hongsamuk_lookup(
     ensures meaning { Told (Looked WIDTH rec (lists rowhops.now rowlens.now rowlinks.now rowstrides.now) address)
         answer_numbers result }
 {
-    gateway::hongsamuk_lookup(rec, rowhops, rowlens, rowlinks, rowstrides, address)
+    let rows = Rows {
+        hop: rowhops,
+        length: rowlens,
+        link: rowlinks,
+        stride: rowstrides,
+    };
+    gateway::hongsamuk_lookup(rec, rows, address)
 }
 
 // Lookups one after the other: as many as the shortest of the address list and the four answer lists has. Number, hop, length and
@@ -53,7 +60,17 @@ pub extern "C" fn hongsamuk_lookup_batch(
         (columns number.old hop.old len.old reads.old)
         (columns number.new hop.new len.new reads.new) result }
 {
-    gateway::hongsamuk_lookup_batch(
-        rec, rowhops, rowlens, rowlinks, rowstrides, address, number, hop, len, reads,
-    )
+    let rows = Rows {
+        hop: rowhops,
+        length: rowlens,
+        link: rowlinks,
+        stride: rowstrides,
+    };
+    let mut answers = AnswerLists {
+        number,
+        hop,
+        length: len,
+        reads,
+    };
+    gateway::hongsamuk_lookup_batch(rec, rows, address, &mut answers)
 }

@@ -5,7 +5,9 @@ ghost use Rattle.table.specs.Answers.{Told};
 ghost use Rattle.gateway.specs.Numbers.{build_numbers};
 ghost use Rattle.gateway.specs.Allowed.{ExactBuild, AllowedBuild};
 
-use gateway::BuiltNumbers;
+use gateway::{BuiltNumbers, Kind};
+use table::Entries;
+use walk::RowsMut;
 
 // Turns a table into a record and element rows, one stride a level, with the least number E of rows: tests 1 to 7. Accepted, all
 // of scratch is 0 and rows 0 to E - 1 are written. Refused, the record is 0 and no element changes; scratch is 0 after 7, else kept.
@@ -32,8 +34,21 @@ pub extern "C" fn hongsamuk_build_fixed(
         (lists rowhops.old rowlens.old rowlinks.old rowstrides.old) scratch.new
         (lists rowhops.new rowlens.new rowlinks.new rowstrides.new)) build_numbers result }
 {
-    gateway::hongsamuk_build_fixed(
-        width, levels, links, value, length, hop, scratch, rowhops, rowlens, rowlinks, rowstrides,
+    let entries = Entries { value, length, hop };
+    let mut rows = RowsMut {
+        hop: rowhops,
+        length: rowlens,
+        link: rowlinks,
+        stride: rowstrides,
+    };
+    gateway::hongsamuk_build(
+        Kind::Fixed,
+        width,
+        levels,
+        links,
+        entries,
+        scratch,
+        &mut rows,
     )
 }
 
@@ -61,7 +76,20 @@ pub extern "C" fn hongsamuk_build_variable(
         (lists rowhops.old rowlens.old rowlinks.old rowstrides.old) scratch.new
         (lists rowhops.new rowlens.new rowlinks.new rowstrides.new)) build_numbers result }
 {
-    gateway::hongsamuk_build_variable(
-        width, levels, links, value, length, hop, scratch, rowhops, rowlens, rowlinks, rowstrides,
+    let entries = Entries { value, length, hop };
+    let mut rows = RowsMut {
+        hop: rowhops,
+        length: rowlens,
+        link: rowlinks,
+        stride: rowstrides,
+    };
+    gateway::hongsamuk_build(
+        Kind::Variable,
+        width,
+        levels,
+        links,
+        entries,
+        scratch,
+        &mut rows,
     )
 }

@@ -10,8 +10,10 @@ ghost use Rattle.verdicts.specs.Meaning.{Classified};
 ghost use Rattle.gateway.specs.Numbers.{rule_build_numbers, verdict_numbers};
 ghost use Rattle.gateway.specs.Allowed.{ExactRules, AllowedRules};
 
-use gateway::{BuiltRulesNumbers, VerdictNumbers};
+use fields::RuleLists;
+use gateway::{BuiltRulesNumbers, Kind, VerdictNumbers};
 use verdicts::RuleRecord;
+use walk::{Rows, RowsMut};
 
 // Turns rules into a record, the element rows of all tries and a list of source tries, one stride a level, each trie with the least
 // number of rows: tests 1 to 7, where 6 and 7 count over all tries. Accepted, all of scratch is 0. Refused, the record is 0 and neither
@@ -44,9 +46,28 @@ pub extern "C" fn hongsamuk_build_rules_fixed(
         (lists rowhops.old rowlens.old rowlinks.old rowstrides.old) list.old scratch.new
         (lists rowhops.new rowlens.new rowlinks.new rowstrides.new) list.new) rule_build_numbers result }
 {
-    gateway::hongsamuk_build_rules_fixed(
-        width, levels, links, dvals, dlens, svals, slens, actions, scratch, rowhops, rowlens,
-        rowlinks, rowstrides, list,
+    let rules = RuleLists {
+        dvals,
+        dlens,
+        svals,
+        slens,
+        actions,
+    };
+    let mut rows = RowsMut {
+        hop: rowhops,
+        length: rowlens,
+        link: rowlinks,
+        stride: rowstrides,
+    };
+    gateway::hongsamuk_build_rules(
+        Kind::Fixed,
+        width,
+        levels,
+        links,
+        rules,
+        scratch,
+        &mut rows,
+        list,
     )
 }
 
@@ -79,9 +100,28 @@ pub extern "C" fn hongsamuk_build_rules_variable(
         (lists rowhops.old rowlens.old rowlinks.old rowstrides.old) list.old scratch.new
         (lists rowhops.new rowlens.new rowlinks.new rowstrides.new) list.new) rule_build_numbers result }
 {
-    gateway::hongsamuk_build_rules_variable(
-        width, levels, links, dvals, dlens, svals, slens, actions, scratch, rowhops, rowlens,
-        rowlinks, rowstrides, list,
+    let rules = RuleLists {
+        dvals,
+        dlens,
+        svals,
+        slens,
+        actions,
+    };
+    let mut rows = RowsMut {
+        hop: rowhops,
+        length: rowlens,
+        link: rowlinks,
+        stride: rowstrides,
+    };
+    gateway::hongsamuk_build_rules(
+        Kind::Variable,
+        width,
+        levels,
+        links,
+        rules,
+        scratch,
+        &mut rows,
+        list,
     )
 }
 
@@ -106,7 +146,11 @@ pub extern "C" fn hongsamuk_classify(
         list.now dest source WIDTH)
         verdict_numbers result }
 {
-    gateway::hongsamuk_classify(
-        rec, rowhops, rowlens, rowlinks, rowstrides, list, dest, source,
-    )
+    let rows = Rows {
+        hop: rowhops,
+        length: rowlens,
+        link: rowlinks,
+        stride: rowstrides,
+    };
+    gateway::hongsamuk_classify(rec, rows, list, dest, source)
 }
