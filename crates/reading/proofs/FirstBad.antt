@@ -12,10 +12,9 @@ use lib.ListN.{length, take, drop, length-drop, take-append-drop}
 use lib.Dec.{eqb, lit≤}
 use borrow.Author.Tests.{ne_eqb}
 use Rattle.table.specs.Table.{at}
-use Rattle.reading.specs.declared.lines.Spot.{Spot}
 use Rattle.reading.specs.Limits.{COUNT, number_digits, NUMBER, SHORT, BITS}
 use Rattle.reading.specs.Keys.{width_key, levels_key, links_key, entries_key, bits_key, hop_key, queries_key, address_key}
-use Rattle.reading.specs.Lines.{number_line, bits_line}
+use Rattle.reading.specs.Lines.{Spot, number_line, bits_line}
 use Rattle.reading.specs.Entries.{entry_from, address_from, after_entries, after_queries}
 use Rattle.reading.specs.Sheet.{Sheet}
 use Rattle.reading.specs.Text.{Text, good, bad, text_start, width_item, kind_item, levels_item, links_item, entries_item, queries_item, last_spot, sheet_of, text_of}

@@ -11,20 +11,16 @@ use lib.ListN.{length, take}
 use lib.Seq.{get_or-take, length-take-le, take_all}
 use lib.Dec.{eqb}
 use borrow.Author.Tests.{ne_eqb}
-use Rattle.reading.specs.declared.lines.Spot.{Spot}
 use Rattle.reading.specs.declared.lines.Digits.{Digits}
-use Rattle.reading.specs.declared.lines.Item.{Item}
-use Rattle.reading.specs.declared.entries.EntryItem.{EntryItem}
 use Rattle.reading.specs.Limits.{COUNT, number_digits, NUMBER, SHORT, BITS, entry_line_bytes, query_line_bytes, LONGEST}
 use Rattle.reading.specs.Keys.{width_key, fixed_key, variable_key, levels_key, links_key, entries_key, bits_key, hop_key, queries_key, address_key}
-use Rattle.reading.specs.Lines.{byte_at, key_at, count_at, value_at, digits_at, close, number_line, bits_line, kind_line}
-use Rattle.reading.specs.Entries.{entry_from, address_from, after_entries, after_queries}
+use Rattle.reading.specs.Lines.{Spot, Item, byte_at, key_at, count_at, value_at, digits_at, close, number_line, bits_line, kind_line}
+use Rattle.reading.specs.Entries.{EntryItem, entry_from, address_from, after_entries, after_queries}
 use Rattle.reading.specs.Sheet.{Sheet}
 use Rattle.reading.specs.Text.{good, bad, text_start, width_item, kind_item, levels_item, links_item, entries_item, queries_item, last_spot, sheet_of, text_of}
 use Rattle.reading.specs.Spelling.{sheet_text, Sound}
 use Rattle.reading.proofs.Digits.{count_most, read_most}
-use Rattle.reading.proofs.Steps.{bits_is}
-use Rattle.reading.proofs.Listing.{entries_step, queries_step}
+use Rattle.reading.proofs.Steps.{bits_is, entries_step, queries_step}
 use Rattle.reading.proofs.Whole.{width_line, kind_line_lem, levels_line, links_line, entries_line, queries_line, to_entries, to_queries, to_last, after_entries_lem}
 use Rattle.reading.proofs.Sound.{spelled_is_good}
 

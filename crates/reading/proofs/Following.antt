@@ -12,17 +12,16 @@ use native.Mathlib.Nat.{pow-le-pow_right}
 use lib.ListN.{length, drop, take-append-drop}
 use lib.Seq.{drop-drop, drop-append_seam}
 use lib.Dec.{eqb, leb, lit≤}
+use Rattle.std.proofs.lemmas.Bool.{false≢true}
 use borrow.Author.Tests.{eqb-true}
-use Rattle.reading.specs.declared.lines.Spot.{Spot}
 use Rattle.reading.specs.declared.lines.Digits.{Digits}
-use Rattle.reading.specs.declared.lines.Item.{Item}
 use Rattle.reading.specs.Limits.{COUNT, number_digits, NUMBER, SHORT, BITS, LF}
 use Rattle.reading.specs.Keys.{width_key, fixed_key, variable_key, levels_key, links_key, entries_key, bits_key, hop_key, queries_key, address_key}
-use Rattle.reading.specs.Lines.{byte_at, key_at, digits_at, unpadded, bad_line, close, number_line, bits_line, kind_line}
+use Rattle.reading.specs.Lines.{Spot, Item, byte_at, key_at, digits_at, unpadded, bad_line, close, number_line, bits_line, kind_line, kind_named}
 use Rattle.table.specs.Lists.{listed}
 use Rattle.reading.specs.Entries.{entry_from, address_from, after_entries, after_queries, entry_bits, entry_length, entry_hop, query_address, query_places}
 use Rattle.reading.specs.Sheet.{Sheet}
-use Rattle.reading.specs.Text.{kind_named, good, bad, text_start, width_item, kind_item, levels_item, links_item, entries_item, queries_item, last_spot, sheet_of, text_of}
+use Rattle.reading.specs.Text.{good, bad, text_start, width_item, kind_item, levels_item, links_item, entries_item, queries_item, last_spot, sheet_of, text_of}
 use Rattle.reading.specs.Spelling.{kind_text, entry_text, query_text, sheet_text, Sound}
 use Rattle.reading.specs.Numerals.{line_of, bits_line_of, joined}
 use Rattle.reading.specs.FirstBad.{line_count, first_lines, Opens}
@@ -35,9 +34,6 @@ use Rattle.reading.proofs.FirstLines.{count_append, first_short, OneLine, number
 
 -- ---- a line: good, it counts; bad, the reading stays
 
-pub clash : {A : Type 0} → false ≡ true → A
-clash e = absurd (let z : ◌≡◌ {A = ℕ} 0 1 = cc in omega arith)
-
 pub record Turn (p q : Spot) : Type 0 where
   pub went : q.good ≡ true → q.line ≡ suc p.line
   pub stayed : q.good ≡ false → (q.at ≡ p.at) × (q.line ≡ p.line)
@@ -45,14 +41,14 @@ pub record Turn (p q : Spot) : Type 0 where
 tested_turn : (p : Spot) (t : Bool) (l : Item) → Turn p l.spot → Turn p (cond t l (bad_line p)).spot
 unfolding bad_line
 tested_turn p true l h = h
-tested_turn p false l h = record { went = λ e. clash e; stayed = λ e. (refl, refl) }
+tested_turn p false l h = record { went = λ e. absurd (false≢true e); stayed = λ e. (refl, refl) }
 
 close_turn : (s : List ℕ) (p : Spot) (end : ℕ) (d : Digits) → Turn p (close s p end d).spot
 unfolding close
 close_turn s p end d =
     tested_turn p (p.good && eqb (byte_at s end) LF)
     (record { value = d.value; count = d.count; spot = record { at = suc end; line = suc p.line; good = true } })
-    (record { went = λ e. refl; stayed = λ e. clash (sym e) })
+    (record { went = λ e. refl; stayed = λ e. absurd (false≢true (sym e)) })
 
 module _ (key s : List ℕ) (p : Spot) where
   pub number_turn : (k most : ℕ) → Turn p (number_line k most key s p).spot
@@ -89,14 +85,14 @@ turn_more {p} {q} t = go q.good refl
     go false e = omega (arith, (t.stayed e).1)
 
 -- the line x was read from p to q, or refused there
-record Took (s : List ℕ) (p : Spot) (x : List ℕ) (q : Spot) : Type 0 where
+record Tried (s : List ℕ) (p : Spot) (x : List ℕ) (q : Spot) : Type 0 where
   turn : Turn p q
   one : OneLine x
   stands : q.good ≡ true → Stretch s p q x
 
 module _ (key : List ℕ) (clean : line_count key ≡ 0) (s : List ℕ) (p : Spot) where
-  number_took : (most : ℕ) → Took s p (line_of key (number_line number_digits most key s p).value) (number_line number_digits most key s p).spot
-  number_took most =
+  number_tried : (most : ℕ) → Tried s p (line_of key (number_line number_digits most key s p).value) (number_line number_digits most key s p).spot
+  number_tried most =
       record {
         turn = number_turn key s p number_digits most;
         one = number_line_one key clean _;
@@ -104,17 +100,17 @@ module _ (key : List ℕ) (clean : line_count key ≡ 0) (s : List ℕ) (p : Spo
       }
 
   -- n digits, which are those that were read where it is good
-  bits_took : (least n : ℕ) → ((bits_line least key s p).spot.good ≡ true → n ≡ (bits_line least key s p).count)
-      → Took s p (bits_line_of key (bits_line least key s p).value n) (bits_line least key s p).spot
-  bits_took least n same =
+  bits_tried : (least n : ℕ) → ((bits_line least key s p).spot.good ≡ true → n ≡ (bits_line least key s p).count)
+      → Tried s p (bits_line_of key (bits_line least key s p).value n) (bits_line least key s p).spot
+  bits_tried least n same =
       record {
         turn = bits_turn key s p least;
         one = bits_line_one key clean _ _;
         stands = λ e. rw (same e) (bits_spelled key s p least e);
       }
 
-kind_took : (s : List ℕ) (p : Spot) → Took s p (kind_text (kind_named (kind_line s p).value)) (kind_line s p).spot
-kind_took s p = record { turn = kind_turn s p; one = kind_line_one (kind_named (kind_line s p).value); stands = λ e. kind_spelled s p e }
+kind_tried : (s : List ℕ) (p : Spot) → Tried s p (kind_text (kind_named (kind_line s p).value)) (kind_line s p).spot
+kind_tried s p = record { turn = kind_turn s p; one = kind_line_one (kind_named (kind_line s p).value); stands = λ e. kind_spelled s p e }
 
 -- ---- lines that were read, and what the text would go on with
 
@@ -132,7 +128,7 @@ stretch_begins s p q x w =
     ∙ ap (λ (l : List ℕ). l ++ drop (length x) (drop p.at s)) w.stand
     ∙ ap (λ (l : List ℕ). x ++ l) (drop-drop (length x) p.at s ∙ ap (λ (k : ℕ). drop k s) (sym w.ends))
 
-follow_line : {s : List ℕ} {p : Spot} {x : List ℕ} {q : Spot} {text : List ℕ} → Took s p x q → Follow s p text → Follow s q (text ++ x)
+follow_line : {s : List ℕ} {p : Spot} {x : List ℕ} {q : Spot} {text : List ℕ} → Tried s p x q → Follow s p text → Follow s q (text ++ x)
 follow_line {s} {p} {x} {q} {text} t f = go q.good refl
   where
     go : (b : Bool) → q.good ≡ b → Follow s q (text ++ x)
@@ -155,7 +151,7 @@ follow_line {s} {p} {x} {q} {text} t f = go q.good refl
           rest = f.rest ++ x;
           told = ap (λ (l : List ℕ). l ++ x) f.told ∙ append_assoc f.read f.rest x;
           begins = subst (λ (i : ℕ). s ≡ f.read ++ drop i s) (sym k.0) f.begins;
-          all = λ z. clash (sym e ∙ z);
+          all = λ z. absurd (false≢true (sym e ∙ z));
           number = k.1 ∙ f.number;
         }
 
@@ -178,8 +174,8 @@ module _ (s : List ℕ) (p : Spot) where
       let b = bits_line 0 bits_key s q in
       let bits-line = bits_line_of bits_key b.value b.count in
       let hop-line = line_of hop_key (number_line number_digits SHORT hop_key s b.spot).value in
-      let g = follow_line (bits_took bits_key refl s q 0 b.count (λ e. refl)) (follow_entries n text f) in
-      let h = follow_line (number_took hop_key refl s b.spot SHORT) g in
+      let g = follow_line (bits_tried bits_key refl s q 0 b.count (λ e. refl)) (follow_entries n text f) in
+      let h = follow_line (number_tried hop_key refl s b.spot SHORT) g in
       let e = ap (λ (l : List ℕ). l ++ hop-line) (append_assoc text (joined entry_bytes n) bits-line)
       ∙ append_assoc text (joined entry_bytes n ++ bits-line) hop-line
       ∙ ap (λ (l : List ℕ). text ++ l) (append_assoc (joined entry_bytes n) bits-line hop-line) in
@@ -191,7 +187,7 @@ module _ (s : List ℕ) (p : Spot) where
   follow_queries (suc n) text f =
       let q = after_queries s p n in
       let line = query_bytes n in
-      let g = follow_line (bits_took address_key refl s q 1 (query_digits n) (λ e. omega (arith, bits_enough 1 address_key s q e))) (follow_queries n text f) in
+      let g = follow_line (bits_tried address_key refl s q 1 (query_digits n) (λ e. omega (arith, bits_enough 1 address_key s q e))) (follow_queries n text f) in
       subst (Follow s _) (append_assoc text (joined query_bytes n) line) g
 
 -- ---- the sheet that was read, made whole
@@ -245,13 +241,13 @@ module _ (s : List ℕ) where
   follow_whole : Follow s (last_spot s) line_bytes
   unfolding last_spot queries_item entries_item links_item levels_item kind_item width_item line_count
   follow_whole =
-      let w = follow_line (number_took width_key refl s text_start NUMBER) follow_start in
-      let k = follow_line (kind_took s (width_item s).spot) w in
-      let l = follow_line (number_took levels_key refl s (kind_item s).spot NUMBER) k in
-      let g = follow_line (number_took links_key refl s (levels_item s).spot SHORT) l in
-      let e = follow_line (number_took entries_key refl s (links_item s).spot COUNT) g in
+      let w = follow_line (number_tried width_key refl s text_start NUMBER) follow_start in
+      let k = follow_line (kind_tried s (width_item s).spot) w in
+      let l = follow_line (number_tried levels_key refl s (kind_item s).spot NUMBER) k in
+      let g = follow_line (number_tried links_key refl s (levels_item s).spot SHORT) l in
+      let e = follow_line (number_tried entries_key refl s (links_item s).spot COUNT) g in
       let es = follow_entries s (entries_item s).spot (entries_item s).value _ e in
-      let q = follow_line (number_took queries_key refl s (after_entries s (entries_item s).spot (entries_item s).value) COUNT) es in
+      let q = follow_line (number_tried queries_key refl s (after_entries s (entries_item s).spot (entries_item s).value) COUNT) es in
       follow_queries s (queries_item s).spot (queries_item s).value _ q
 
   whole_sound : Sound made_whole

@@ -9,14 +9,15 @@ use lib.ListN.{length, take}
 use lib.Seq.{length-take-le, get_or-take, ext_get_or}
 use Rattle.table.specs.Lists.{padded}
 use Rattle.table.proofs.Lists.{padded_read, padded_length}
-use Rattle.choosers.specs.declared.chooser.Kind.{Kind}
-use Rattle.reading.specs.declared.parsing.Parsed.{Parsed}
+use Rattle.std.specs.Prelude.{Result, Ok, Err}
+use Rattle.reading.specs.declared.lines.BadLine.{BadLine}
 use Rattle.reading.specs.declared.parsing.Contents.{Contents}
 use Rattle.reading.specs.Limits.{COUNT}
 use Rattle.reading.specs.Sheet.{Sheet}
 use Rattle.reading.specs.Spelling.{Sound}
-use Rattle.reading.specs.Contents.{sheet_contents, bad_contents, TextHolds, sheet_in, GoodContents}
-use Rattle.reading.specs.Text.{Text, good, bad, text_of, contents_of, parsed_contents}
+use Rattle.reading.specs.Taking.{bad_at}
+use Rattle.reading.specs.Contents.{sheet_contents, TextHolds, sheet_in, GoodContents}
+use Rattle.reading.specs.Text.{Text, good, bad, text_of, contents_of}
 use Rattle.reading.proofs.Sound.{sheet_of_text}
 use Rattle.reading.proofs.Following.{good_is_sound, good_is_spelled}
 use Rattle.reading.proofs.FirstBad.{first_bad_unique, bad_is_first}
@@ -30,24 +31,14 @@ text_holds s = go (text_of s) refl
     go (bad line) e = inr (line, bad_is_first s line e, refl)
 
 -- one answer
-pub contents_unique : {s : List ℕ} {r r' : Contents} → TextHolds s r → TextHolds s r' → r ≡ r'
-contents_unique (inl a) (inl b) = a.3 ∙ ap sheet_contents (sheet_of_text a.1 b.1 (sym a.2 ∙ b.2)) ∙ sym b.3
+pub contents_unique : {s : List ℕ} {r r' : Result Contents BadLine} → TextHolds s r → TextHolds s r' → r ≡ r'
+contents_unique (inl a) (inl b) = a.3 ∙ ap (λ (sh : Sheet). Ok (sheet_contents sh)) (sheet_of_text a.1 b.1 (sym a.2 ∙ b.2)) ∙ sym b.3
 contents_unique (inl a) (inr b) = absurd (b.1.no_sheet a.0 a.1 a.2)
 contents_unique (inr a) (inl b) = absurd (a.1.no_sheet b.0 b.1 b.2)
-contents_unique (inr a) (inr b) = a.2 ∙ ap bad_contents (first_bad_unique a.1 b.1) ∙ sym b.2
+contents_unique (inr a) (inr b) = a.2 ∙ ap (λ (n : ℕ). Err (bad_at n)) (first_bad_unique a.1 b.1) ∙ sym b.2
 
--- ---- the call, in the code's own terms: t is what reading came to, with the lists that it filled, and r what is handed back
-
-pub is_held : {s : List ℕ} {r : Contents} → r ≡ contents_of (text_of s) → TextHolds s r
+pub is_held : {s : List ℕ} {r : Result Contents BadLine} → r ≡ contents_of (text_of s) → TextHolds s r
 is_held {s} e = subst (TextHolds s) (sym e) (text_holds s)
-
-module _ (s vs ls hs xs ds : List ℕ) {t : Parsed} (read : parsed_contents t vs ls hs xs ds ≡ contents_of (text_of s)) {r : Contents} where
-  pub read_bad : {line : ℕ} → t ≡ Parsed.Bad line → r ≡ bad_contents line → r ≡ contents_of (text_of s)
-  unfolding parsed_contents
-  read_bad is e = e ∙ sym (ap (λ (x : Parsed). parsed_contents x vs ls hs xs ds) is) ∙ read
-
-  pub read_good : {w l g n m : ℕ} {k : Kind} → t ≡ Parsed.Whole w k l g n m → r ≡ parsed_contents (Parsed.Whole w k l g n m) vs ls hs xs ds → r ≡ contents_of (text_of s)
-  read_good is e = e ∙ sym (ap (λ (x : Parsed). parsed_contents x vs ls hs xs ds) is) ∙ read
 
 -- ---- for the callers: r is what the call handed back
 
@@ -69,41 +60,43 @@ sheet_in_lem sh sound =
       padded_start sh.places m sound.queries_few sound.as_many_places,
     )
 
-module _ (s : List ℕ) {r : Contents} (read : r ≡ contents_of (text_of s)) where
-  -- a line that is not 0 is the bad one
-  pub contents_bad : (r.line ≡ 0 → ⊥) → text_of s ≡ bad r.line
-  unfolding contents_of sheet_contents bad_contents
-  contents_bad h = go (text_of s) refl
+module _ (s : List ℕ) where
+  pub contents_bad : {b : BadLine} → Err b ≡ contents_of (text_of s) → text_of s ≡ bad b.line
+  unfolding contents_of
+  contents_bad {b} read = go (text_of s) refl
     where
-      go : (t : Text) → text_of s ≡ t → text_of s ≡ bad r.line
-      go (good sh) e = absurd (h (ap (λ (x : Contents). x.line) read ∙ rw e))
-      go (bad line) e = let l : r.line ≡ line = ap (λ (x : Contents). x.line) read ∙ rw e in e ∙ ap bad (sym l)
+      go : (t : Text) → text_of s ≡ t → text_of s ≡ bad b.line
+      go (good sh) e = absurd (let z : ◌≡◌ {A = Result Contents BadLine} (Err b) (Ok (sheet_contents sh)) = read ∙ ap contents_of e in let y : ◌≡◌ {A = ℕ} 0 1 = cc in omega arith)
+      go (bad line) e =
+          let z : ◌≡◌ {A = Result Contents BadLine} (Err b) (Err (bad_at line)) = read ∙ ap contents_of e in
+          let y : b ≡ bad_at line = cc in
+          e ∙ ap bad (sym (ap (λ (x : BadLine). x.line) y))
 
-  -- else the text says the sheet in the contents
-  pub contents_good : r.line ≡ 0 → text_of s ≡ good (sheet_in r)
-  unfolding contents_of bad_contents
-  contents_good h = go (text_of s) refl
-    where
-      go : (t : Text) → text_of s ≡ t → text_of s ≡ good (sheet_in r)
-      go (good sh) e = e ∙ ap good (sym (ap sheet_in (read ∙ ap contents_of e) ∙ sheet_in_lem sh (good_is_sound s sh e)))
-      go (bad line) e = let l : r.line ≡ line = ap (λ (x : Contents). x.line) read ∙ rw e in absurd (omega (arith, (bad_is_first s line e).next))
+  module _ {r : Contents} (read : Ok r ≡ contents_of (text_of s)) where
+    says : (sh : Sheet) × Sound sh × (r ≡ sheet_contents sh) × (text_of s ≡ good sh)
+    unfolding contents_of
+    says = go (text_of s) refl
+      where
+        go : (t : Text) → text_of s ≡ t → (sh : Sheet) × Sound sh × (r ≡ sheet_contents sh) × (text_of s ≡ good sh)
+        go (good sh) e = let z : ◌≡◌ {A = Result Contents BadLine} (Ok r) (Ok (sheet_contents sh)) = read ∙ ap contents_of e in (sh, good_is_sound s sh e, cc, e)
+        go (bad line) e = absurd (let z : ◌≡◌ {A = Result Contents BadLine} (Ok r) (Err (bad_at line)) = read ∙ ap contents_of e in let y : ◌≡◌ {A = ℕ} 0 1 = cc in omega arith)
 
-  pub good_contents : r.line ≡ 0 → GoodContents r
-  unfolding contents_of sheet_contents
-  good_contents h = go (text_of s) refl
-    where
-      go : (t : Text) → text_of s ≡ t → GoodContents r
-      go (bad line) e = absurd (let z : good (sheet_in r) ≡ bad line = sym (contents_good h) ∙ e in let y : ◌≡◌ {A = ℕ} 0 1 = cc in omega arith)
-      go (good sh) e =
-          let sound = good_is_sound s sh e in
-          subst GoodContents (sym (read ∙ ap contents_of e))
-          (record {
-            sound = rw (sheet_in_lem sh sound) sound;
-            entries_few = sound.entries_few;
-            queries_few = sound.queries_few;
-            bits = padded_length COUNT sh.bits;
-            lengths = padded_length COUNT sh.lengths;
-            hops = padded_length COUNT sh.hops;
-            addresses = padded_length COUNT sh.addresses;
-            places = padded_length COUNT sh.places;
-          })
+    pub contents_good : text_of s ≡ good (sheet_in r)
+    contents_good = says.3 ∙ ap good (sym (ap sheet_in says.2 ∙ sheet_in_lem says.0 says.1))
+
+    pub good_contents : GoodContents r
+    unfolding sheet_contents
+    good_contents =
+        let sh = says.0 in
+        let sound = says.1 in
+        subst GoodContents (sym says.2)
+        (record {
+          sound = rw (sheet_in_lem sh sound) sound;
+          entries_few = sound.entries_few;
+          queries_few = sound.queries_few;
+          bits = padded_length COUNT sh.bits;
+          lengths = padded_length COUNT sh.lengths;
+          hops = padded_length COUNT sh.hops;
+          addresses = padded_length COUNT sh.addresses;
+          places = padded_length COUNT sh.places;
+        })

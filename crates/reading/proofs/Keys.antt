@@ -7,7 +7,6 @@ use Prim.Dec.{yes, no}
 use native.Mathlib.Omega.{arith}
 use native.Mathlib.Decide.{dec_lt}
 use native.Mathlib.Numerals.{add-one}
-use native.Mathlib.Nat.{add-zero}
 use lib.ListN.{length, get_or, drop, get_or-eq_default, drop_of_length-le}
 use lib.Seq.{drop-cons}
 use borrow.Author.Tests.{eq-eqb, ne_eqb}
@@ -19,9 +18,6 @@ unfolding byte_at
 byte_inside s p h = elim (dec_lt p (length s)) [ yes q ↦ q | no q ↦ absurd (h (get_or-eq_default s 0 (omega arith))) ]
 
 -- ---- the loop over a key's bytes
-
-pub key_start : (key s : List ℕ) (p : ℕ) → key_at key s (p + 0) ≡ key_at key s p
-key_start key s p = rw add-zero
 
 module _ (key s : List ℕ) (p i : ℕ) where
   pub key_go : i < length key → byte_at s (p + i) ≡ get_or key i 0 → key_at (drop i key) s (p + i) ≡ key_at (drop (i + 1) key) s (p + (i + 1))

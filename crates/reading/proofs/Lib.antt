@@ -6,6 +6,8 @@ pub mod Keys
 pub mod Digits
 pub mod Reading
 pub mod Steps
+pub mod Taking
+pub mod Stopping
 pub mod Listing
 pub mod Whole
 pub mod Spelled

@@ -16,14 +16,12 @@ use Rattle.table.specs.Table.{at}
 use Rattle.choosers.specs.declared.chooser.Kind.{Kind}
 use Rattle.choosers.specs.declared.chooser.Kind.TheVariants.{Fixed, Variable}
 use Rattle.io.specs.Digits.{last_digits, hex_digit_ascii, IsDigitCount}
-use Rattle.reading.specs.declared.lines.Spot.{Spot}
-use Rattle.reading.specs.declared.lines.Item.{Item}
 use Rattle.reading.specs.Limits.{number_digits, NUMBER, SHORT, BITS, LF, zero_digit, decimal_digits}
 use Rattle.reading.specs.Keys.{fixed_key, variable_key, bits_key, hop_key, address_key}
-use Rattle.reading.specs.Lines.{byte_at, key_at, is_digit, count_at, value_at, digits_at, unpadded, close, number_line, bits_line, kind_line}
+use Rattle.reading.specs.Lines.{Spot, Item, byte_at, key_at, is_digit, count_at, value_at, digits_at, unpadded, close, number_line, bits_line, kind_line, kind_named}
 use Rattle.table.specs.Lists.{listed}
 use Rattle.reading.specs.Entries.{entry_from, address_from, after_entries, after_queries, entry_bits, entry_length, entry_hop, query_address, query_places}
-use Rattle.reading.specs.Text.{kind_named}
+use Rattle.reading.specs.Text.{}
 use Rattle.reading.specs.Spelling.{kind_text, entry_text, query_text}
 use Rattle.reading.specs.Numerals.{decimal_length_from, decimal_length, decimal, binary, line_of, bits_line_of, joined}
 use Rattle.reading.proofs.Digits.{is_digit_lem, value_more, digits_are}

@@ -6,19 +6,14 @@ use Prim.Native.Nat.{ℕ, ◌+◌, ◌≤◌, ◌<◌}
 use native.Mathlib.Numerals.{add-one}
 use lib.ListN.{length}
 use borrow.Author.Tests.{eq-eqb, ne_eqb, le-leb, lt-leb, not-true, not-false}
-use Rattle.reading.specs.declared.lines.Spot.{Spot}
 use Rattle.reading.specs.declared.lines.Digits.{Digits}
-use Rattle.reading.specs.declared.lines.Item.{Item}
 use Rattle.reading.specs.Limits.{BITS, LF}
-use Rattle.reading.specs.Lines.{byte_at, key_at, digits_at, unpadded, bad_line, close, number_line, bits_line}
+use Rattle.reading.specs.Lines.{Spot, Item, byte_at, key_at, digits_at, unpadded, bad_line, close, number_line, bits_line, kind_line}
+use Rattle.reading.specs.Keys.{fixed_key, variable_key}
 
 -- ---- the end of a line
 
 module _ (s : List ℕ) (p : Spot) (end : ℕ) (d : Digits) where
-  pub close_stopped : not p.good ≡ true → bad_line p ≡ close s p end d
-  unfolding close
-  close_stopped e = rw (not-true p.good e)
-
   module _ (on : not p.good ≡ false) {c : ℕ} (read : c ≡ byte_at s end) where
     pub close_open : (c ≡ LF → ⊥) → bad_line p ≡ close s p end d
     unfolding close
@@ -65,3 +60,19 @@ module _ (least : ℕ) (key s : List ℕ) (p : Spot) {t : Bool} (key-read : t �
     pub bits_fine : least ≤ d.count → close s p (p.at + length key + d.count) d ≡ bits_line least key s p
     unfolding bits_line
     bits_fine h = rw (sym key-read ∙ not-false _ has, sym read, le-leb _ _ h)
+
+-- ---- the kind
+
+module _ (s : List ℕ) (p : Spot) {t : Bool} (first : t ≡ key_at fixed_key s p.at) where
+  pub kind_first : t ≡ true → close s p (p.at + length fixed_key) (record { value = 0; count = 0 }) ≡ kind_line s p
+  unfolding kind_line
+  kind_first e = rw (sym first ∙ e)
+
+  module _ (no : t ≡ false) {u : Bool} (second : u ≡ key_at variable_key s p.at) where
+    pub kind_second : u ≡ true → close s p (p.at + length fixed_key) (record { value = 1; count = 0 }) ≡ kind_line s p
+    unfolding kind_line
+    kind_second e = rw (sym first ∙ no, sym second ∙ e)
+
+    pub kind_neither : u ≡ false → bad_line p ≡ kind_line s p
+    unfolding kind_line
+    kind_neither e = rw (sym first ∙ no, sym second ∙ e)

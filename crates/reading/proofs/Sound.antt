@@ -6,18 +6,17 @@ use Prim.Native.Nat.{ℕ, ◌+◌, ◌-◌, ◌^◌, ◌≤◌, ◌<◌}
 use native.Mathlib.Omega.{arith}
 use lib.ListN.{length, length-drop}
 use lib.Dec.{leb, lit≤}
+use Rattle.std.proofs.lemmas.Bool.{and_parts}
 use borrow.Author.Tests.{eq-eqb, leb-true}
-use Rattle.reading.specs.declared.lines.Spot.{Spot}
-use Rattle.reading.specs.declared.lines.Item.{Item}
 use Rattle.reading.specs.Limits.{COUNT, number_digits, NUMBER, SHORT, BITS}
 use Rattle.reading.specs.Keys.{width_key, levels_key, links_key, entries_key, bits_key, hop_key, queries_key, address_key}
-use Rattle.reading.specs.Lines.{key_at, count_at, digits_at, close, bits_line}
+use Rattle.reading.specs.Lines.{Spot, Item, key_at, count_at, digits_at, close, bits_line, kind_named}
 use Rattle.reading.specs.Entries.{entry_from, address_from, after_entries, after_queries, entry_bits, entry_length, entry_hop, query_address, query_places}
 use Rattle.reading.specs.Sheet.{Sheet}
-use Rattle.reading.specs.Text.{kind_named, good, text_start, width_item, kind_item, levels_item, links_item, entries_item, queries_item, last_spot, sheet_of, text_of}
+use Rattle.reading.specs.Text.{good, text_start, width_item, kind_item, levels_item, links_item, entries_item, queries_item, last_spot, sheet_of, text_of}
 use Rattle.reading.specs.Spelling.{kind_text, entry_text, query_text, sheet_text, Sound}
 use Rattle.reading.specs.Numerals.{decimal_length, line_of, joined}
-use Rattle.reading.proofs.Steps.{both, number_is, bits_is}
+use Rattle.reading.proofs.Steps.{number_is, bits_is}
 use Rattle.reading.proofs.Whole.{to_last}
 use Rattle.reading.proofs.Spelled.{tested_good, close_good}
 use Rattle.reading.proofs.ReadBack.{Ahead, ReadAs, number_read, kind_read, listed_all, EntriesAs, entries_read, QueriesAs, queries_read}
@@ -159,7 +158,7 @@ bits_enough least key s p e =
     tested_good s p R (key_at key s p.at && leb least (count_at 2 BITS s q)) (close s p (q + count_at 2 BITS s q) (digits_at 2 BITS s q))
     (λ t g.
     close_good s p R (q + count_at 2 BITS s q) (digits_at 2 BITS s q)
-    (λ pg lf. leb-true _ _ (both (key_at key s p.at) (leb least (count_at 2 BITS s q)) t).1) g)
+    (λ pg lf. leb-true _ _ (and_parts (key_at key s p.at) (leb least (count_at 2 BITS s q)) t).1) g)
     e
   where
     R : Item → Type 0

@@ -11,20 +11,17 @@ use native.Mathlib.Nat.{add-mul-div_right, add-mul-mod_self_right, div-eq_of_lt,
 use lib.ListN.{length, take, drop, length-append}
 use lib.Seq.{take-add, drop-drop, drop-cons}
 use lib.Dec.{eqb, leb, ltb, lit<, lit≤}
+use Rattle.std.proofs.lemmas.Bool.{and_parts}
 use borrow.Author.Tests.{lt-ltb, eqb-true, eqb-false, ltb-true}
 use Rattle.io.specs.Digits.{last_digits, IsDigitCount}
-use Rattle.reading.specs.declared.lines.Spot.{Spot}
 use Rattle.reading.specs.declared.lines.Digits.{Digits}
-use Rattle.reading.specs.declared.lines.Item.{Item}
 use Rattle.reading.specs.Limits.{BITS, LF, zero_digit, decimal_digits}
 use Rattle.reading.specs.Keys.{fixed_key, variable_key}
-use Rattle.reading.specs.Lines.{byte_at, key_at, count_at, value_at, digits_at, unpadded, bad_line, close, number_line, bits_line, kind_line}
-use Rattle.reading.specs.Text.{kind_named}
+use Rattle.reading.specs.Lines.{Spot, Item, byte_at, key_at, count_at, value_at, digits_at, unpadded, bad_line, close, number_line, bits_line, kind_line, kind_named}
 use Rattle.reading.specs.Spelling.{kind_text}
 use Rattle.reading.specs.Numerals.{decimal, binary, line_of, bits_line_of}
 use Rattle.reading.proofs.Keys.{byte_inside}
 use Rattle.reading.proofs.Digits.{is_digit_lem, counted, value_below, count_most}
-use Rattle.reading.proofs.Steps.{both}
 use Rattle.reading.proofs.Numerals.{fewest_decimal, length_digits}
 
 -- ---- bytes that stand in the text
@@ -44,7 +41,7 @@ stand_key : (key s : List ℕ) (p : ℕ) → p + length key ≤ length s → key
 unfolding key_at
 stand_key [] s p h e = refl
 stand_key (k ∷ key) s p h e =
-    let w = both (eqb (byte_at s p) k) (key_at key s (suc p)) e in
+    let w = and_parts (eqb (byte_at s p) k) (key_at key s (suc p)) e in
     let f : byte_at s p ≡ k = eqb-true _ _ w.0 in
     stand_then s p (k ∷ []) key (rw f at (stand_byte s p (omega arith))) (rw (sym (add-one p)) at (stand_key key s (suc p) (omega arith) w.1))
 
@@ -115,7 +112,7 @@ module _ (s : List ℕ) (p : Spot) (R : Item → Type 0) where
       → (close s p end d).spot.good ≡ true → R (close s p end d)
   unfolding close
   close_good end d h e =
-      tested_good (p.good && eqb (byte_at s end) LF) _ (λ t g. let w = both p.good (eqb (byte_at s end) LF) t in h w.0 (eqb-true _ _ w.1)) e
+      tested_good (p.good && eqb (byte_at s end) LF) _ (λ t g. let w = and_parts p.good (eqb (byte_at s end) LF) t in h w.0 (eqb-true _ _ w.1)) e
 
 module _ (key s : List ℕ) (p : Spot) where
   -- the place after the key
@@ -151,8 +148,8 @@ module _ (key s : List ℕ) (p : Spot) where
       (key_at key s p.at && unpadded (byte_at s here) (count_at 10 k s here) && leb (value_at 10 (count_at 10 k s here) s here) most)
       (close s p (here + count_at 10 k s here) (digits_at 10 k s here))
       (λ t g.
-      let w = both (key_at key s p.at && unpadded (byte_at s here) (count_at 10 k s here)) (leb (value_at 10 (count_at 10 k s here) s here) most) t in
-      let v = both (key_at key s p.at) (unpadded (byte_at s here) (count_at 10 k s here)) w.0 in
+      let w = and_parts (key_at key s p.at && unpadded (byte_at s here) (count_at 10 k s here)) (leb (value_at 10 (count_at 10 k s here) s here) most) t in
+      let v = and_parts (key_at key s p.at) (unpadded (byte_at s here) (count_at 10 k s here)) w.0 in
       close_good s p R (here + count_at 10 k s here) (digits_at 10 k s here)
       (λ pg lf.
       rw (sym
@@ -172,7 +169,7 @@ module _ (key s : List ℕ) (p : Spot) where
   bits_spelled least e =
       tested_good s p R (key_at key s p.at && leb least (count_at 2 BITS s here)) (close s p (here + count_at 2 BITS s here) (digits_at 2 BITS s here))
       (λ t g.
-      let w = both (key_at key s p.at) (leb least (count_at 2 BITS s here)) t in
+      let w = and_parts (key_at key s p.at) (leb least (count_at 2 BITS s here)) t in
       close_good s p R (here + count_at 2 BITS s here) (digits_at 2 BITS s here)
       (λ pg lf. line_stretch 2 BITS (suc p.line) (lit< tt) (lit≤ tt) w.0 pg lf) g)
       e

@@ -1,29 +1,30 @@
 -- Laws of the whole text: its single lines, and what the call that reads it hands back, in the code's own terms.
-use mathlib.Core.Path.{◌≡◌, refl, ap, subst, ◌∙◌}
+use mathlib.Core.Path.{◌≡◌, refl, sym, ap, subst}
 use mathlib.Core.List.{List, []}
-use mathlib.Core.Bool.{Bool, true, false, ◌&&◌, cond}
-use Prim.Native.Nat.{ℕ, zero, suc, ◌+◌, ◌*◌, ◌≤◌}
+use mathlib.Core.Bool.{true}
+use Prim.Native.Nat.{ℕ, ◌+◌, ◌*◌}
 use native.Mathlib.Omega.{arith}
 use lib.ListN.{length}
-use lib.Dec.{eqb}
+use borrow.Author.Tests.{eq-eqb, ne_eqb}
+use Rattle.std.proofs.Common.{Bor, Result, Ok, Err}
+use Rattle.std.specs.Result.{IsErrAnd}
 use Rattle.choosers.specs.declared.chooser.Kind.{Kind}
-use Rattle.choosers.specs.declared.chooser.Kind.TheVariants.{Fixed, Variable}
-use Rattle.reading.specs.declared.lines.Spot.{Spot}
-use Rattle.reading.specs.declared.lines.Item.{Item}
+use Rattle.reading.specs.declared.lines.BadLine.{BadLine}
 use Rattle.reading.specs.declared.parsing.Head.{Head}
-use Rattle.reading.specs.declared.parsing.Parsed.{Parsed}
-use Rattle.reading.specs.Limits.{COUNT, number_digits, NUMBER, SHORT, LINES, width_bytes, kind_bytes, levels_bytes, links_bytes, count_bytes, entry_line_bytes, opening_bytes, LONGEST}
+use Rattle.reading.specs.declared.parsing.Contents.{Contents}
+use Rattle.reading.specs.Limits.{COUNT, number_digits, NUMBER, SHORT, width_bytes, kind_bytes, levels_bytes, links_bytes, count_bytes, entry_line_bytes, opening_bytes, LONGEST}
 use Rattle.reading.specs.Keys.{width_key, levels_key, links_key, entries_key, queries_key}
-use Rattle.reading.specs.Lines.{number_line, kind_line}
-use Rattle.reading.specs.Entries.{after_entries, entry_bits, query_address, HoldsEntries, HoldsQueries}
-use Rattle.reading.specs.Text.{kind_named, good, bad, text_start, width_item, kind_item, levels_item, links_item, entries_item, queries_item, last_spot, sheet_of}
-use Rattle.reading.specs.Text.{head_of, text_of, contents_of, concluded, parsed_contents}
+use Rattle.reading.specs.Lines.{Spot, number_line, kind_named, kind_line}
+use Rattle.reading.specs.Entries.{after_entries, entry_bits, query_address, HoldsEntries, HoldsQueries, EntriesTook, QueriesTook}
+use Rattle.reading.specs.Text.{text_start, width_item, kind_item, levels_item, links_item, entries_item, queries_item, last_spot, sheet_of}
+use Rattle.reading.specs.Text.{head_of, text_of, contents_of, HeadTook}
+use Rattle.reading.specs.Taking.{bad_at, Took}
 use Rattle.reading.specs.Contents.{sheet_contents}
-use Rattle.reading.proofs.Steps.{Line, Step, step_then, step_widen, UpTo, number_is, kind_is}
+use Rattle.reading.proofs.Taking.{took_at}
+use Rattle.reading.proofs.Steps.{entries_step, queries_step, Line, Step, step_then, step_widen, UpTo, number_is, kind_is}
 use Rattle.table.proofs.Lists.{listed_length}
 use Rattle.table.specs.Lists.{padded}
 use Rattle.table.proofs.Lists.{filled_to_blank}
-use Rattle.reading.proofs.Listing.{entries_step, queries_step}
 
 -- ---- the single lines
 
@@ -48,7 +49,7 @@ module _ (s : List ℕ) where
   unfolding entries_item
   entries_line = number_is entries_key s (links_item s).spot number_digits COUNT
 
-  pub after_entries_lem : Step s (entries_item s).spot ((entries_item s).value * entry_line_bytes) ((entries_item s).value * 2) (after_entries s (entries_item s).spot (entries_item s).value)
+  pub after_entries_lem : Step s (entries_item s).spot ((entries_item s).value * entry_line_bytes) (after_entries s (entries_item s).spot (entries_item s).value)
   after_entries_lem = entries_step s (entries_item s).spot (entries_item s).value
 
   pub queries_line : Line s (after_entries s (entries_item s).spot (entries_item s).value) count_bytes (UpTo COUNT) (queries_item s)
@@ -56,122 +57,129 @@ module _ (s : List ℕ) where
   queries_line = number_is queries_key s (after_entries s (entries_item s).spot (entries_item s).value) number_digits COUNT
 
   -- the steps from the start: to after the first five lines, to `queries=`, and to the end
-  pub to_entries : Step s text_start opening_bytes 5 (entries_item s).spot
+  pub to_entries : Step s text_start opening_bytes (entries_item s).spot
   to_entries =
       step_then (step_then (step_then (step_then width_line.step kind_line_lem.step) levels_line.step) links_line.step) entries_line.step
 
-  pub to_queries : Step s text_start (opening_bytes + count_bytes + COUNT * entry_line_bytes) (6 + COUNT * 2) (queries_item s).spot
+  pub to_queries : Step s text_start (opening_bytes + count_bytes + COUNT * entry_line_bytes) (queries_item s).spot
   to_queries =
-      step_widen (step_then (step_then to_entries after_entries_lem) queries_line.step) (omega (arith, entries_line.value)) (omega (arith, entries_line.value))
+      step_widen (step_then (step_then to_entries after_entries_lem) queries_line.step) (omega (arith, entries_line.value))
 
-  pub to_last : Step s text_start LONGEST LINES (last_spot s)
+  pub to_last : Step s text_start LONGEST (last_spot s)
   unfolding last_spot
   to_last =
       step_widen (step_then to_queries (queries_step s (queries_item s).spot (queries_item s).value))
-      (omega (arith, queries_line.value)) (omega (arith, queries_line.value))
+      (omega (arith, queries_line.value))
 
--- ---- the kind, as its line names it
+-- ---- a line of the whole text, read where the one before it ended
 
-pub kind_fixed : (n : ℕ) → n ≡ 0 → Fixed ≡ kind_named n
-unfolding kind_named
-kind_fixed n e = rw e
+pub width_took : (s : List ℕ) {p : Spot} {r : Result ℕ BadLine} {after : Spot} → p ≡ text_start
+    → Took (number_line number_digits NUMBER width_key s p) (λ l. l.value) r after → Took (width_item s) (λ l. l.value) r after
+unfolding width_item
+width_took s {r = r} {after = after} e h = subst (λ (x : Spot). Took (number_line number_digits NUMBER width_key s x) (λ l. l.value) r after) e h
 
-pub kind_variable : (n : ℕ) → (n ≡ 0 → ⊥) → Variable ≡ kind_named n
-unfolding kind_named
-kind_variable zero h = absurd (h refl)
-kind_variable (suc n) h = refl
-
--- ---- the first five lines, as they were read
-
-module _ (s : List ℕ) {w k l g n : Item} (w-read : w ≡ number_line number_digits NUMBER width_key s text_start) (k-read : k ≡ kind_line s w.spot)
-    (l-read : l ≡ number_line number_digits NUMBER levels_key s k.spot) (g-read : g ≡ number_line number_digits SHORT links_key s l.spot)
-    (n-read : n ≡ number_line number_digits COUNT entries_key s g.spot) {c : Kind} (c_read : c ≡ kind_named k.value) where
-  w_is : w ≡ width_item s
-  unfolding width_item
-  w_is = w-read
-
-  k_is : k ≡ kind_item s
+module _ {s t : Bor (List ℕ)} (same : t ≡ s) where
+  pub kind_took : {p : Spot} {w : ℕ} {r : Result Kind BadLine} {after : Spot} → Took (width_item s.now) (λ l. l.value) (Ok w) p
+      → Took (kind_line t.now p) (λ l. kind_named l.value) r after → Took (kind_item s.now) (λ l. kind_named l.value) r after
   unfolding kind_item
-  k_is = k-read ∙ ap (λ (x : Item). kind_line s x.spot) w_is
+  kind_took w = took_at kind_line same w.said.2
 
-  l_is : l ≡ levels_item s
+  pub levels_took : {p : Spot} {k : Kind} {r : Result ℕ BadLine} {after : Spot} → Took (kind_item s.now) (λ l. kind_named l.value) (Ok k) p
+      → Took (number_line number_digits NUMBER levels_key t.now p) (λ l. l.value) r after → Took (levels_item s.now) (λ l. l.value) r after
   unfolding levels_item
-  l_is = l-read ∙ ap (λ (x : Item). number_line number_digits NUMBER levels_key s x.spot) k_is
+  levels_took k = took_at (number_line number_digits NUMBER levels_key) same k.said.2
 
-  g_is : g ≡ links_item s
+  pub links_took : {p : Spot} {l : ℕ} {r : Result ℕ BadLine} {after : Spot} → Took (levels_item s.now) (λ l. l.value) (Ok l) p
+      → Took (number_line number_digits SHORT links_key t.now p) (λ l. l.value) r after → Took (links_item s.now) (λ l. l.value) r after
   unfolding links_item
-  g_is = g-read ∙ ap (λ (x : Item). number_line number_digits SHORT links_key s x.spot) l_is
+  links_took l = took_at (number_line number_digits SHORT links_key) same l.said.2
 
-  n_is : n ≡ entries_item s
+  pub entries_took : {p : Spot} {g : ℕ} {r : Result ℕ BadLine} {after : Spot} → Took (links_item s.now) (λ l. l.value) (Ok g) p
+      → Took (number_line number_digits COUNT entries_key t.now p) (λ l. l.value) r after → Took (entries_item s.now) (λ l. l.value) r after
   unfolding entries_item
-  n_is = n-read ∙ ap (λ (x : Item). number_line number_digits COUNT entries_key s x.spot) g_is
+  entries_took g = took_at (number_line number_digits COUNT entries_key) same g.said.2
 
-  pub head_read : ◌≡◌ {A = Head} (record { width = w.value; kind = c; levels = l.value; links = g.value; entries = n.value; spot = n.spot }) (head_of s)
+-- all five were good
+pub head_good : {s : List ℕ} {w l g n : ℕ} {k : Kind} {a b d e after : Spot} → Took (width_item s) (λ l. l.value) (Ok w) a
+    → Took (kind_item s) (λ l. kind_named l.value) (Ok k) b → Took (levels_item s) (λ l. l.value) (Ok l) d → Took (links_item s) (λ l. l.value) (Ok g) e
+    → Took (entries_item s) (λ l. l.value) (Ok n) after → HeadTook s (Ok (record { width = w; kind = k; levels = l; links = g; entries = n })) after
+unfolding head_of
+head_good w k l g n = record { said = (rw (w.said.1, k.said.1, l.said.1, g.said.1, n.said.1) refl, n.said.2) }
+
+-- ---- what the calls answer, one after the other: of the same text, where the one before ended
+
+module _ {s t : Bor (List ℕ)} (same : t ≡ s) where
+  pub head_here : {r : Result Head BadLine} {after : Spot} → HeadTook t.now r after → HeadTook s.now r after
+  head_here {r} {after} h = subst (λ (x : List ℕ). HeadTook x r after) (ap (λ x. x.now) same) h
+
+  pub entries_here : {vs₀ ls₀ hs₀ vs ls hs : List ℕ} {h : Head} {p : Spot} {r : Result (Unit {0}) BadLine} {after : Spot} → HeadTook s.now (Ok h) p
+      → EntriesTook t.now p h.entries vs₀ ls₀ hs₀ vs ls hs r after → EntriesTook s.now (entries_item s.now).spot (entries_item s.now).value vs₀ ls₀ hs₀ vs ls hs r after
   unfolding head_of
-  head_read = rw (w_is, c_read, k_is, l_is, g_is, n_is)
+  entries_here {vs₀} {ls₀} {hs₀} {vs} {ls} {hs} {h} {p} {r} {after} head e =
+      let n : h.entries ≡ (entries_item s.now).value = ap (λ (x : Head). x.entries) head.said.0 in
+      subst (λ (k : ℕ). EntriesTook s.now (entries_item s.now).spot k vs₀ ls₀ hs₀ vs ls hs r after) n
+      (subst (λ (x : Spot). EntriesTook s.now x h.entries vs₀ ls₀ hs₀ vs ls hs r after) head.said.1
+      (subst (λ (x : List ℕ). EntriesTook x p h.entries vs₀ ls₀ hs₀ vs ls hs r after) (ap (λ x. x.now) same) e))
 
-module _ (s : List ℕ) {h : Head} (h-read : h ≡ head_of s) where
-  pub head_step : Step s text_start opening_bytes 5 h.spot
-  unfolding head_of
-  head_step = rw h-read (to_entries s)
-
-  pub head_few : h.entries ≤ COUNT
-  unfolding head_of
-  head_few = rw h-read (entries_line s).value
-
--- ---- the whole, as it was read
-
-module _ (s vs₀ ls₀ hs₀ vs ls hs : List ℕ) {h : Head} {after : Spot} {q : Item} (h-read : h ≡ head_of s)
-    (es : HoldsEntries s h.spot h.entries vs₀ ls₀ hs₀ vs ls hs after) (q-read : q ≡ number_line number_digits COUNT queries_key s after) where
-  entries_held : HoldsEntries s (entries_item s).spot (entries_item s).value vs₀ ls₀ hs₀ vs ls hs after
-  unfolding head_of
-  entries_held = subst (λ (x : Head). HoldsEntries s x.spot x.entries vs₀ ls₀ hs₀ vs ls hs after) h-read es
-
-  q_is : q ≡ queries_item s
+  pub count_here : {vs₀ ls₀ hs₀ vs ls hs : List ℕ} {u : Unit {0}} {p : Spot} {r : Result ℕ BadLine} {after : Spot}
+      → EntriesTook s.now (entries_item s.now).spot (entries_item s.now).value vs₀ ls₀ hs₀ vs ls hs (Ok u) p
+      → Took (number_line number_digits COUNT queries_key t.now p) (λ l. l.value) r after → Took (queries_item s.now) (λ l. l.value) r after
   unfolding queries_item
-  q_is = q-read ∙ ap (number_line number_digits COUNT queries_key s) entries_held.spot
+  count_here e = took_at (number_line number_digits COUNT queries_key) same e.said.spot
 
-  pub queries_step_read : Step s text_start (opening_bytes + count_bytes + COUNT * entry_line_bytes) (6 + COUNT * 2) q.spot
-  queries_step_read = rw q_is (to_queries s)
+  pub queries_here : {xs₀ ds₀ xs ds : List ℕ} {m : ℕ} {p : Spot} {r : Result (Unit {0}) BadLine} {after : Spot} → Took (queries_item s.now) (λ l. l.value) (Ok m) p
+      → QueriesTook t.now p m xs₀ ds₀ xs ds r after → QueriesTook s.now (queries_item s.now).spot (queries_item s.now).value xs₀ ds₀ xs ds r after
+  queries_here {xs₀} {ds₀} {xs} {ds} {m} {p} {r} {after} count e =
+      subst (λ (k : ℕ). QueriesTook s.now (queries_item s.now).spot k xs₀ ds₀ xs ds r after) count.said.1
+      (subst (λ (x : Spot). QueriesTook s.now x m xs₀ ds₀ xs ds r after) count.said.2 (subst (λ (x : List ℕ). QueriesTook x p m xs₀ ds₀ xs ds r after) (ap (λ x. x.now) same) e))
 
-  pub queries_few : q.value ≤ COUNT
-  queries_few = rw q_is (queries_line s).value
+-- ---- the whole, as it was read: into blank lists
 
-  module _ (xs₀ ds₀ xs ds : List ℕ) {last : Spot} {r : Parsed} (qs : HoldsQueries s q.spot q.value xs₀ ds₀ xs ds last)
-      (r-read : r ≡ concluded h q.value last (length s)) where
-    queries_held : HoldsQueries s (queries_item s).spot (queries_item s).value xs₀ ds₀ xs ds last
-    queries_held = subst (λ (x : Item). HoldsQueries s x.spot x.value xs₀ ds₀ xs ds last) q_is qs
+module _ {s xs₀ ds₀ xs ds : List ℕ} {last : Spot} (qs : HoldsQueries s (queries_item s).spot (queries_item s).value xs₀ ds₀ xs ds last) (on : last.good ≡ true) where
+  last_is : last_spot s ≡ last
+  unfolding last_spot
+  last_is = sym qs.spot
 
-    last_is : last ≡ last_spot s
-    unfolding last_spot
-    last_is = queries_held.spot
+  -- something stands after the last line
+  pub text_longer : {b : BadLine} (r : Result Contents BadLine) → (last.at ≡ length s → ⊥) → b ≡ bad_at last.line → IsErrAnd r (λ e. e ≡ b) → r ≡ contents_of (text_of s)
+  unfolding contents_of text_of
+  text_longer (Ok v) h w e = absurd e
+  text_longer (Err v) h w e = rw (last_is, on, ne_eqb _ _ h, sym w, sym e) refl
 
-    r_is : r ≡ concluded (head_of s) (queries_item s).value (last_spot s) (length s)
-    r_is = r-read ∙ rw (h-read, q_is, last_is)
+  module _ {vs₀ ls₀ hs₀ vs ls hs : List ℕ} {h : Head} {m : ℕ} {p after : Spot} (hd : HeadTook s (Ok h) p)
+      (es : HoldsEntries s (entries_item s).spot (entries_item s).value vs₀ ls₀ hs₀ vs ls hs after) (m-is : m ≡ (queries_item s).value)
+      (es-blank : (vs₀ ≡ padded COUNT []) × (ls₀ ≡ padded COUNT []) × (hs₀ ≡ padded COUNT [])) (qs-blank : (xs₀ ≡ padded COUNT []) × (ds₀ ≡ padded COUNT [])) where
+    abbrev taken : Contents
+    taken =
+        record {
+          width = h.width;
+          kind = h.kind;
+          levels = h.levels;
+          links = h.links;
+          entries = h.entries;
+          queries = m;
+          bits = vs;
+          lengths = ls;
+          hops = hs;
+          addresses = xs;
+          places = ds;
+        }
 
-    -- into blank lists
-    module _ (es-blank : (vs₀ ≡ padded COUNT []) × (ls₀ ≡ padded COUNT []) × (hs₀ ≡ padded COUNT [])) (qs-blank : (xs₀ ≡ padded COUNT []) × (ds₀ ≡ padded COUNT [])) where
-      abbrev whole : Parsed
-      whole =
-          Parsed.Whole (width_item s).value (kind_named (kind_item s).value) (levels_item s).value (links_item s).value (entries_item s).value (queries_item s).value
+    taken_is : taken ≡ sheet_contents (sheet_of s)
+    unfolding sheet_contents sheet_of head_of
+    taken_is =
+        rw (
+          listed_length (entry_bits s (entries_item s).spot) (entries_item s).value,
+          listed_length (query_address s (queries_item s).spot) (queries_item s).value,
+          filled_to_blank _ _ COUNT _ es-blank.0 es.bits,
+          filled_to_blank _ _ COUNT _ es-blank.1 es.lengths,
+          filled_to_blank _ _ COUNT _ es-blank.2 es.hops,
+          filled_to_blank _ _ COUNT _ qs-blank.0 qs.addresses,
+          filled_to_blank _ _ COUNT _ qs-blank.1 qs.places,
+          hd.said.0,
+          m-is,
+        )
 
-      whole_read : parsed_contents whole vs ls hs xs ds ≡ sheet_contents (sheet_of s)
-      unfolding parsed_contents sheet_contents sheet_of
-      whole_read =
-          rw (
-            listed_length (entry_bits s (entries_item s).spot) (entries_item s).value,
-            listed_length (query_address s (queries_item s).spot) (queries_item s).value,
-            filled_to_blank _ _ COUNT _ es-blank.0 entries_held.bits,
-            filled_to_blank _ _ COUNT _ es-blank.1 entries_held.lengths,
-            filled_to_blank _ _ COUNT _ es-blank.2 entries_held.hops,
-            filled_to_blank _ _ COUNT _ qs-blank.0 queries_held.addresses,
-            filled_to_blank _ _ COUNT _ qs-blank.1 queries_held.places,
-          )
-
-      pub parse_read : parsed_contents r vs ls hs xs ds ≡ contents_of (text_of s)
-      unfolding parsed_contents contents_of concluded head_of text_of
-      parse_read = rw r_is (go ((last_spot s).good && eqb (last_spot s).at (length s)))
-        where
-          go : (t : Bool) → parsed_contents (cond t whole (Parsed.Bad (last_spot s).line)) vs ls hs xs ds ≡ contents_of (cond t (good (sheet_of s)) (bad (last_spot s).line))
-          go true = whole_read
-          go false = refl
+    pub text_read : last.at ≡ length s → Ok taken ≡ contents_of (text_of s)
+    unfolding contents_of text_of
+    text_read end = rw (last_is, on, eq-eqb _ _ end, taken_is) refl

@@ -1,20 +1,19 @@
--- What the call that reads a text hands back (01, "The tablet program"): line 0 and what the sheet says; or the first bad line and
--- nothing else. A text is that of a sound sheet or has a first bad line, and no reading is in this: one answer is left
--- (proofs/Holding.antt, `contents_unique`).
-use Rattle.std.specs.Prelude.{◌≡◌, List, [], ◌⊎◌, ℕ, ◌≤◌, length, take}
+-- What the call that reads a text hands back (01, "The tablet program"): what the sheet says, or the first bad line. A text is that of a
+-- sound sheet or has a first bad line, and no reading is in this: one answer is left (proofs/Holding.antt, `contents_unique`).
+use Rattle.std.specs.Prelude.{◌≡◌, List, ◌⊎◌, ℕ, ◌≤◌, length, take, Result, Ok, Err}
 use Rattle.table.specs.Lists.{padded}
-use Rattle.choosers.specs.declared.chooser.Kind.TheVariants.{Fixed}
+use Rattle.reading.specs.declared.lines.BadLine.{BadLine}
 use Rattle.reading.specs.declared.parsing.Contents.{Contents}
 use Rattle.reading.specs.Limits.{COUNT}
 use Rattle.reading.specs.Sheet.{Sheet}
 use Rattle.reading.specs.Spelling.{sheet_text, Sound}
 use Rattle.reading.specs.FirstBad.{FirstBad}
+use Rattle.reading.specs.Taking.{bad_at}
 
--- what a sheet says, its lists in COUNT places, those after the last 0; no line is bad
+-- what a sheet says, its lists in COUNT places, those after the last 0
 unfoldable pub sheet_contents : Sheet → Contents
 sheet_contents sh =
     record {
-      line = 0;
       width = sh.width;
       kind = sh.kind;
       levels = sh.levels;
@@ -28,28 +27,10 @@ sheet_contents sh =
       places = padded COUNT sh.places;
     }
 
--- a bad line, and nothing else: 0 everywhere, and of the kinds the first
-unfoldable pub bad_contents : ℕ → Contents
-bad_contents line =
-    record {
-      line = line;
-      width = 0;
-      kind = Fixed;
-      levels = 0;
-      links = 0;
-      entries = 0;
-      queries = 0;
-      bits = padded COUNT [];
-      lengths = padded COUNT [];
-      hops = padded COUNT [];
-      addresses = padded COUNT [];
-      places = padded COUNT [];
-    }
-
 -- the contents of a text: those of the sound sheet whose text it is; or its first bad line
-abbrev pub TextHolds : (s : List ℕ) → Contents → Type 0
+abbrev pub TextHolds : (s : List ℕ) → Result Contents BadLine → Type 0
 TextHolds s r =
-    ((sh : Sheet) × Sound sh × (s ≡ sheet_text sh) × (r ≡ sheet_contents sh)) ⊎ ((line : ℕ) × FirstBad s line × (r ≡ bad_contents line))
+    ((sh : Sheet) × Sound sh × (s ≡ sheet_text sh) × (r ≡ Ok (sheet_contents sh))) ⊎ ((line : ℕ) × FirstBad s line × (r ≡ Err (bad_at line)))
 
 -- ---- for the crates above
 

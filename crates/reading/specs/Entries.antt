@@ -1,13 +1,19 @@
 -- The entries' lines, "bits and hop for each entry", and the queries', "an address line each" (01, "The tablet program").
 -- Everything is said by index: where the reading stands after the first i of them, and what the next ones then give.
-use Rattle.std.specs.Prelude.{◌≡◌, List, ℕ, zero, suc}
-use Rattle.reading.specs.declared.lines.Spot.{Spot}
-use Rattle.reading.specs.declared.lines.Item.{Item}
-use Rattle.reading.specs.declared.entries.EntryItem.{EntryItem}
+use Rattle.std.specs.Prelude.{◌≡◌, List, ℕ, zero, suc, false, Result, MatchResult}
+use Rattle.reading.specs.declared.lines.BadLine.{BadLine}
 use Rattle.table.specs.Lists.{FilledTo}
 use Rattle.reading.specs.Limits.{number_digits, SHORT}
 use Rattle.reading.specs.Keys.{bits_key, hop_key, address_key}
-use Rattle.reading.specs.Lines.{number_line, bits_line}
+use Rattle.reading.specs.Lines.{Spot, Item, number_line, bits_line}
+use Rattle.reading.specs.Taking.{bad_at}
+
+-- an entry that was read: its bits as a number, how many they are, its hop; and where the reading stands after it
+pub record EntryItem : Type 0 where
+  pub bits : ℕ
+  pub len : ℕ
+  pub hop : ℕ
+  pub spot : Spot
 
 module _ (s : List ℕ) where
   -- an entry: its bits as a number, how many they are, its hop
@@ -60,3 +66,13 @@ pub record HoldsQueries (s : List ℕ) (p : Spot) (n : ℕ) (xs₀ ds₀ xs ds :
   pub spot : r ≡ after_queries s p n
   pub addresses : FilledTo (query_address s p) xs₀ xs n
   pub places : FilledTo (query_places s p) ds₀ ds n
+
+-- ---- what the calls that read them answer: the lists hold them, or the first bad line of theirs
+
+pub record EntriesTook (s : List ℕ) (p : Spot) (n : ℕ) (vs₀ ls₀ hs₀ vs ls hs : List ℕ) (r : Result (Unit {0}) BadLine) (after : Spot) : Type 0 where
+  pub said : MatchResult r (λ _. HoldsEntries s p n vs₀ ls₀ hs₀ vs ls hs after)
+      (λ b. ((after_entries s p n).good ≡ false) × (b ≡ bad_at (after_entries s p n).line))
+
+pub record QueriesTook (s : List ℕ) (p : Spot) (n : ℕ) (xs₀ ds₀ xs ds : List ℕ) (r : Result (Unit {0}) BadLine) (after : Spot) : Type 0 where
+  pub said : MatchResult r (λ _. HoldsQueries s p n xs₀ ds₀ xs ds after)
+      (λ b. ((after_queries s p n).good ≡ false) × (b ≡ bad_at (after_queries s p n).line))

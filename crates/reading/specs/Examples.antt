@@ -4,11 +4,12 @@ use Rattle.choosers.specs.declared.chooser.Kind.TheVariants.{Variable}
 use Rattle.reading.specs.Limits.{SHORT}
 use Rattle.reading.specs.Keys.{links_key}
 use Rattle.reading.specs.Numerals.{decimal_length_from, decimal_length, decimal, line_of}
-use Rattle.reading.specs.Lines.{byte_at, key_at, is_digit, count_at, value_at, digits_at, unpadded, bad_line, close, number_line, bits_line, kind_line}
+use Rattle.reading.specs.Lines.{byte_at, key_at, is_digit, count_at, value_at, digits_at, unpadded}
+use Rattle.reading.specs.Lines.{bad_line, close, number_line, bits_line, kind_line, kind_named}
 use Rattle.table.specs.Lists.{listed}
 use Rattle.reading.specs.Entries.{entry_from, address_from, after_entries, after_queries, entry_bits, entry_length, entry_hop, query_address, query_places}
 use Rattle.reading.specs.Sheet.{Sheet}
-use Rattle.reading.specs.Text.{good, bad, width_item, kind_item, levels_item, links_item, entries_item, queries_item, last_spot, kind_named, sheet_of, text_of}
+use Rattle.reading.specs.Text.{good, bad, width_item, kind_item, levels_item, links_item, entries_item, queries_item, last_spot, sheet_of, text_of}
 
 -- width=3, kind=vst, levels=2, links=4, entries=2, bits=1, hop=1, bits=101, hop=2, queries=3, address=101, address=111, address=011
 abbrev pub run_text : List ℕ

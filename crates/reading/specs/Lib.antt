@@ -12,5 +12,6 @@ pub mod Examples
 -- What only the code and the proofs need, the reading's own notions: one line and where the next begins, the lines of the entries and
 -- the queries, and the whole text as it is read, by which the call's answer is said as a function.
 pub mod Lines
+pub mod Taking
 pub mod Entries
 pub mod Text

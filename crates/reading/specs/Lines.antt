@@ -2,11 +2,27 @@
 -- most five digits"; bits and addresses are binary digits. Lines are read in order: each says where the next begins and
 -- which number it has, and once a line is bad, so are all after it, and the first bad one's number stays.
 use Rattle.std.specs.Prelude.{List, [], ◌∷◌, Bool, true, false, ◌&&◌, cond, ℕ, zero, suc, ◌+◌, ◌-◌, ◌*◌, length, get_or, leb, ltb, eqb}
-use Rattle.reading.specs.declared.lines.Spot.{Spot}
 use Rattle.reading.specs.declared.lines.Digits.{Digits}
-use Rattle.reading.specs.declared.lines.Item.{Item}
+use Rattle.choosers.specs.declared.chooser.Kind.{Kind}
+use Rattle.choosers.specs.declared.chooser.Kind.TheVariants.{Fixed, Variable}
 use Rattle.reading.specs.Limits.{BITS, LF, zero_digit}
 use Rattle.reading.specs.Keys.{fixed_key, variable_key}
+
+-- where the reading stands: the next byte and the number of the next line; after a bad line, its number
+pub record Spot : Type 0 where
+  pub at : ℕ
+  pub line : ℕ
+  pub good : Bool
+
+-- a line that was read, 0 and 0 for a bad one, and where the reading stands after it
+pub record Item : Type 0 where
+  pub value : ℕ
+  pub count : ℕ
+  pub spot : Spot
+
+-- no line was bad so far
+abbrev pub spot_at : (at line : ℕ) → Spot
+spot_at at line = record { at = at; line = line; good = true }
 
 -- the byte at place p; 0, which no line has, past the end
 unfoldable pub byte_at : List ℕ → ℕ → ℕ
@@ -69,3 +85,8 @@ kind_line s p =
     let end = p.at + length fixed_key in
     cond (key_at fixed_key s p.at) (close s p end (record { value = 0; count = 0 }))
     (cond (key_at variable_key s p.at) (close s p end (record { value = 1; count = 0 })) (bad_line p))
+
+-- the kind by the value of its line: 0 is fst, 1 is vst
+unfoldable pub kind_named : ℕ → Kind
+kind_named zero = Fixed
+kind_named (suc n) = Variable

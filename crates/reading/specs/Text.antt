@@ -1,19 +1,16 @@
 -- The whole text, as it is read: "anything else, extra text or an early end is 11" (01, "The tablet program"). A text is good and says
 -- a sheet, or its first bad line has a number; text after the last line is bad at the line after it. What the call means
 -- (Contents) does without it: there a text is that of a sound sheet (Spelling), or has a first bad line (FirstBad).
-use Rattle.std.specs.Prelude.{List, true, ◌&&◌, cond, ℕ, zero, suc, length, eqb}
-use Rattle.choosers.specs.declared.chooser.Kind.{Kind}
-use Rattle.choosers.specs.declared.chooser.Kind.TheVariants.{Fixed, Variable}
+use Rattle.std.specs.Prelude.{◌≡◌, List, false, ◌&&◌, cond, ℕ, length, eqb, Result, Ok, Err, MatchResult}
 use Rattle.reading.specs.Sheet.{Sheet}
-use Rattle.reading.specs.declared.lines.Spot.{Spot}
-use Rattle.reading.specs.declared.lines.Item.{Item}
+use Rattle.reading.specs.declared.lines.BadLine.{BadLine}
 use Rattle.reading.specs.declared.parsing.Head.{Head}
-use Rattle.reading.specs.declared.parsing.Parsed.{Parsed}
 use Rattle.reading.specs.declared.parsing.Contents.{Contents}
 use Rattle.reading.specs.Limits.{COUNT, number_digits, NUMBER, SHORT}
 use Rattle.reading.specs.Keys.{width_key, levels_key, links_key, entries_key, queries_key}
-use Rattle.reading.specs.Lines.{number_line, kind_line}
-use Rattle.reading.specs.Contents.{sheet_contents, bad_contents}
+use Rattle.reading.specs.Lines.{Spot, Item, spot_at, number_line, kind_line, kind_named}
+use Rattle.reading.specs.Taking.{bad_at}
+use Rattle.reading.specs.Contents.{sheet_contents}
 use Rattle.table.specs.Lists.{listed}
 use Rattle.reading.specs.Entries.{after_entries, after_queries, entry_bits, entry_length, entry_hop, query_address, query_places}
 
@@ -21,14 +18,9 @@ pub data Text : Type 0 where
   good : Sheet → Text
   bad : ℕ → Text
 
--- the kind by the value of its line: 0 is fst, 1 is vst
-unfoldable pub kind_named : ℕ → Kind
-kind_named zero = Fixed
-kind_named (suc n) = Variable
-
 -- lines are numbered from 1
 abbrev pub text_start : Spot
-text_start = record { at = 0; line = 1; good = true }
+text_start = spot_at 0 1
 
 module _ (s : List ℕ) where
   -- the single lines, in their order
@@ -80,33 +72,14 @@ module _ (s : List ℕ) where
         levels = levels_item.value;
         links = links_item.value;
         entries = entries_item.value;
-        spot = entries_item.spot;
       }
 
--- ---- what the call that reads a text hands back, with the lists that it filled
+-- what the call that reads them answers: them, and the reading stands after them; or their first bad line
+pub record HeadTook (s : List ℕ) (r : Result Head BadLine) (after : Spot) : Type 0 where
+  pub said : MatchResult r (λ h. (h ≡ head_of s) × (after ≡ (entries_item s).spot))
+      (λ b. ((entries_item s).spot.good ≡ false) × (b ≡ bad_at (entries_item s).spot.line))
 
-unfoldable pub contents_of : Text → Contents
-contents_of (good sh) = sheet_contents sh
-contents_of (bad line) = bad_contents line
-
-unfoldable pub concluded : Head → (queries : ℕ) → Spot → (end : ℕ) → Parsed
-concluded h m last end =
-    cond (last.good && eqb last.at end) (Parsed.Whole h.width h.kind h.levels h.links h.entries m) (Parsed.Bad last.line)
-
-unfoldable pub parsed_contents : Parsed → (vs ls hs xs ds : List ℕ) → Contents
-parsed_contents (Parsed.Bad line) vs ls hs xs ds = bad_contents line
-parsed_contents (Parsed.Whole w kind l g n m) vs ls hs xs ds =
-    record {
-      line = 0;
-      width = w;
-      kind = kind;
-      levels = l;
-      links = g;
-      entries = n;
-      queries = m;
-      bits = vs;
-      lengths = ls;
-      hops = hs;
-      addresses = xs;
-      places = ds;
-    }
+-- what the call that reads a text hands back
+unfoldable pub contents_of : Text → Result Contents BadLine
+contents_of (good sh) = Ok (sheet_contents sh)
+contents_of (bad line) = Err (bad_at line)

@@ -1,84 +1,53 @@
-// The lines of the entries, bits and hop of each, and those of the queries, an address each. After a bad line the
-// lists get zeros, and the reading stays there.
-ghost use Rattle.std.specs.Prelude.{◌≡◌, ◌+◌, ◌*◌, ◌≤◌, ◌<◌, length};
-ghost use Rattle.reading.specs.Limits.{COUNT, LINES};
-ghost use Rattle.reading.specs.Entries.{entry_from, HoldsEntries, HoldsQueries};
+// The lines of the entries, bits and hop of each, and those of the queries, an address each.
+ghost use Rattle.std.specs.Prelude.{◌≡◌, ◌≤◌, length};
+ghost use Rattle.reading.specs.Lines.{spot_at};
 
 use crate::limits::{NUMBER_DIGITS, SHORT};
-use crate::lines::{Spot, bits_line, number_line};
+use crate::lines::{BadLine, Lines};
 
-// An entry that was read: its bits as a number, how many they are, its hop; and where the reading stands after it.
-#[derive(Clone, Copy)]
-pub(crate) struct EntryItem {
-    pub(crate) bits: u32,
-    pub(crate) len: u8,
-    pub(crate) hop: u16,
-    pub(crate) spot: Spot,
-}
+impl Lines<'_> {
+    ghost use Rattle.reading.specs.Entries.{EntriesTook, QueriesTook};
 
-fn read_entry(s: &[u8], spot: Spot) -> EntryItem
-    requires { (spot.at ≤ length s.now) × (spot.line < LINES) }
-    ensures { result ≡ entry_from s.now spot }
-{
-    let b = bits_line(s, spot, b"bits=", 0);
-    let h = number_line(s, b.spot, b"hop=", NUMBER_DIGITS, SHORT);
-    let after = h.spot;
-    EntryItem {
-        bits: b.value as u32,
-        len: b.count as u8,
-        hop: h.value as u16,
-        spot: after,
+    // Reads n entries into the lists.
+    pub(crate) fn entries(
+        &mut self,
+        n: usize,
+        bits: &mut [u32],
+        lengths: &mut [u8],
+        hops: &mut [u16],
+    ) -> Result<(), BadLine>
+        requires { (n ≤ length bits.old) × (n ≤ length lengths.old) × (n ≤ length hops.old) }
+        ensures took { EntriesTook self.old.text.now (spot_at self.old.at self.old.line) n bits.old lengths.old hops.old
+            bits.new lengths.new hops.new result (spot_at self.new.at self.new.line) }
+        ensures text { self.new.text ≡ self.old.text }
+    {
+        for i in 0..n {
+            let read = self.bits(b"bits=", 0)?;
+            let hop = self.number(b"hop=", NUMBER_DIGITS, SHORT)?;
+            bits[i] = read.value as u32;
+            lengths[i] = read.count as u8;
+            hops[i] = hop as u16;
+        }
+        Ok(())
     }
-}
 
-// Reads n entries into the lists, and answers where the reading stands after them.
-pub(crate) fn read_entries(
-    s: &[u8],
-    spot: Spot,
-    n: usize,
-    bits: &mut [u32],
-    lens: &mut [u8],
-    hops: &mut [u16],
-) -> Spot
-    requires at_in_bounds { (spot.at ≤ length s.now) × (spot.line + n * 2 ≤ LINES) × (n ≤ COUNT) }
-    requires n_in_bounds { (n ≤ length bits.old) × (n ≤ length lens.old) × (n ≤ length hops.old) }
-    ensures { HoldsEntries s.now spot n bits.old lens.old hops.old
-        bits.new lens.new hops.new result }
-{
-    let mut next = spot;
-    let mut i: usize = 0;
-    while i < n {
-        let e = read_entry(s, next);
-        bits[i] = e.bits;
-        lens[i] = e.len;
-        hops[i] = e.hop;
-        next = e.spot;
-        i += 1;
+    // Reads n addresses into the lists.
+    pub(crate) fn queries(
+        &mut self,
+        n: usize,
+        addresses: &mut [u32],
+        places: &mut [u8],
+    ) -> Result<(), BadLine>
+        requires { (n ≤ length addresses.old) × (n ≤ length places.old) }
+        ensures took { QueriesTook self.old.text.now (spot_at self.old.at self.old.line) n addresses.old places.old
+            addresses.new places.new result (spot_at self.new.at self.new.line) }
+        ensures text { self.new.text ≡ self.old.text }
+    {
+        for i in 0..n {
+            let read = self.bits(b"address=", 1)?;
+            addresses[i] = read.value as u32;
+            places[i] = read.count as u8;
+        }
+        Ok(())
     }
-    next
-}
-
-// Reads n addresses into the lists, and answers where the reading stands after them.
-pub(crate) fn read_queries(
-    s: &[u8],
-    spot: Spot,
-    n: usize,
-    adds: &mut [u32],
-    digs: &mut [u8],
-) -> Spot
-    requires at_in_bounds { (spot.at ≤ length s.now) × (spot.line + n ≤ LINES + 1) × (n ≤ COUNT) }
-    requires n_in_bounds { (n ≤ length adds.old) × (n ≤ length digs.old) }
-    ensures { HoldsQueries s.now spot n adds.old digs.old
-        adds.new digs.new result }
-{
-    let mut next = spot;
-    let mut i: usize = 0;
-    while i < n {
-        let a = bits_line(s, next, b"address=", 1);
-        adds[i] = a.value as u32;
-        digs[i] = a.count as u8;
-        next = a.spot;
-        i += 1;
-    }
-    next
 }

@@ -1,17 +1,27 @@
-// One line of the text: a key, its value in digits, LF. Lines are read in order. Once one is bad nothing more is
-// read, and its number stays.
-ghost use Rattle.std.specs.Prelude.{◌≡◌, ◌+◌, ◌^◌, ◌≤◌, length};
-ghost use Rattle.reading.specs.Limits.{BITS, safe_digits, KEY, LINES};
-ghost use Rattle.reading.specs.Lines.{byte_at, key_at, is_digit, digits_at, unpadded, bad_line, close, number_line, bits_line, kind_line};
+// One line of the text: a key, its value in digits, LF. Lines are read in order, and the first bad one ends the reading.
+ghost use Rattle.std.specs.Prelude.{◌≡◌, ◌+◌, ◌^◌, ◌<◌, ◌≤◌, length, IfOk, MatchResult};
+ghost use Rattle.reading.specs.Limits.{safe_digits, KEY, BITS};
+ghost use Rattle.reading.specs.declared.lines.Digits.{Digits};
+ghost use Rattle.reading.specs.Lines.{byte_at, key_at, is_digit, digits_at, unpadded, kind_named, spot_at, close, number_line, bits_line, kind_line};
 
 use crate::limits::{BITS, KIND_KEY};
+use choosers::Kind;
 
-// Where the reading stands: the next byte and the number of the next line; after a bad line, its number.
-#[derive(Clone, Copy)]
-pub(crate) struct Spot {
-    pub(crate) at: usize,
-    pub(crate) line: u32,
-    pub(crate) good: bool,
+// The first bad line of a text. Lines are numbered from 1; an early end is bad at the line after the last complete one, text that stands
+// after the last line at the line after it.
+#[derive(Clone, Copy, Debug, PartialEq, Eq)]
+pub struct BadLine {
+    pub line: usize,
+}
+
+// A text that is read line by line: the next byte, and the number of the next line.
+#[derive(Drop)]
+pub(crate) struct Lines<'a> {
+    text: &'a [u8],
+    at: usize,
+    line: usize,
+    ghost inside: { at ≤ length text.now },
+    ghost counted: { line ≤ at + 1 },
 }
 
 // Digits that stand in the text: the number that they spell, and how many they are.
@@ -21,62 +31,12 @@ pub(crate) struct Digits {
     pub(crate) count: u32,
 }
 
-// A line that was read, 0 and 0 for a bad one, and where the reading stands after it.
-#[derive(Clone, Copy)]
-pub(crate) struct Item {
-    pub(crate) value: u64,
-    pub(crate) count: u32,
-    pub(crate) spot: Spot,
-}
-
-// The byte at p; 0, which no line has, past the end.
-fn byte(s: &[u8], p: usize) -> u8
-    ensures { result ≡ byte_at s.now p }
-{
-    if p < s.len() { s[p] } else { 0 }
-}
-
-// Whether the bytes of the key stand at p.
-fn key_at(s: &[u8], p: usize, key: &[u8]) -> bool
-    requires { (p ≤ length s.now) × (length key.now ≤ KEY) }
-    ensures { result ≡ key_at key.now s.now p }
-{
-    let mut i = 0;
-    while i < key.len() {
-        if byte(s, p + i) != key[i] {
-            return false;
-        }
-        i += 1;
-    }
-    true
-}
-
-// Whether a byte is one of the first `base` digits.
+// Whether a byte is one of the first `base` digits. (`as`, here and in `digits`: tried as `u64::from`, the proofs did not close.)
 fn is_digit(base: u64, c: u8) -> bool
     requires { base ≤ 10 }
     ensures { result ≡ is_digit base c }
 {
     b'0' <= c && (c as u64) < b'0' as u64 + base
-}
-
-// The digits from p on, at most `most`.
-fn read_digits(s: &[u8], p: usize, base: u64, most: u32) -> Digits
-    requires { (p ≤ length s.now + KEY) × (2 ≤ base) × (base ≤ 10) × (base ^ most ≤ 2 ^ 64) }
-    ensures { result ≡ digits_at base most s.now p }
-{
-    let mut value: u64 = 0;
-    let mut count: u32 = 0;
-    let mut q = p;
-    while count < most {
-        let c = byte(s, q);
-        if !is_digit(base, c) {
-            return Digits { value, count };
-        }
-        value = value * base + (c - b'0') as u64;
-        count += 1;
-        q += 1;
-    }
-    Digits { value, count }
 }
 
 // Whether a number whose first byte and count of digits these are has a digit, and no leading zero.
@@ -89,91 +49,145 @@ fn is_unpadded(first: u8, count: u32) -> bool
     0 < count
 }
 
-// A bad line: the reading stays there.
-fn bad_line(spot: Spot) -> Item
-    ensures { result ≡ bad_line spot }
-{
-    Item {
-        value: 0,
-        count: 0,
-        spot: Spot {
-            at: spot.at,
-            line: spot.line,
-            good: false,
-        },
-    }
-}
+impl<'a> Lines<'a> {
+    ghost use Rattle.reading.specs.Taking.{Took, digits_of, bad_at};
 
-// The line whose digits were read, where LF stands after them and no line before it was bad.
-fn close_line(s: &[u8], spot: Spot, end: usize, read: Digits) -> Item
-    requires { (end ≤ length s.now + KEY + BITS) × (spot.line ≤ LINES) }
-    ensures { result ≡ close s.now spot end read }
-{
-    if !spot.good {
-        return bad_line(spot);
+    pub(crate) fn new(text: &'a [u8]) -> Lines<'a>
+        ensures text { result.text ≡ text.entry }
+        ensures start { (result.at ≡ 0) × (result.line ≡ 1) }
+    {
+        Lines {
+            text,
+            at: 0,
+            line: 1,
+        }
     }
-    if byte(s, end) != b'\n' {
-        return bad_line(spot);
-    }
-    Item {
-        value: read.value,
-        count: read.count,
-        spot: Spot {
-            at: end + 1,
-            line: spot.line + 1,
-            good: true,
-        },
-    }
-}
 
-// A key and a number: 1 to `digits` decimal digits, no leading zero, at most `most`.
-pub(crate) fn number_line(s: &[u8], spot: Spot, key: &[u8], digits: u32, most: u64) -> Item
-    requires { (spot.at ≤ length s.now) × (spot.line ≤ LINES) × (length key.now ≤ KEY) × (digits ≤ safe_digits) }
-    ensures { result ≡ number_line digits most key.now s.now spot }
-{
-    let p = spot.at;
-    if !key_at(s, p, key) {
-        return bad_line(spot);
+    // The next line is bad.
+    fn bad(&self) -> BadLine
+        ensures { result ≡ bad_at self.now.line }
+    {
+        BadLine { line: self.line }
     }
-    let q = p + key.len();
-    let read = read_digits(s, q, 10, digits);
-    if !is_unpadded(byte(s, q), read.count) {
-        return bad_line(spot);
-    }
-    if most < read.value {
-        return bad_line(spot);
-    }
-    close_line(s, spot, q + read.count as usize, read)
-}
 
-// A key and binary digits, at least `least` and at most BITS.
-pub(crate) fn bits_line(s: &[u8], spot: Spot, key: &[u8], least: u32) -> Item
-    requires { (spot.at ≤ length s.now) × (spot.line ≤ LINES) × (length key.now ≤ KEY) }
-    ensures { result ≡ bits_line least key.now s.now spot }
-{
-    let p = spot.at;
-    if !key_at(s, p, key) {
-        return bad_line(spot);
+    // The byte at p; 0, which no line has, past the end: so an early end is no case of its own.
+    fn byte(&self, p: usize) -> u8
+        ensures { result ≡ byte_at self.now.text.now p }
+    {
+        self.text.get(p).copied().unwrap_or(0)
     }
-    let q = p + key.len();
-    let read = read_digits(s, q, 2, BITS);
-    if read.count < least {
-        return bad_line(spot);
-    }
-    close_line(s, spot, q + read.count as usize, read)
-}
 
-// The kind's line: 0 for fst, 1 for vst.
-pub(crate) fn kind_line(s: &[u8], spot: Spot) -> Item
-    requires { (spot.at ≤ length s.now) × (spot.line ≤ LINES) }
-    ensures { result ≡ kind_line s.now spot }
-{
-    let p = spot.at;
-    if key_at(s, p, b"kind=fst") {
-        return close_line(s, spot, p + KIND_KEY, Digits { value: 0, count: 0 });
+    // Whether the next line begins with the key.
+    fn starts_with(&self, key: &[u8]) -> bool
+        requires { length key.now ≤ KEY }
+        ensures { result ≡ key_at key.now self.now.text.now self.now.at }
+    {
+        for (i, &c) in key.iter().enumerate() {
+            if self.byte(self.at + i) != c {
+                return false;
+            }
+        }
+        true
     }
-    if key_at(s, p, b"kind=vst") {
-        return close_line(s, spot, p + KIND_KEY, Digits { value: 1, count: 0 });
+
+    // The digits from p on, at most `most`.
+    fn digits(&self, p: usize, base: u64, most: u32) -> Digits
+        requires { (p ≤ length self.now.text.now + KEY) × (2 ≤ base) × (base ≤ 10) × (base ^ most ≤ 2 ^ 64) }
+        ensures { result ≡ digits_at base most self.now.text.now p }
+    {
+        let mut value = 0;
+        for count in 0..most {
+            let c = self.byte(p + count as usize);
+            if !is_digit(base, c) {
+                return Digits { value, count };
+            }
+            value = value * base + (c - b'0') as u64;
+        }
+        Digits { value, count: most }
     }
-    bad_line(spot)
+
+    // The line ends at `end`, where LF stands, and has this value.
+    fn close<T: Copy>(&mut self, end: usize, value: T) -> Result<T, BadLine>
+        requires { (self.old.at ≤ end) × (end ≤ length self.old.text.now + KEY + BITS) }
+        ensures value { IfOk result (λ v. v ≡ value) }
+        ensures took { (d : Digits) → Took (close self.old.text.now (spot_at self.old.at self.old.line) end d)
+            (λ _. value) result (spot_at self.new.at self.new.line) }
+        ensures text { self.new.text ≡ self.old.text }
+    {
+        if self.byte(end) != b'\n' {
+            return Err(self.bad());
+        }
+        self.at = end + 1;
+        self.line += 1;
+        Ok(value)
+    }
+
+    // A key and a number: 1 to `digits` decimal digits, no leading zero, at most `most`. Each line names its own limits: another one's are
+    // not changed with them (must-fail/sixth_digit.edit).
+    pub(crate) fn number(&mut self, key: &[u8], digits: u32, most: u64) -> Result<u64, BadLine>
+        requires { (length key.now ≤ KEY) × (digits ≤ safe_digits) }
+        ensures took { Took (number_line digits most key.now self.old.text.now (spot_at self.old.at self.old.line))
+            (λ l. l.value) result (spot_at self.new.at self.new.line) }
+        ensures fits { IfOk result (λ v. v ≤ most) }
+        ensures text { self.new.text ≡ self.old.text }
+    {
+        if !self.starts_with(key) {
+            return Err(self.bad());
+        }
+        let from = self.at + key.len();
+        let read = self.digits(from, 10, digits);
+        if !is_unpadded(self.byte(from), read.count) {
+            return Err(self.bad());
+        }
+        if most < read.value {
+            return Err(self.bad());
+        }
+        self.close(from + read.count as usize, read.value)
+    }
+
+    // A key and binary digits, at least `least` and at most BITS.
+    pub(crate) fn bits(&mut self, key: &[u8], least: u32) -> Result<Digits, BadLine>
+        requires { length key.now ≤ KEY }
+        ensures took { Took (bits_line least key.now self.old.text.now (spot_at self.old.at self.old.line))
+            digits_of result (spot_at self.new.at self.new.line) }
+        ensures fits { IfOk result (λ d. (d.value < 2 ^ BITS) × (d.count ≤ BITS)) }
+        ensures text { self.new.text ≡ self.old.text }
+    {
+        if !self.starts_with(key) {
+            return Err(self.bad());
+        }
+        let from = self.at + key.len();
+        let read = self.digits(from, 2, BITS);
+        if read.count < least {
+            return Err(self.bad());
+        }
+        self.close(from + read.count as usize, read)
+    }
+
+    // The kind's line.
+    pub(crate) fn kind(&mut self) -> Result<Kind, BadLine>
+        ensures took { Took (kind_line self.old.text.now (spot_at self.old.at self.old.line))
+            (λ l. kind_named l.value) result (spot_at self.new.at self.new.line) }
+        ensures text { self.new.text ≡ self.old.text }
+    {
+        if self.starts_with(b"kind=fst") {
+            return self.close(self.at + KIND_KEY, Kind::Fixed);
+        }
+        if self.starts_with(b"kind=vst") {
+            return self.close(self.at + KIND_KEY, Kind::Variable);
+        }
+        Err(self.bad())
+    }
+
+    // Nothing stands after the last line.
+    pub(crate) fn end(&self) -> Result<(), BadLine>
+        ensures { MatchResult result (λ _. self.now.at ≡ length self.now.text.now)
+            (λ b. (self.now.at ≡ length self.now.text.now → ⊥) × (b ≡ bad_at self.now.line)) }
+    {
+        if self.at == self.text.len() {
+            Ok(())
+        } else {
+            Err(self.bad())
+        }
+    }
 }
