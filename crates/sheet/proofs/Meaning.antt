@@ -10,10 +10,9 @@ use native.Mathlib.Decide.{dec_lt}
 use lib.ListN.{length}
 use lib.Dec.{ltb}
 use borrow.Author.Tests.{eqb-true, eqb-false, ltb-true, ltb-false, not-true, not-false}
-use Rattle.table.specs.Refusals.{Test, outcome, Gives}
+use Rattle.table.specs.Refusals.{Outcome, Test, outcome, Gives, refusal_number, refusal_detail}
 use Rattle.table.specs.Table.{at, Table}
-use Rattle.table.specs.declared.entry.Outcome.{Outcome}
-use Rattle.table.specs.declared.entry.Outcome.TheVariants.{Accepted, Refused}
+use Rattle.table.specs.declared.refusal.Refusal.{Refusal}
 use Rattle.table.proofs.Find.{FirstTrue, find_first}
 use Rattle.table.proofs.Longest.{longest_is}
 use Rattle.table.proofs.Unique.{longest_unique}
@@ -40,7 +39,8 @@ use Rattle.reading.proofs.Numerals.{joined_same}
 use Rattle.reading.proofs.Sound.{sheet_of_text}
 use Rattle.reading.proofs.Following.{good_is_sound, good_is_spelled}
 use Rattle.reading.proofs.FirstBad.{bad_is_first, first_bad_unique}
-use Rattle.sheet.specs.declared.running.Report.{Report}
+use Rattle.std.specs.Prelude.{Result, Ok, Err}
+use Rattle.sheet.specs.declared.running.NoRoom.{NoRoom}
 use Rattle.sheet.specs.Limits.{lent_rows, lent_elements}
 use Rattle.sheet.specs.Printing.{refusal_lines, head_lines, answer_lines}
 use Rattle.sheet.specs.Answers.{wrong, first_wrong, query_lines, answers_report}
@@ -50,8 +50,8 @@ use Rattle.sheet.specs.Meaning.{FirstWrong, path_lines, AnsweredBy, Solves, Shee
 
 -- ---- the meaning of the definition
 
-accepted_tests : (W k links : ℕ) (vs ls hs : List ℕ) (words room least : ℕ) → outcome (build_tests W k links vs ls hs words room least) ≡ Accepted
-    → outcome (choose_tests W k links vs ls hs words) ≡ Accepted
+accepted_tests : (W k links : ℕ) (vs ls hs : List ℕ) (words room least : ℕ) → outcome (build_tests W k links vs ls hs words room least) ≡ Ok tt
+    → outcome (choose_tests W k links vs ls hs words) ≡ Ok tt
 unfolding build_tests
 accepted_tests W k links vs ls hs words room least e = (accepted_parts (choose_tests W k links vs ls hs words) _ e).0
 
@@ -101,8 +101,8 @@ module _ (kind : Kind) (W k links : ℕ) (vs ls hs xs ds : List ℕ) where
         (σ, chosen_follows kind k (table_trie W vs ls hs) some, rw a (report_answers W k vs ls hs σ xs ds));
   }
     where
-      refused_lines : (o : Outcome) (n d : ℕ) → o ≡ Refused n d → report_for o (table_report kind W k vs ls hs xs ds) ≡ refusal_lines n d
-      refused_lines o n d q = rw q
+      refused_lines : (o : Outcome) (r : Refusal) → o ≡ Err r → report_for o (table_report kind W k vs ls hs xs ds) ≡ refusal_lines (refusal_number r) (refusal_detail r)
+      refused_lines o r q = rw q
 
   pub solved_means : Solves kind W k links vs ls hs xs ds (report_for (build_outcome kind W k links vs ls hs) (table_report kind W k vs ls hs xs ds))
   solved_means = solved_out (build_outcome kind W k links vs ls hs) refl
@@ -115,7 +115,7 @@ text_says s = go (text_of s) refl
     go (bad line) e = inr (line, bad_is_first s line e, refl)
     go (good sh) e = inl (sh, good_is_sound s sh e, good_is_spelled s sh e, solved_means _ _ _ _ _ _ _ _ _)
 
-pub ran_reports : {s out out' : List ℕ} {r : Report} → Ran s out out' r → Reports s out out' r
+pub ran_reports : {s out out' : List ℕ} {r : Result ℕ NoRoom} → Ran s out out' r → Reports s out out' r
 ran_reports {s} ran = record { bytes = report_of s; says = text_says s; answer = ran.answer; left = ran.left }
 
 -- ---- and it leaves one report: nothing here knows how the least cost or the strides are found, but that there are some
@@ -165,12 +165,12 @@ solves_unique kind W k links vs ls hs xs ds {bytes} {bytes'} c d = go c.out refl
     one = gives_unique tests c.out d.out (c.tested least (least_cheapest kind k t)) (d.tested least (least_cheapest kind k t))
 
     go : (o : Outcome) → c.out ≡ o → bytes ≡ bytes'
-    go (Refused n x) e = c.refused n x e ∙ sym (d.refused n x (sym one ∙ e))
-    go Accepted e =
+    go (Err r) e = c.refused r e ∙ sym (d.refused r (sym one ∙ e))
+    go (Ok u) e =
         let a = c.accepted e in
         let a' = d.accepted (sym one ∙ e) in
         let gives = subst (Gives tests) e (c.tested least (least_cheapest kind k t)) in
-        let pass = accepted_tests W k links vs ls hs (lent_rows * ROW) lent_elements least (sym (gives_outcome tests Accepted gives)) in
+        let pass = accepted_tests W k links vs ls hs (lent_rows * ROW) lent_elements least (sym (gives_outcome tests (Ok tt) gives)) in
         let table = accepted_tests_table W k links vs ls hs (lent_rows * ROW) pass in
         let deep = trie_depth_width W (at vs) (at ls) (entry_marks ls hs) (length vs) (λ i l. (table.entry i l).prefix) in
         let fine = follows_good kind k t W a.0 (accepted_levels W k links vs ls hs (lent_rows * ROW) pass).0 deep a.1 in
@@ -186,7 +186,7 @@ says_unique s (inr a) (inl b) = absurd (a.1.no_sheet b.0 b.1 b.2)
 says_unique s (inr a) (inr b) = a.2 ∙ ap (refusal_lines 11) (first_bad_unique a.1 b.1) ∙ sym b.2
 
 -- one answer, and one thing left
-pub reports_unique : {s out o o' : List ℕ} {r r' : Report} → Reports s out o r → Reports s out o' r' → (r ≡ r') × (o ≡ o')
+pub reports_unique : {s out o o' : List ℕ} {r r' : Result ℕ NoRoom} → Reports s out o r → Reports s out o' r' → (r ≡ r') × (o ≡ o')
 reports_unique {s} {out} a b =
     let e : a.bytes ≡ b.bytes = says_unique s a.says b.says in
     (a.answer ∙ ap (λ (x : List ℕ). answer_for x out) e ∙ sym b.answer, a.left ∙ ap (λ (x : List ℕ). left_for x out) e ∙ sym b.left)

@@ -9,13 +9,13 @@ use lib.ListN.{length, length-append}
 use borrow.Author.Tests.{le-leb}
 use Rattle.table.specs.Table.{at}
 use Rattle.choosers.specs.declared.chooser.Kind.{Kind}
-use Rattle.table.specs.declared.entry.Outcome.{Outcome}
-use Rattle.table.specs.declared.entry.Outcome.TheVariants.{Accepted, Refused}
+use Rattle.table.specs.Refusals.{Outcome, refusal_number, refusal_detail}
 use Rattle.reading.specs.Limits.{COUNT, BITS}
 use Rattle.reading.specs.Numerals.{joined}
 use Rattle.reading.specs.Text.{Text, good, bad, text_of}
 use Rattle.reading.proofs.Following.{good_is_sound}
-use Rattle.sheet.specs.declared.running.Report.{Report}
+use Rattle.std.specs.Prelude.{Result, Ok, Err}
+use Rattle.sheet.specs.declared.running.NoRoom.{NoRoom}
 use Rattle.sheet.specs.Limits.{answer_bytes, PAGE}
 use Rattle.sheet.specs.Printing.{refusal_lines, head_lines}
 use Rattle.sheet.specs.Answers.{first_wrong, query_lines, answers_report}
@@ -43,8 +43,8 @@ module _ (xs ds : List ℕ) (few : length ds ≤ COUNT) (short : (i : ℕ) → i
 
   for_short : (out : Outcome) (bytes : List ℕ) → length bytes ≤ PAGE → length (report_for out bytes) ≤ PAGE
   unfolding report_for
-  for_short Accepted bytes h = h
-  for_short (Refused n d) bytes h = omega (arith, length_refusal n d)
+  for_short (Ok _) bytes h = h
+  for_short (Err r) bytes h = omega (arith, length_refusal (refusal_number r) (refusal_detail r))
 
   solved_short : (n : Kind) (W k links : ℕ) (bits ls hs : List ℕ) → length (solved n W k links bits ls hs xs ds) ≤ PAGE
   unfolding solved report_by
@@ -63,7 +63,7 @@ report_short s = go (text_of s) refl
         (λ i h. (sound.query i (omega (arith, sound.as_many_places))).1) _ _ _ _ _ _ _
 
 -- a run with room for a page writes the report
-pub run_writes : {s out out' : List ℕ} {r : Report} → PAGE ≤ length out → Ran s out out' r → r ≡ Report.Written (length (report_of s))
+pub run_writes : {s out out' : List ℕ} {r : Result ℕ NoRoom} → PAGE ≤ length out → Ran s out out' r → r ≡ Ok (length (report_of s))
 unfolding answer_for
 run_writes {s} {out} h ran =
     let e = le-leb (length (report_of s)) (length out) (omega (arith, report_short s)) in

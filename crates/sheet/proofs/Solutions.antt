@@ -2,15 +2,15 @@
 -- report says.
 use mathlib.Core.Path.{◌≡◌, sym, ap, ◌∙◌}
 use mathlib.Core.List.{List}
-use Prim.Native.Nat.{ℕ, ◌-◌, ◌*◌}
+use Prim.Native.Nat.{ℕ, ◌*◌}
 use native.Mathlib.Omega.{arith}
-use native.Mathlib.Nat.{sub-zero}
-use lib.ListN.{length, take}
-use Rattle.table.specs.declared.entry.Outcome.{Outcome}
-use Rattle.table.specs.declared.entry.Outcome.TheVariants.{Accepted, Refused}
+use lib.ListN.{length, take, replicate, length-replicate}
+use Rattle.std.specs.Prelude.{Ok, Err}
+use Rattle.table.specs.Refusals.{Outcome, refusal_number, refusal_detail}
+use Rattle.table.specs.declared.refusal.Refusal.{Refusal}
 use Rattle.strides.specs.Cheapest.{Kind}
 use Rattle.walk.specs.Limits.{WIDTH}
-use Rattle.walk.specs.Rows.{Lists, shortest}
+use Rattle.walk.specs.Rows.{Lists, lists, shortest}
 use Rattle.layout.specs.Blocks.{row_count, stride_of}
 use Rattle.tries.specs.Build.{BuildIs}
 use Rattle.layout.specs.Laid.{table_trie, Laid}
@@ -55,27 +55,31 @@ module _ (kind : Kind) (W k : ℕ) (vs ls hs : List ℕ) {rec : Record} {rows : 
     unfolding build_outcome
     outcome_is = b.tests ∙ rw (words, room)
 
-    built_refused : {number detail : ℕ} → out ≡ Refused number detail → (bytes : List ℕ)
-        → refusal_lines number detail ≡ report_for (build_outcome kind W k links vs ls hs) bytes
+    built_refused : {r : Refusal} → out ≡ Err r → (bytes : List ℕ)
+        → refusal_lines (refusal_number r) (refusal_detail r) ≡ report_for (build_outcome kind W k links vs ls hs) bytes
     unfolding report_for
     built_refused is bytes = rw (sym outcome_is, is)
 
-    built_accepted : out ≡ Accepted → (xs ds : List ℕ) → LentQueries xs ds
+    built_accepted : out ≡ Ok tt → (xs ds : List ℕ) → LentQueries xs ds
         → looked_up rec rows xs ds ≡ report_for (build_outcome kind W k links vs ls hs) (table_report kind W k vs ls hs xs ds)
     unfolding report_for
     built_accepted is xs ds q = rw (sym outcome_is, is) (looked_up_laid (b.written.laid is) xs ds q)
 
 -- ---- a sheet that was built, into lists of lent_elements
 
+-- the lists that are lent, all zeros (the level and the type are written out: without them the check would unfold the whole list)
+pub lent_room : shortest (lists (replicate lent_elements 0) (replicate lent_elements 0) (replicate lent_elements 0) (replicate lent_elements 0)) ≡ lent_elements
+lent_room = let e = length-replicate {0} {A = ℕ} lent_elements 0 in omega arith
+
 module _ (sh : Sheet) {lent rows : Lists} {out : Outcome} {rec : Record} (room : shortest lent ≡ lent_elements) (b : SheetBuilt sh lent out rec rows) where
   abbrev values : List ℕ
   values = values_of sh.width sh.bits sh.lengths
 
-  pub sheet_refused : {number detail : ℕ} → out ≡ Refused number detail → refusal_lines number detail ≡ text_report (good sh)
+  pub sheet_refused : {r : Refusal} → out ≡ Err r → refusal_lines (refusal_number r) (refusal_detail r) ≡ text_report (good sh)
   unfolding text_report solved
   sheet_refused is = built_refused (kind_of sh.kind) sh.width sh.levels values sh.lengths sh.hops b.words room b.build is _
 
-  pub sheet_accepted : out ≡ Accepted → LentQueries sh.addresses sh.places → looked_up rec rows sh.addresses sh.places ≡ text_report (good sh)
+  pub sheet_accepted : out ≡ Ok tt → LentQueries sh.addresses sh.places → looked_up rec rows sh.addresses sh.places ≡ text_report (good sh)
   unfolding text_report solved
   sheet_accepted is q =
       built_accepted (kind_of sh.kind) sh.width sh.levels values sh.lengths sh.hops b.words room b.build is sh.addresses sh.places q
@@ -85,12 +89,12 @@ module _ (sh : Sheet) {lent rows : Lists} {out : Outcome} {rec : Record} (room :
 -- the build of their entries: vs begins with the values
 pub sheet_built : (r : Contents) (vs : List ℕ) {scratch scratch' : List ℕ} {lent rows : Lists} {out : Outcome} {rec : Record}
     → length scratch ≡ lent_rows * ROW → take r.entries vs ≡ values_of r.width (sheet_in r).bits (sheet_in r).lengths
-    → BuildIs (kind_of r.kind) r.width r.levels r.links (take (r.entries - 0) vs) (take (r.entries - 0) r.lengths) (take (r.entries - 0) r.hops)
+    → BuildIs (kind_of r.kind) r.width r.levels r.links (take r.entries vs) (take r.entries r.lengths) (take r.entries r.hops)
     scratch lent out rec scratch' rows
     → SheetBuilt (sheet_in r) lent out rec rows
 unfolding sheet_in
 sheet_built r vs {scratch = scratch} {scratch' = scratch'} words placed b =
-    record { scratch = scratch; scratch' = scratch'; words = words; build = rw (sub-zero, placed) at b }
+    record { scratch = scratch; scratch' = scratch'; words = words; build = rw placed at b }
 
 pub queries_lent : (r : Contents) → GoodContents r → LentQueries (sheet_in r).addresses (sheet_in r).places
 queries_lent r fine =

@@ -1,7 +1,7 @@
 -- What is known of the queries that are lent on, and of the build over what the program lends.
 use Rattle.std.specs.Prelude.{◌≡◌, List, ℕ, ◌*◌, ◌^◌, ◌≤◌, ◌<◌, length}
 use Rattle.table.specs.Table.{at}
-use Rattle.table.specs.declared.entry.Outcome.{Outcome}
+use Rattle.table.specs.Refusals.{Outcome}
 use Rattle.walk.specs.Rows.{Lists}
 use Rattle.walk.specs.declared.record.Record.{Record}
 use Rattle.tries.specs.Build.{BuildIs}

@@ -2,7 +2,7 @@
 use Rattle.std.specs.Prelude.{ℕ, ◌+◌, ◌*◌, ◌≤◌, ◌≡◌, refl, length}
 use Rattle.std.proofs.Common.{arith}
 use Rattle.choosers.specs.Scratch.{ROW}
-use Rattle.reading.specs.Limits.{BITS, decimal_digits}
+use Rattle.reading.specs.Limits.{BITS, COUNT, decimal_digits}
 use Rattle.reading.specs.Keys.{hop_key, address_key}
 use Rattle.sheet.specs.Keys.{refusal_key, detail_key, elements_key, root_key, length_key, reads_key}
 
@@ -26,8 +26,11 @@ abbrev pub answer_bytes : ℕ
 answer_bytes =
     BITS + address_bytes + length hop_key + decimal_bytes + length length_key + decimal_bytes + length reads_key + decimal_bytes
 
--- the bytes of the page that a text is read to or a report printed to: LONGEST, and head_bytes + COUNT * answer_bytes, which is
--- 113 + 64 * 121 = 7,857, rounded up
+-- no report has more bytes: 113 + 64 * 121 = 7,857
+abbrev pub report_bytes : ℕ
+report_bytes = head_bytes + COUNT * answer_bytes
+
+-- the bytes of the page that a text is read to or a report printed to: LONGEST, and report_bytes, rounded up
 abbrev pub PAGE : ℕ
 PAGE = 8192
 

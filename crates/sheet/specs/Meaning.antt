@@ -2,11 +2,10 @@
 -- sheet's report is the first of the build's tests that fails, where 7 tests the least cost of all choices; or 8 and the first query
 -- whose digit count is not the width; or, for strides that follow the tie rule, the number of their rows, the root's stride, and for
 -- each address hop and length of the longest entry that matches it and the number of blocks on its path.
-use Rattle.std.specs.Prelude.{◌≡◌, List, ◌++◌, ◌⊎◌, ℕ, ◌*◌, ◌≤◌, ◌<◌, length}
+use Rattle.std.specs.Prelude.{◌≡◌, List, ◌++◌, ◌⊎◌, ℕ, ◌*◌, ◌≤◌, ◌<◌, length, Result, Ok, Err}
 use Rattle.table.specs.Table.{at}
-use Rattle.table.specs.Refusals.{Gives}
-use Rattle.table.specs.declared.entry.Outcome.{Outcome}
-use Rattle.table.specs.declared.entry.Outcome.TheVariants.{Accepted, Refused}
+use Rattle.table.specs.Refusals.{Outcome, Gives, refusal_number, refusal_detail}
+use Rattle.table.specs.declared.refusal.Refusal.{Refusal}
 use Rattle.strides.specs.Cheapest.{Kind, Cheapest}
 use Rattle.strides.specs.Strides.{Follows}
 use Rattle.layout.specs.Blocks.{Strides, row_count, stride_of}
@@ -19,7 +18,7 @@ use Rattle.reading.specs.Numerals.{joined}
 use Rattle.reading.specs.Sheet.{Sheet}
 use Rattle.reading.specs.Spelling.{sheet_text, Sound}
 use Rattle.reading.specs.FirstBad.{FirstBad}
-use Rattle.sheet.specs.declared.running.Report.{Report}
+use Rattle.sheet.specs.declared.running.NoRoom.{NoRoom}
 use Rattle.sheet.specs.Limits.{lent_rows, lent_elements}
 use Rattle.sheet.specs.Printing.{refusal_lines, head_lines, answer_lines}
 use Rattle.sheet.specs.Values.{values_of}
@@ -55,8 +54,8 @@ pub record Solves (kind : Kind) (W k links : ℕ) (vs ls hs xs ds bytes : List �
   pub out : Outcome
   pub tested : (least : ℕ) → (1 ≤ k → Cheapest kind k (table_trie W vs ls hs) least)
       → Gives (build_tests W k links vs ls hs (lent_rows * ROW) lent_elements least) out
-  pub refused : (number detail : ℕ) → out ≡ Refused number detail → bytes ≡ refusal_lines number detail
-  pub accepted : out ≡ Accepted → (σ : Strides) × Follows kind k (table_trie W vs ls hs) σ × AnsweredBy W k vs ls hs σ xs ds bytes
+  pub refused : (r : Refusal) → out ≡ Err r → bytes ≡ refusal_lines (refusal_number r) (refusal_detail r)
+  pub accepted : out ≡ Ok tt → (σ : Strides) × Follows kind k (table_trie W vs ls hs) σ × AnsweredBy W k vs ls hs σ xs ds bytes
 
 -- the report of a sheet
 abbrev pub SheetSolves : Sheet → (bytes : List ℕ) → Type 0
@@ -70,7 +69,7 @@ Says s bytes =
     ((sh : Sheet) × Sound sh × (s ≡ sheet_text sh) × SheetSolves sh bytes) ⊎ ((line : ℕ) × FirstBad s line × (bytes ≡ refusal_lines 11 line))
 
 -- what a call of `run` answers and leaves: such a report, in the room that was lent
-pub record Reports (s out out' : List ℕ) (r : Report) : Type 0 where
+pub record Reports (s out out' : List ℕ) (r : Result ℕ NoRoom) : Type 0 where
   pub bytes : List ℕ
   pub says : Says s bytes
   pub answer : r ≡ answer_for bytes out
@@ -78,4 +77,4 @@ pub record Reports (s out out' : List ℕ) (r : Report) : Type 0 where
 
 -- what a call of `run_page` answers and leaves: such a report of every text that begins with what stands on the page
 abbrev pub PageReports : (page : List ℕ) (n : ℕ) (out out' : List ℕ) (r : ℕ) → Type 0
-PageReports page n out out' r = (s : List ℕ) → OnPage s page n → Reports s out out' (Report.Written r)
+PageReports page n out out' r = (s : List ℕ) → OnPage s page n → Reports s out out' (Ok r)

@@ -1,8 +1,7 @@
 -- The report's lines (01, "The tablet program"): a key, a number in decimal, LF. "A refusal prints only the lines
 -- `refusal` and `detail`"; an accepted run prints them with 0, then elements and root, then address, hop, length
 -- (02, [5]) and reads of each query.
-use Rattle.std.specs.Prelude.{◌≡◌, List, ◌++◌, ℕ, ◌+◌, ◌≤◌, length}
-use Rattle.std.proofs.lemmas.List.Edits.{sets}
+use Rattle.std.specs.Prelude.{List, ◌++◌, ℕ}
 use Rattle.reading.specs.Keys.{address_key, hop_key}
 use Rattle.reading.specs.Numerals.{line_of, bits_line_of}
 use Rattle.sheet.specs.Keys.{refusal_key, detail_key, elements_key, root_key, length_key, reads_key}
@@ -18,15 +17,3 @@ head_lines elements root = refusal_lines 0 0 ++ line_of elements_key elements ++
 
 unfoldable pub answer_lines : (address n hop len reads : ℕ) → List ℕ
 answer_lines address n hop len reads = address_line address n ++ line_of hop_key hop ++ line_of length_key len ++ line_of reads_key reads
-
--- ---- what a function that prints leaves
-
--- out with the bytes stored from place p on
-unfoldable pub written : (out : List ℕ) (p : ℕ) (bytes : List ℕ) → List ℕ
-written out p bytes = sets out p bytes
-
--- the bytes stand at place p of what was out, all else is kept, and r is the place after them
-pub record Wrote (out : List ℕ) (p : ℕ) (bytes : List ℕ) (out' : List ℕ) (r : ℕ) : Type 0 where
-  pub next : r ≡ p + length bytes
-  pub text : out' ≡ written out p bytes
-  pub room : r ≤ length out

@@ -1,12 +1,10 @@
 -- A good sheet, solved (01, "The tablet program"): the build's refusal, or the report of its answers. The entries' bits are
 -- values of the table; elements and root are those of its rows; hop and length of an address are those of the longest
 -- entry that matches it, and its reads the number of blocks on its path.
-use Rattle.std.specs.Prelude.{List, ℕ, ◌*◌, length}
+use Rattle.std.specs.Prelude.{List, ℕ, ◌*◌, length, Ok, Err}
 use Rattle.table.specs.Table.{at}
 use Rattle.table.specs.Longest.{longest, matched}
-use Rattle.table.specs.Refusals.{outcome}
-use Rattle.table.specs.declared.entry.Outcome.{Outcome}
-use Rattle.table.specs.declared.entry.Outcome.TheVariants.{Accepted, Refused}
+use Rattle.table.specs.Refusals.{Outcome, outcome, refusal_number, refusal_detail}
 use Rattle.strides.specs.Cheapest.{Kind}
 use Rattle.strides.specs.Recurrence.{plain, least_by}
 use Rattle.strides.specs.Strides.{chosen_by}
@@ -50,8 +48,8 @@ build_outcome kind W k links vs ls hs = outcome (build_tests W k links vs ls hs 
 
 -- a refusal prints only its two lines
 unfoldable pub report_for : Outcome → List ℕ → List ℕ
-report_for Accepted bytes = bytes
-report_for (Refused number detail) bytes = refusal_lines number detail
+report_for (Ok _) bytes = bytes
+report_for (Err r) bytes = refusal_lines (refusal_number r) (refusal_detail r)
 
 unfoldable pub solved : (kind : code.Kind) (W k links : ℕ) (bits lengths hops addresses places : List ℕ) → List ℕ
 solved kind W k links bits lengths hops addresses places =

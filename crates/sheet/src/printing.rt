@@ -1,105 +1,92 @@
-// The report's lines, printed into a lent list: each function puts bytes at place p and answers the place after them.
-// The page that they are printed to is long enough for the longest number in every line, so none of them tests.
-ghost use Rattle.std.specs.Prelude.{◌+◌, ◌≤◌, length};
+// The report's lines, each put at the end of a page. The page is long enough for the longest number in every line, so none of them tests.
+ghost use Rattle.std.specs.Prelude.{◌≡◌, ◌+◌, ◌≤◌, ◌++◌, length};
+ghost use Rattle.arrayvec.specs.ArrayVec.{array_vec_len};
 ghost use Rattle.reading.specs.Limits.{BITS, decimal_digits};
 ghost use Rattle.reading.specs.Numerals.{decimal, binary, line_of};
-ghost use Rattle.sheet.specs.Limits.{decimal_bytes, address_bytes, refusal_bytes, head_bytes, answer_bytes};
-ghost use Rattle.sheet.specs.Printing.{Wrote, address_line, refusal_lines, head_lines, answer_lines};
+ghost use Rattle.sheet.specs.Limits.{PAGE, decimal_bytes, address_bytes, refusal_bytes, head_bytes, answer_bytes};
+ghost use Rattle.sheet.specs.Printing.{address_line, refusal_lines, head_lines, answer_lines};
 
-use crate::limits::DECIMAL_DIGITS;
+use crate::limits::{DECIMAL_DIGITS, PAGE};
+use arrayvec::ArrayVec;
+use walk::AnswerNumbers;
 
-// Puts the bytes of src.
-pub(crate) fn put(out: &mut [u8], p: usize, src: &[u8]) -> usize
-    requires { p + length src.now ≤ length out.old }
-    ensures { Wrote out.old p src.now out.new result }
+// What a report is printed to. It never allocates.
+pub(crate) type Page = ArrayVec<u8, PAGE>;
+
+// Puts bytes.
+fn put(page: &mut Page, bytes: &[u8])
+    requires { array_vec_len page.old + length bytes.now ≤ PAGE }
+    ensures { page.new.items ≡ page.old.items ++ bytes.now }
 {
-    let mut i = 0;
-    while i < src.len() {
-        out[p + i] = src[i];
-        i += 1;
-    }
-    p + i
+    page.try_extend_from_slice(bytes).unwrap();
 }
 
 // Puts a number in decimal.
-fn put_number(out: &mut [u8], p: usize, n: u64) -> usize
-    requires { p + decimal_digits ≤ length out.old }
-    ensures { Wrote out.old p (decimal n) out.new result }
+fn put_number(page: &mut Page, n: u64)
+    requires { array_vec_len page.old + decimal_digits ≤ PAGE }
+    ensures { page.new.items ≡ page.old.items ++ decimal n }
 {
     let mut text = [0u8; DECIMAL_DIGITS];
     let k = io::decimal(n, &mut text);
-    put(out, p, &text[0..k])
+    put(page, &text[..k]);
 }
 
-// Puts the n binary digits of v, from the last to the first.
-fn put_bits(out: &mut [u8], p: usize, v: u32, n: usize) -> usize
-    requires { p + n ≤ length out.old }
-    ensures { Wrote out.old p (binary n v) out.new result }
+// Puts the n binary digits of v, from the first to the last.
+fn put_bits(page: &mut Page, v: u32, n: u8)
+    requires { (array_vec_len page.old + n ≤ PAGE) × (n ≤ BITS) }
+    ensures { page.new.items ≡ page.old.items ++ binary n v }
 {
-    let mut rest = v;
-    let mut i = n;
-    while 0 < i {
-        i -= 1;
-        out[p + i] = b'0' + (rest % 2) as u8;
-        rest = rest / 2;
+    for i in (0..n).rev() {
+        page.push(b'0' + ((v >> i) % 2) as u8);
     }
-    p + n
 }
 
 // Puts a key, a number and LF.
-fn put_line(out: &mut [u8], p: usize, key: &[u8], n: u64) -> usize
-    requires { p + length key.now + decimal_bytes ≤ length out.old }
-    ensures { Wrote out.old p (line_of key.now n) out.new result }
+fn put_line(page: &mut Page, key: &[u8], n: u64)
+    requires { array_vec_len page.old + length key.now + decimal_bytes ≤ PAGE }
+    ensures { page.new.items ≡ page.old.items ++ line_of key.now n }
 {
-    let q = put(out, p, key);
-    let e = put_number(out, q, n);
-    put(out, e, b"\n")
+    put(page, key);
+    put_number(page, n);
+    page.push(b'\n');
 }
 
 // Puts an address line of n digits.
-fn put_address(out: &mut [u8], p: usize, v: u32, n: usize) -> usize
-    requires { p + n + address_bytes ≤ length out.old }
-    ensures { Wrote out.old p (address_line v n) out.new result }
+fn put_address(page: &mut Page, v: u32, n: u8)
+    requires { (array_vec_len page.old + n + address_bytes ≤ PAGE) × (n ≤ BITS) }
+    ensures { page.new.items ≡ page.old.items ++ address_line v n }
 {
-    let q = put(out, p, b"address=");
-    let e = put_bits(out, q, v, n);
-    put(out, e, b"\n")
+    put(page, b"address=");
+    put_bits(page, v, n);
+    page.push(b'\n');
 }
 
 // Puts the lines of a refusal: all of a refused run's report.
-pub(crate) fn put_refusal(out: &mut [u8], p: usize, number: u64, detail: u64) -> usize
-    requires { p + refusal_bytes ≤ length out.old }
-    ensures { Wrote out.old p (refusal_lines number detail) out.new result }
+pub(crate) fn put_refusal(page: &mut Page, number: u64, detail: u64)
+    requires { array_vec_len page.old + refusal_bytes ≤ PAGE }
+    ensures { page.new.items ≡ page.old.items ++ refusal_lines number detail }
 {
-    let q = put_line(out, p, b"refusal=", number);
-    put_line(out, q, b"detail=", detail)
+    put_line(page, b"refusal=", number);
+    put_line(page, b"detail=", detail);
 }
 
 // Puts the first four lines of an accepted run's report.
-pub(crate) fn put_head(out: &mut [u8], elements: u32, root: u8) -> usize
-    requires { head_bytes ≤ length out.old }
-    ensures { Wrote out.old 0 (head_lines elements root) out.new result }
+pub(crate) fn put_head(page: &mut Page, elements: u32, root: u8)
+    requires { array_vec_len page.old + head_bytes ≤ PAGE }
+    ensures { page.new.items ≡ page.old.items ++ head_lines elements root }
 {
-    let p = put_refusal(out, 0, 0, 0);
-    let q = put_line(out, p, b"elements=", elements as u64);
-    put_line(out, q, b"root=", root as u64)
+    put_refusal(page, 0, 0);
+    put_line(page, b"elements=", u64::from(elements));
+    put_line(page, b"root=", u64::from(root));
 }
 
-// Puts the four lines of a query.
-pub(crate) fn put_answer(
-    out: &mut [u8],
-    p: usize,
-    address: u32,
-    n: usize,
-    hop: u16,
-    len: u8,
-    reads: u32,
-) -> usize
-    requires { (p + answer_bytes ≤ length out.old) × (n ≤ BITS) }
-    ensures { Wrote out.old p (answer_lines address n hop len reads) out.new result }
+// Puts the four lines of a query: an address of n digits, and its answer.
+pub(crate) fn put_answer(page: &mut Page, address: u32, n: u8, answer: AnswerNumbers)
+    requires { (array_vec_len page.old + answer_bytes ≤ PAGE) × (n ≤ BITS) }
+    ensures { page.new.items ≡ page.old.items ++ answer_lines address n answer.hop answer.length answer.reads }
 {
-    let q = put_address(out, p, address, n);
-    let e = put_line(out, q, b"hop=", hop as u64);
-    let f = put_line(out, e, b"length=", len as u64);
-    put_line(out, f, b"reads=", reads as u64)
+    put_address(page, address, n);
+    put_line(page, b"hop=", u64::from(answer.hop));
+    put_line(page, b"length=", u64::from(answer.length));
+    put_line(page, b"reads=", u64::from(answer.reads));
 }

@@ -11,25 +11,21 @@ fn placed(width: u32, bits: u32, len: u8) -> u32
     requires { bits < 2 ^ len }
     ensures { result ≡ value_of width bits len }
 {
-    let l = len as u32;
+    let l = u32::from(len);
     if table::WIDTH < width || width < l {
         return 0;
     }
-    ((bits as u64) << (width - l)) as u32
+    (u64::from(bits) << (width - l)) as u32
 }
 
 // The values of a good text's entries, in the places of their bits.
-pub(crate) fn sheet_values(got: Contents) -> [u32; COUNT as usize]
-    requires { GoodContents got }
-    ensures { (COUNT ≡ length result) × (take got.entries result ≡ values_of got.width (sheet_in got).bits (sheet_in got).lengths) }
+pub(crate) fn sheet_values(sheet: &Contents) -> [u32; COUNT as usize]
+    requires { GoodContents sheet.now }
+    ensures { (COUNT ≡ length result) × (take sheet.now.entries result ≡ values_of sheet.now.width (sheet_in sheet.now).bits (sheet_in sheet.now).lengths) }
 {
-    let n = got.entries;
-    let lens = got.lengths;
-    let mut vals = got.bits;
-    let mut i = 0;
-    while i < n {
-        vals[i] = placed(got.width, vals[i], lens[i]);
-        i += 1;
+    let mut values = sheet.bits;
+    for i in 0..sheet.entries {
+        values[i] = placed(sheet.width, values[i], sheet.lengths[i]);
     }
-    vals
+    values
 }

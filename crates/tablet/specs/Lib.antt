@@ -1,2 +1,2 @@
--- What the reading of the program's text promises.
-pub mod Stopping
+-- What the program promises.
+pub mod Printed

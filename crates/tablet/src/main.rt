@@ -5,59 +5,69 @@
 // tried again: the program catches no signal, so none interrupts a read.
 #![tactic(auto)]
 
-ghost use Rattle.std.specs.Prelude.{length};
-ghost use Rattle.tablet.specs.Stopping.{Stopped};
+ghost use Rattle.std.specs.Prelude.{◌<◌, ◌≤◌, length, take, IfOk, OnOk};
+ghost use Rattle.std.specs.Io.KnownBytes.{Consumes, IsAtEnd};
+ghost use Rattle.tablet.specs.Printed.{Prints};
 
 use std::io;
 use std::io::{Read, Write};
 
-// What reading came to: the bytes that stand on the page, and what the last read answered (0: the text has ended; or its failure).
-#[derive(Clone, Copy)]
-struct Reading {
-    count: usize,
-    last: io::Result<usize>,
+// Which end of the program failed.
+#[derive(Clone, Copy, Debug, PartialEq, Eq)]
+enum Failed {
+    Reading,
+    Writing,
 }
 
-// Reads until the page is full, the text ends or a read fails.
-fn read_text(input: &mut impl Read, page: &mut [u8]) -> Reading
-    ensures { Stopped (length page.old) result }
-{
-    let mut n = 0;
-    while n < page.len() {
-        match input.read(&mut page[n..]) {
-            Ok(k) => {
-                if k == 0 {
-                    return Reading {
-                        count: n,
-                        last: Ok(k),
-                    };
-                }
-                n += k;
-            }
-            Err(e) => {
-                return Reading {
-                    count: n,
-                    last: Err(e),
-                };
+impl Failed {
+    // The line for standard error.
+    fn line(self) -> &'static str {
+        match self {
+            Failed::Reading => "tablet: standard input cannot be read: no report\n",
+            Failed::Writing => {
+                "tablet: standard output cannot be written: the report is not whole\n"
             }
         }
     }
-    Reading {
-        count: n,
-        last: Ok(1),
+}
+
+// Reads until the page is full or the text ends, and answers how many bytes of the text then stand on the page.
+// (By hand: std's `read_to_end` wants a `Vec`, and the page is fixed memory. printing's `read_page` is the same loop, in a crate that uses
+// the heap: none of those is below this one.)
+fn read_text<R: Read>(input: &mut R, page: &mut [u8]) -> io::Result<usize>
+    ensures within { IfOk result (λ n. n ≤ length page.new) }
+    ensures bytes { IfOk result (λ n. Consumes (R.remaining input.old) (R.remaining input.new) (take n page.new)) }
+    ensures whole { IfOk result (λ n. n < length page.new → IsAtEnd (R.remaining input.new)) }
+{
+    let mut n = 0;
+    while n < page.len() {
+        let k = input.read(&mut page[n..])?;
+        if k == 0 {
+            return Ok(n);
+        }
+        n += k;
     }
+    Ok(n)
+}
+
+// The whole program: the report of a text of any length. (`let .. else`: tried as `.map_err(|_| ..)?`, the proof did not close.)
+fn tablet<R: Read, W: Write>(input: &mut R, output: &mut W) -> Result<(), Failed>
+    ensures { OnOk result (Prints (R.remaining input.old) (W.contents output.old) (W.contents output.new)) }
+{
+    let mut text = sheet::buffer();
+    let Ok(n) = read_text(input, &mut text) else {
+        return Err(Failed::Reading);
+    };
+    let mut page = sheet::buffer();
+    let k = sheet::run_page(&text, n, &mut page);
+    let Ok(()) = output.write_all(&page[..k]) else {
+        return Err(Failed::Writing);
+    };
+    Ok(())
 }
 
 fn main(rt: HostRuntime) {
-    let mut text = sheet::buffer();
-    let got = read_text(&mut rt.stdin(), &mut text);
-    if got.last.is_err() {
-        let _ = rt.eprint("tablet: standard input cannot be read: no report\n");
-        return;
-    }
-    let mut page = sheet::buffer();
-    let k = sheet::run_page(&text, got.count, &mut page);
-    if rt.stdout().write_all(&page[..k]).is_err() {
-        let _ = rt.eprint("tablet: standard output cannot be written: the report is not whole\n");
+    if let Err(failed) = tablet(&mut rt.stdin(), &mut rt.stdout()) {
+        let _ = rt.eprint(failed.line());
     }
 }

@@ -1,32 +1,29 @@
-use mathlib.Core.Path.{◌≡◌}
-use native.Mathlib.Omega.{arith}
-use lib.ListN.{length}
-use Rattle.sheet.proofs.Writing.{wrote_length, wrote_up_to, length_answer, joined_none}
-use Rattle.sheet.proofs.Queries.{query_more}
-use Rattle.sheet.specs.Limits.{answer_bytes}
+use Rattle.std.proofs.Common.{sym, length, ◌∙◌}
+use Rattle.std.proofs.lemmas.List.{append-nil, length_push}
+use Rattle.std.proofs.lemmas.Slice.Zip.{zip_turn}
+use Rattle.reading.specs.Numerals.{joined}
+use Rattle.sheet.proofs.Queries.{answer_more, answer_fits}
 use Rattle.sheet.proofs.answering.put_answers.Goals as goal
 
-pub loop-i-init : goal.loop-i-init
-loop-i-init c = (omega arith, omega arith, joined_none _ _ (omega arith))
+pub loop-address-init : goal.loop-address-init
+unfolding joined
+loop-address-init c = sym (append-nil _)
 
-pub overflow_cast-digs : goal.overflow_cast-digs
-overflow_cast-digs c = omega (arith, c.type_inv.digs c.loop-i.i)
+pub put_answer-requires : goal.put_answer-requires
+put_answer-requires c =
+    let q = c.args.queries in
+    let l = c.loop-address in
+    let turn =
+    zip_turn q.addresses.now q.places.now l.yielded c.into_iter-address-iterator.result l.address-iterator c.next.new.self c.next.result (cc) (cc)
+    l.yielded_by (c.in-Some.field-0-0, c.in-Some.field-0-1) c.in-Some.is c.next.ensures.steps in
+    (answer_fits _ _ _ _ (length l.yielded) _ q.lent turn.1 c.requires l.invariant, rw (turn.3 0) (q.lent.short (length l.yielded) turn.1))
 
-pub put_found-q-requires : goal.put_found-q-requires
-put_found-q-requires c =
-    (omega (arith, c.requires.0, wrote_length c.loop-i.invariant.2), c.requires.1.short c.loop-i.i (omega arith))
-
-pub loop-i-preserved : goal.loop-i-preserved
-loop-i-preserved c = (
-  omega arith,
-  omega (arith, wrote_up_to answer_bytes (length_answer _ _ _ _ _ (c.requires.1.short c.loop-i.i (omega arith))) c.put_found-q.ensures),
-  query_more _ _ _ _ c.loop-i.i c.lookup-found.ensures.exact c.loop-i.invariant.2 c.put_found-q.ensures,
-)
-
-pub shape_of-out : goal.shape_of-out
-shape_of-out c = wrote_length c.loop-i.invariant.2
-
-pub returns : goal.returns
-returns c =
-    let e : c.loop-i.i ≡ length c.args.digs.now = omega arith in
-    rw e at c.loop-i.invariant.2
+pub loop-address-preserved : goal.loop-address-preserved
+loop-address-preserved c =
+    let q = c.args.queries in
+    let l = c.loop-address in
+    let turn =
+    zip_turn q.addresses.now q.places.now l.yielded c.into_iter-address-iterator.result l.address-iterator c.next.new.self c.next.result (cc) (cc)
+    l.yielded_by (c.in-Some.field-0-0, c.in-Some.field-0-1) c.in-Some.is c.next.ensures.steps in
+    rw length_push
+    (answer_more _ _ _ _ (length l.yielded) _ (turn.2 0) (turn.3 0) (c.from-answer.ensures ∙ c.find.ensures.exact) l.invariant c.put_answer.ensures)

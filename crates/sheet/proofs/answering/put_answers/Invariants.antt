@@ -1,17 +1,10 @@
--- The first i answers were put.
-use Prim.Native.Nat.{◌+◌, ◌-◌, ◌*◌, ◌≤◌}
-use lib.ListN.{length}
-use Rattle.walk.specs.Rows.{lists}
-use Rattle.reading.specs.Numerals.{joined}
-use Rattle.sheet.specs.Printing.{Wrote}
-use Rattle.sheet.specs.Answers.{query_lines, hop_for, length_for, reads_for}
-use Rattle.sheet.specs.Limits.{answer_bytes}
+-- The answers so far were put.
+use Rattle.std.proofs.Common.{◌≡◌, ◌++◌, length}
+use Rattle.walk.specs.Lent.{lent}
+use Rattle.sheet.proofs.Queries.{first_answers}
 use Rattle.sheet.proofs.answering.put_answers.Given as goal
 
-abbrev pub invariant-loop-i : goal.invariant-loop-i
-invariant-loop-i l = let rows = lists l.hop l.lens l.link l.stride in
-    (l.i ≤ length l.digs) × (l.q ≤ l.p + l.i * answer_bytes)
-    × Wrote l.initial.out l.p (joined (query_lines (hop_for l.rec rows) (length_for l.rec rows) (reads_for l.rec rows) l.adds l.digs) l.i) l.out l.q
-
-abbrev pub decreases-loop-i : goal.decreases-loop-i
-decreases-loop-i l = length l.digs - l.i
+abbrev pub invariant-loop-address : goal.invariant-loop-address
+invariant-loop-address l =
+    l.page.items
+    ≡ l.initial.page.items ++ first_answers l.built.record (lent l.built.rows) l.queries.addresses.now l.queries.places.now (length l.yielded)

@@ -1,19 +1,12 @@
--- Three runs of bytes, one after the other.
-use native.Mathlib.Omega.{arith}
-use lib.Dec.{lit≤}
-use lib.ListN.{length}
-use Rattle.reading.specs.Keys.{address_key}
-use Rattle.reading.specs.Numerals.{bits_line_of}
-use Rattle.sheet.proofs.Writing.{wrote_then, length_binary}
-use Rattle.sheet.proofs.Writing.{wrote_up_to}
+use Rattle.std.proofs.Common.{◌≡◌, arith, length, append_assoc}
+use Rattle.std.proofs.lemmas.Grind.{common_steps}
+use Rattle.reading.specs.Numerals.{binary, bits_line_of}
+use Rattle.sheet.proofs.Writing.{length_binary}
 use Rattle.sheet.proofs.printing.put_address.Goals as goal
 
-pub put-requires : goal.put-requires
-put-requires c =
-    let a = c.args in
-    omega (arith, wrote_up_to (length address_key) (lit≤ tt) c.put-q.ensures, wrote_up_to a.n (omega (arith, length_binary a.n a.v)) c.put_bits-e.ensures)
+pub push-requires : goal.push-requires
+push-requires c = let d : length (binary c.args.n c.args.v) ≡ c.args.n = length_binary c.args.n c.args.v in grind (arith, common_steps, d)
 
 pub returns : goal.returns
 unfolding bits_line_of
-returns c =
-    wrote_then (wrote_then c.put-q.ensures c.put_bits-e.ensures) c.put.ensures
+returns c = grind (arith, common_steps, append_assoc)

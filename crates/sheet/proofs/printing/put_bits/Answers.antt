@@ -1,28 +1,12 @@
-use mathlib.Core.Path.{refl, sym, ◌∙◌}
-use native.Mathlib.Omega.{arith}
-use native.Mathlib.Nat.{mod-lt}
-use lib.ListN.{length-set}
-use lib.Dec.{lit<}
-use Rattle.sheet.proofs.Writing.{length_binary, bits_go, bits_end}
+use Rattle.std.proofs.Common.{arith, ◌∙◌}
+use Rattle.sheet.proofs.Writing.{bits_none, bits_more, bits_fit}
 use Rattle.sheet.proofs.printing.put_bits.Goals as goal
 
 pub loop-i-init : goal.loop-i-init
-loop-i-init c = (omega arith, refl, refl)
+loop-i-init c = (omega arith, bits_none _ _ _ (omega arith))
 
-pub overflow_cast-out : goal.overflow_cast-out
-overflow_cast-out c = omega (arith, mod-lt c.loop-i.rest {m = 2} (lit< tt))
-
-pub overflow_add-out : goal.overflow_add-out
-overflow_add-out c = omega (arith, mod-lt c.loop-i.rest {m = 2} (lit< tt))
+pub push-requires : goal.push-requires
+push-requires c = (omega arith, omega (arith, bits_fit _ _ _ _ c.args.v c.loop-i.invariant.0 c.loop-i.invariant.1))
 
 pub loop-i-preserved : goal.loop-i-preserved
-loop-i-preserved c =
-    (omega arith, simp length-set c.loop-i.invariant.1, bits_go _ _ _ _ (omega arith) ∙ c.loop-i.invariant.2)
-
-pub returns : goal.returns
-returns c =
-    record {
-      next = omega (arith, length_binary c.args.n c.args.v);
-      text = sym (bits_end _ _ _ _ (omega arith)) ∙ c.loop-i.invariant.2;
-      room = omega arith;
-    }
+loop-i-preserved c = (omega arith, c.push.ensures.items ∙ bits_more _ _ _ _ _ (omega arith) c.loop-i.invariant.0 c.loop-i.invariant.1)

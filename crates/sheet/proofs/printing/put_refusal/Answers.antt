@@ -1,14 +1,15 @@
--- Two lines, one after the other.
-use native.Mathlib.Omega.{arith}
-use Rattle.sheet.specs.Keys.{refusal_key}
+use Rattle.std.proofs.Common.{arith, length, append_assoc, ◌≤◌}
+use Rattle.std.proofs.lemmas.Grind.{common_steps}
+use Rattle.reading.specs.Limits.{decimal_digits}
+use Rattle.reading.specs.Numerals.{line_of, decimal}
 use Rattle.sheet.specs.Printing.{refusal_lines}
-use Rattle.sheet.proofs.Writing.{wrote_then, length_line}
-use Rattle.sheet.proofs.Writing.{wrote_up_to}
+use Rattle.sheet.proofs.Writing.{length_decimal}
 use Rattle.sheet.proofs.printing.put_refusal.Goals as goal
 
-pub put_line-requires : goal.put_line-requires
-put_line-requires c = omega (arith, wrote_up_to 29 (length_line refusal_key _) c.put_line-q.ensures)
+pub put_line-requires-2 : goal.put_line-requires-2
+unfolding line_of
+put_line-requires-2 c = let d : length (decimal c.args.number) ≤ decimal_digits = length_decimal c.args.number in grind (arith, common_steps, d)
 
 pub returns : goal.returns
 unfolding refusal_lines
-returns c = wrote_then c.put_line-q.ensures c.put_line.ensures
+returns c = grind (arith, common_steps, append_assoc)

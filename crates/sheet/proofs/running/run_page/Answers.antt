@@ -1,19 +1,13 @@
--- The report of what stands on the page is that of the whole text.
-use mathlib.Core.Path.{sym, ap}
-use Prim.Native.Nat.{ℕ}
-use native.Mathlib.Omega.{arith}
-use native.Mathlib.Nat.{sub-zero}
-use lib.ListN.{take}
-use lib.Seq.{take_all}
-use Rattle.sheet.proofs.Runs.{page_ran, page_reports, wrote_counts}
+-- The report of what stands on the page is that of the whole text, and a page has room for it.
+use Rattle.std.proofs.Common.{arith}
+use Rattle.sheet.proofs.Room.{run_writes}
+use Rattle.sheet.proofs.Runs.{page_ran, page_reports}
 use Rattle.sheet.proofs.running.run_page.Goals as goal
 
-pub returns-then-n-lt-PAGE : goal.returns-then-n-lt-PAGE
-returns-then-n-lt-PAGE c = let a = c.args in
-    let is = ap (λ (k : ℕ). take k a.page.now) (sub-zero a.n) in
-    let w = c.put_run.ensures in record { exact = page_ran _ a.n is w; meaning = page_reports _ a.n is w; fits = wrote_counts w w.room }
+pub unwrap-requires : goal.unwrap-requires
+unwrap-requires c = rw (run_writes (omega arith) c.run.ensures.exact)
 
 pub returns : goal.returns
-returns c = let a = c.args in
-    let is = sym (take_all a.n a.page.now (omega (arith, c.if-n-lt-PAGE.false))) in
-    let w = c.put_run-2.ensures in record { exact = page_ran _ a.n is w; meaning = page_reports _ a.n is w; fits = wrote_counts w w.room }
+returns c =
+    let ran = rw (c.unwrap.ensures, c.min.ensures) at c.run.ensures.exact in
+    record { exact = page_ran _ c.args.n c.told-page ran; meaning = page_reports _ c.args.n c.told-page ran; fits = rw c.unwrap.ensures at c.run.ensures.fits }
