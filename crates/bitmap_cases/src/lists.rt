@@ -1,158 +1,128 @@
-// The five lists of a line, and what a `record` line gives for them: rows of four numbers, then hops.
-use visits::Bitmap;
+// The five lists of supernodes: how many places of each a line lends, and the rows of four numbers, then the hops, that a `record` line
+// gives for them.
+use cases::{HOP_ROWS, SUPERNODES, Text, front, front_mut};
+use std::alloc::{AllocError, Global};
+use visits::{Supernodes, SupernodesMut};
 
-// The lengths of the four lists of rows and of the hop list, and the next place of the text.
-#[derive(Clone, Copy)]
-pub struct Lists {
+// The lengths of the four lists of rows and of the hop list; zeros before the first of a text.
+#[derive(Clone, Copy, Default)]
+pub(crate) struct Lengths {
     pub internal: usize,
     pub external: usize,
     pub child: usize,
     pub first: usize,
-    pub hop_rows: usize,
-    pub next: usize,
+    pub hops: usize,
 }
 
-// A record and its lists, as a line gives them.
-#[derive(Clone, Copy)]
-pub struct Given {
-    pub record: Bitmap,
-    pub lists: Lists,
-}
+impl Lengths {
+    pub(crate) fn read(text: &mut Text) -> Lengths {
+        Lengths {
+            internal: text.number() as usize,
+            external: text.number() as usize,
+            child: text.number() as usize,
+            first: text.number() as usize,
+            hops: text.number() as usize,
+        }
+    }
 
-// The four numbers of a row, and the next place of the text.
-#[derive(Clone, Copy)]
-struct Row {
-    internal: u16,
-    external: u16,
-    child: u32,
-    first: u32,
-    next: usize,
-}
-
-pub(crate) fn lists_at(text: &[u8], at: usize) -> Lists {
-    let internal = cases::number(text, at);
-    let external = cases::number(text, internal.next);
-    let child = cases::number(text, external.next);
-    let first = cases::number(text, child.next);
-    let hop_rows = cases::number(text, first.next);
-    Lists {
-        internal: internal.value as usize,
-        external: external.value as usize,
-        child: child.value as usize,
-        first: first.value as usize,
-        hop_rows: hop_rows.value as usize,
-        next: hop_rows.next,
+    // Whether a list of rows, or the hop list, is longer than that. (Each struct of lengths has such a test of its own: they have other
+    // lists.)
+    pub(crate) fn is_longer(self, rows: usize, hops: usize) -> bool {
+        let lists = [self.internal, self.external, self.child, self.first];
+        hops < self.hops || lists.iter().any(|&n| rows < n)
     }
 }
 
-// Whether a list of rows, or the hop list, is longer than that.
-pub(crate) fn is_longer(lists: Lists, rows: usize, hops: usize) -> bool {
-    if rows < lists.internal {
-        return true;
-    }
-    if rows < lists.external {
-        return true;
-    }
-    if rows < lists.child {
-        return true;
-    }
-    if rows < lists.first {
-        return true;
-    }
-    hops < lists.hop_rows
+// Room for supernodes, and how many places of each list a line lends. (Lists with a length beside them: past it stand rows of lines
+// before, which a later line may lend again.)
+#[derive(Drop)]
+pub(crate) struct Room {
+    pub lent: Lengths,
+    pub internal: Vec<u16>,
+    pub external: Vec<u16>,
+    pub child: Vec<u32>,
+    pub first: Vec<u32>,
+    pub hops: Vec<u16>,
 }
 
-pub(crate) fn given_at(text: &[u8], at: usize) -> Given {
-    let width = cases::number(text, at);
-    let supernodes = cases::number(text, width.next);
-    let hops = cases::number(text, supernodes.next);
-    Given {
-        record: Bitmap {
-            width: cases::held32(width.value),
-            supernodes: cases::held32(supernodes.value),
-            hops: cases::held32(hops.value),
-        },
-        lists: lists_at(text, hops.next),
+impl Room {
+    pub(crate) fn new(alloc: Global) -> Result<Room, AllocError> {
+        Ok(Room {
+            lent: Lengths::default(),
+            internal: vec![in alloc; 0; SUPERNODES]?,
+            external: vec![in alloc; 0; SUPERNODES]?,
+            child: vec![in alloc; 0; SUPERNODES]?,
+            first: vec![in alloc; 0; SUPERNODES]?,
+            hops: vec![in alloc; 0; HOP_ROWS]?,
+        })
     }
-}
 
-fn row_at(text: &[u8], at: usize) -> Row {
-    let internal = cases::number(text, at);
-    let external = cases::number(text, internal.next);
-    let child = cases::number(text, external.next);
-    let first = cases::number(text, child.next);
-    Row {
-        internal: cases::held16(internal.value),
-        external: cases::held16(external.value),
-        child: cases::held32(child.value),
-        first: cases::held32(first.value),
-        next: first.next,
+    // What is lent of the five lists.
+    pub(crate) fn rows(&self) -> Supernodes<'_> {
+        let lent = self.lent;
+        Supernodes {
+            internal: front(&self.internal, lent.internal),
+            external: front(&self.external, lent.external),
+            child: front(&self.child, lent.child),
+            first: front(&self.first, lent.first),
+            hops: front(&self.hops, lent.hops),
+        }
     }
-}
 
-// How many hops the text gives: the number stands behind the rows, which are passed over and not kept, so that a bad
-// line changes nothing.
-fn hops_past(text: &[u8], at: usize, rows: usize) -> usize {
-    let mut next = at;
-    let mut i = 0;
-    while i < rows {
-        next = row_at(text, next).next;
-        i += 1;
+    // The same, to be written.
+    pub(crate) fn lend(&mut self) -> SupernodesMut<'_> {
+        let lent = self.lent;
+        SupernodesMut {
+            internal: front_mut(&mut self.internal, lent.internal),
+            external: front_mut(&mut self.external, lent.external),
+            child: front_mut(&mut self.child, lent.child),
+            first: front_mut(&mut self.first, lent.first),
+            hops: front_mut(&mut self.hops, lent.hops),
+        }
     }
-    cases::number(text, next).value as usize
-}
 
-// Whether the rows or the hops that the text gives next are more than the room, or a list is longer than what is given for it.
-pub(crate) fn is_unfit(text: &[u8], lists: Lists, room: usize, hop_room: usize) -> bool {
-    let head = cases::number(text, lists.next);
-    let rows = head.value as usize;
-    if room < rows {
-        return true;
+    // Fills what is lent with nines.
+    pub(crate) fn mark(&mut self) {
+        let rows = self.lend();
+        rows.internal.fill(9);
+        rows.external.fill(9);
+        rows.child.fill(9);
+        rows.first.fill(9);
+        rows.hops.fill(9);
     }
-    let hops = hops_past(text, head.next, rows);
-    if hop_room < hops {
-        return true;
-    }
-    is_longer(lists, rows, hops)
-}
 
-// Reads how many rows there are, then the rows, as many as the shortest list has places; returns the place past them.
-pub(crate) fn read_rows(
-    text: &[u8],
-    at: usize,
-    internal: &mut [u16],
-    external: &mut [u16],
-    child: &mut [u32],
-    first: &mut [u32],
-) -> usize {
-    let head = cases::number(text, at);
-    let room = cases::least_of_four(internal.len(), external.len(), child.len(), first.len());
-    let n = cases::least(head.value as usize, room);
-    let mut next = head.next;
-    let mut i = 0;
-    while i < n {
-        let row = row_at(text, next);
-        internal[i] = row.internal;
-        external[i] = row.external;
-        child[i] = row.child;
-        first[i] = row.first;
-        next = row.next;
-        i += 1;
+    // Whether the rows or the hops that the text gives next are more than the room, or a list is longer than what is given for it.
+    // The hops stand behind the rows, which are passed over and not kept, so that a bad line changes nothing.
+    pub(crate) fn is_unfit(&self, text: Text, lengths: Lengths) -> bool {
+        let mut text = text;
+        let rows = text.number() as usize;
+        if self.internal.len() < rows {
+            return true;
+        }
+        text.pass_rows(rows);
+        let hops = text.number() as usize;
+        self.hops.len() < hops || lengths.is_longer(rows, hops)
     }
-    next
-}
 
-// The same of the hops.
-pub(crate) fn read_hops(text: &[u8], at: usize, hop_rows: &mut [u16]) -> usize {
-    let head = cases::number(text, at);
-    let n = cases::least(head.value as usize, hop_rows.len());
-    let mut next = head.next;
-    let mut i = 0;
-    while i < n {
-        let hop = cases::number(text, next);
-        hop_rows[i] = cases::held16(hop.value);
-        next = hop.next;
-        i += 1;
+    // Reads how many rows there are, then the rows, as many as the shortest list has places.
+    pub(crate) fn read_rows(&mut self, text: &mut Text) {
+        let count = text.number() as usize;
+        let maps = self.internal.iter_mut().zip(self.external.iter_mut());
+        let numbers = self.child.iter_mut().zip(self.first.iter_mut());
+        for ((internal, external), (child, first)) in maps.zip(numbers).take(count) {
+            *internal = text.held();
+            *external = text.held();
+            *child = text.held();
+            *first = text.held();
+        }
     }
-    next
+
+    // The same of the hops. (rule_cases' `read_list` is the same of numbers: one of both would be a public call with a clause and a
+    // definition, for these four lines.)
+    pub(crate) fn read_hops(&mut self, text: &mut Text) {
+        let count = text.number() as usize;
+        for hop in self.hops.iter_mut().take(count) {
+            *hop = text.held();
+        }
+    }
 }

@@ -11,403 +11,127 @@
 mod lists;
 mod saying;
 
-use cases::Held;
-use lists::{Lists, given_at, is_longer, is_unfit, lists_at, read_hops, read_rows};
-use printing::{read_page, say, say_answer};
-use saying::{print, say_built, sweep};
+use cases::{Table, Text, front, front_mut};
+use lists::{Lengths, Room};
+use printing::{
+    Lookup, Program, bad_line, entries, rising_line, run, say_answer, say_outcome, say_scratch,
+    sweep, table_line,
+};
+use saying::{print, say_kept, say_record};
+use std::alloc::{AllocError, Global};
 use std::io;
+use supernodes::{build_bitmap, lookup_bitmap};
+use table::Refusal;
 use visits::Bitmap;
+use walk::{Answer, LookupRefusal};
 
-// The table, the record and its lists for the lines below, and the next place of the text.
-#[derive(Clone, Copy)]
-struct State {
-    held: Held,
+// What the lines so far have left: the table, scratch, and the record and its lists.
+#[derive(Drop)]
+struct Builds {
+    table: Table,
+    scratch: Vec<u64>,
     record: Bitmap,
-    lists: Lists,
-    at: usize,
+    room: Room,
 }
 
-// The word that begins a line.
-#[derive(Clone, Copy)]
-enum Word {
-    Table,
-    Rising,
-    Build,
-    Record,
-    Print,
-    Look,
-    Sweep,
-    Other,
+impl Builds {
+    // Before the first case: no table, a record of zeros, no rows.
+    fn new(alloc: Global) -> Result<Builds, AllocError> {
+        Ok(Builds {
+            table: Table::new(alloc)?,
+            scratch: vec![in alloc; 0; cases::SCRATCH]?,
+            record: Bitmap::default(),
+            room: Room::new(alloc)?,
+        })
+    }
+
+    // Builds in so many places of scratch, and in what is lent of the five lists.
+    fn build(&mut self, places: usize) -> Result<Bitmap, Refusal> {
+        let held = self.table.held;
+        let scratch = front_mut(&mut self.scratch, places);
+        let mut rows = self.room.lend();
+        build_bitmap(
+            held.width,
+            held.links,
+            entries(&self.table),
+            scratch,
+            &mut rows,
+        )
+    }
+
+    // Lends as many places of scratch and of the five lists as the line says.
+    fn build_line(&mut self, out: &impl Print, text: &mut Text) -> io::Result<()> {
+        let mut rest = *text;
+        let places = rest.number() as usize;
+        let lent = Lengths::read(&mut rest);
+        let unfit = lent.is_longer(self.room.internal.len(), self.room.hops.len());
+        if self.scratch.len() < places || unfit {
+            return bad_line(out, text);
+        }
+        *text = rest;
+        front_mut(&mut self.scratch, places).fill(7);
+        self.room.lent = lent;
+        self.room.mark();
+        let built = self.build(places);
+        self.record = built.unwrap_or_default();
+        say_outcome(out, built)?;
+        say_record(out, self.record)?;
+        say_scratch(out, front(&self.scratch, places))?;
+        say_kept(out, self.record, self.room.rows())
+    }
+
+    // A record, rows and hops of its own.
+    fn record_line(&mut self, out: &impl Print, text: &mut Text) -> io::Result<()> {
+        let mut rest = *text;
+        let record = Bitmap {
+            width: rest.held(),
+            supernodes: rest.held(),
+            hops: rest.held(),
+        };
+        let lent = Lengths::read(&mut rest);
+        if self.room.is_unfit(rest, lent) {
+            return bad_line(out, text);
+        }
+        *text = rest;
+        self.record = record;
+        self.room.lent = lent;
+        self.room.read_rows(text);
+        self.room.read_hops(text);
+        print!(out; "record")
+    }
+
+    // The rows and hops within the last record's counts.
+    fn print_line(&self, out: &impl Print, text: &mut Text) -> io::Result<()> {
+        text.seek(b'\n', b'\n');
+        print(out, self.record, self.room.rows())
+    }
 }
 
-fn mark_lists(
-    scratch: &mut [u64],
-    internal: &mut [u16],
-    external: &mut [u16],
-    child: &mut [u32],
-    first: &mut [u32],
-    hop_rows: &mut [u16],
-) {
-    cases::fill64(scratch, 7);
-    cases::fill16(internal, 9);
-    cases::fill16(external, 9);
-    cases::fill32(child, 9);
-    cases::fill32(first, 9);
-    cases::fill16(hop_rows, 9);
+impl Lookup for Builds {
+    // What the last record and its lists answer for an address.
+    fn lookup(&self, address: u32) -> Result<Answer, LookupRefusal> {
+        lookup_bitmap(self.record, self.room.rows(), address)
+    }
 }
 
-fn built(
-    out: &impl Print,
-    width: u32,
-    links: u16,
-    values: &[u32],
-    lengths: &[u8],
-    hops: &[u16],
-    scratch: &mut [u64],
-    internal: &mut [u16],
-    external: &mut [u16],
-    child: &mut [u32],
-    first: &mut [u32],
-    hop_rows: &mut [u16],
-) -> io::Result<Bitmap> {
-    mark_lists(scratch, internal, external, child, first, hop_rows);
-    let built = supernodes::build_bitmap(
-        width, links, values, lengths, hops, scratch, internal, external, child, first, hop_rows,
-    );
-    say_built(
-        out, built, scratch, internal, external, child, first, hop_rows,
-    )
-}
-
-fn build_held(
-    out: &impl Print,
-    held: Held,
-    values: &[u32],
-    lengths: &[u8],
-    hops: &[u16],
-    scratch: &mut [u64],
-    internal: &mut [u16],
-    external: &mut [u16],
-    child: &mut [u32],
-    first: &mut [u32],
-    hop_rows: &mut [u16],
-) -> io::Result<Bitmap> {
-    let v = cases::front32(values, held.values);
-    let l = cases::front8(lengths, held.lengths);
-    let h = cases::front16(hops, held.hops);
-    built(
-        out, held.width, held.links, v, l, h, scratch, internal, external, child, first, hop_rows,
-    )
-}
-
-fn word_at(text: &[u8], at: usize) -> Word {
-    if cases::is_word(text, at, b"table") {
-        return Word::Table;
-    }
-    if cases::is_word(text, at, b"rising") {
-        return Word::Rising;
-    }
-    if cases::is_word(text, at, b"bitmap") {
-        return Word::Build;
-    }
-    if cases::is_word(text, at, b"record") {
-        return Word::Record;
-    }
-    if cases::is_word(text, at, b"print") {
-        return Word::Print;
-    }
-    if cases::is_word(text, at, b"look") {
-        return Word::Look;
-    }
-    if cases::is_word(text, at, b"sweep") {
-        return Word::Sweep;
-    }
-    Word::Other
-}
-
-// Says that the line is bad, and passes it over.
-fn bad_line(out: &impl Print, text: &[u8], at: usize, state: State) -> io::Result<State> {
-    say(out, b"bad line")?;
-    let mut next = state;
-    next.at = cases::seek(text, at, b'\n', b'\n');
-    Ok(next)
-}
-
-// Lends as many places of scratch and of the five lists as the line says.
-fn build_line(
-    out: &impl Print,
-    text: &[u8],
-    at: usize,
-    state: State,
-    values: &[u32],
-    lengths: &[u8],
-    hops: &[u16],
-    scratch: &mut [u64],
-    internal: &mut [u16],
-    external: &mut [u16],
-    child: &mut [u32],
-    first: &mut [u32],
-    hop_rows: &mut [u16],
-) -> io::Result<State> {
-    let held = state.held;
-    let places = cases::number(text, at);
-    let lists = lists_at(text, places.next);
-    if scratch.len() < places.value as usize {
-        return bad_line(out, text, at, state);
-    }
-    if is_longer(lists, internal.len(), hop_rows.len()) {
-        return bad_line(out, text, at, state);
-    }
-    let n = cases::least(places.value as usize, scratch.len());
-    let a = cases::least(lists.internal, internal.len());
-    let b = cases::least(lists.external, external.len());
-    let c = cases::least(lists.child, child.len());
-    let d = cases::least(lists.first, first.len());
-    let e = cases::least(lists.hop_rows, hop_rows.len());
-    let record = build_held(
-        out,
-        held,
-        values,
-        lengths,
-        hops,
-        &mut scratch[0..n],
-        &mut internal[0..a],
-        &mut external[0..b],
-        &mut child[0..c],
-        &mut first[0..d],
-        &mut hop_rows[0..e],
-    )?;
-    Ok(State {
-        held,
-        record,
-        lists,
-        at: lists.next,
-    })
-}
-
-// A record, rows and hops of its own.
-fn record_line(
-    out: &impl Print,
-    text: &[u8],
-    at: usize,
-    state: State,
-    internal: &mut [u16],
-    external: &mut [u16],
-    child: &mut [u32],
-    first: &mut [u32],
-    hop_rows: &mut [u16],
-) -> io::Result<State> {
-    let held = state.held;
-    let given = given_at(text, at);
-    let record = given.record;
-    let lists = given.lists;
-    if is_unfit(text, lists, internal.len(), hop_rows.len()) {
-        return bad_line(out, text, at, state);
-    }
-    let past = read_rows(text, lists.next, internal, external, child, first);
-    let end = read_hops(text, past, hop_rows);
-    say(out, b"record")?;
-    Ok(State {
-        held,
-        record,
-        lists,
-        at: end,
-    })
-}
-
-// Another table for the builds below; the record and its lists stay.
-fn table_line(
-    out: &impl Print,
-    text: &[u8],
-    at: usize,
-    state: State,
-    values: &mut [u32],
-    lengths: &mut [u8],
-    hops: &mut [u16],
-) -> io::Result<State> {
-    if cases::is_bad_table(text, at, values.len()) {
-        return bad_line(out, text, at, state);
-    }
-    say(out, b"table")?;
-    let held = cases::table_line(text, at, values, lengths, hops);
-    let mut next = state;
-    next.held = held;
-    next.at = held.at;
-    Ok(next)
-}
-
-// The same of a table that the line has made.
-fn rising_line(
-    out: &impl Print,
-    text: &[u8],
-    at: usize,
-    state: State,
-    values: &mut [u32],
-    lengths: &mut [u8],
-    hops: &mut [u16],
-) -> io::Result<State> {
-    if cases::is_bad_rising(text, at, values.len()) {
-        return bad_line(out, text, at, state);
-    }
-    say(out, b"rising")?;
-    let held = cases::rising_line(text, at, values, lengths, hops);
-    let mut next = state;
-    next.held = held;
-    next.at = held.at;
-    Ok(next)
-}
-
-// A question about the last record and its lists: `print`, `look` or `sweep`.
-fn ask(
-    out: &impl Print,
-    text: &[u8],
-    at: usize,
-    word: Word,
-    state: State,
-    internal: &[u16],
-    external: &[u16],
-    child: &[u32],
-    first: &[u32],
-    hop_rows: &[u16],
-) -> io::Result<usize> {
-    let record = state.record;
-    let lists = state.lists;
-    let i = cases::front16(internal, lists.internal);
-    let e = cases::front16(external, lists.external);
-    let c = cases::front32(child, lists.child);
-    let f = cases::front32(first, lists.first);
-    let h = cases::front16(hop_rows, lists.hop_rows);
-    if let Word::Print = word {
-        print(out, record, i, e, c, f, h)?;
-        return Ok(cases::seek(text, at, b'\n', b'\n'));
-    }
-    let number = cases::number(text, at);
-    let address = cases::held32(number.value);
-    if let Word::Sweep = word {
-        sweep(out, address, record, i, e, c, f, h)?;
-        return Ok(number.next);
-    }
-    say_answer(
-        out,
-        supernodes::lookup_bitmap(record, i, e, c, f, h, address),
-    )?;
-    Ok(number.next)
-}
-
-// One case: the first word of the next line says which.
-fn line(
-    out: &impl Print,
-    text: &[u8],
-    state: State,
-    values: &mut [u32],
-    lengths: &mut [u8],
-    hops: &mut [u16],
-    scratch: &mut [u64],
-    internal: &mut [u16],
-    external: &mut [u16],
-    child: &mut [u32],
-    first: &mut [u32],
-    hop_rows: &mut [u16],
-) -> io::Result<State> {
-    let end = cases::seek(text, state.at, b'\n', b'\n');
-    let at = cases::seek(text, end, b'!', b'~');
-    let word = word_at(text, at);
-    match word {
-        Word::Table => table_line(out, text, at, state, values, lengths, hops),
-        Word::Rising => rising_line(out, text, at, state, values, lengths, hops),
-        Word::Build => build_line(
-            out, text, at, state, values, lengths, hops, scratch, internal, external, child, first,
-            hop_rows,
-        ),
-        Word::Record => record_line(
-            out, text, at, state, internal, external, child, first, hop_rows,
-        ),
-        Word::Other => bad_line(out, text, at, state),
-        _ => {
-            let mut next = state;
-            next.at = ask(
-                out, text, at, word, state, internal, external, child, first, hop_rows,
-            )?;
-            Ok(next)
+impl Program for Builds {
+    fn line<W: Print>(&mut self, out: &W, text: &mut Text) -> io::Result<()> {
+        text.seek(b'\n', b'\n');
+        text.seek(b'!', b'~');
+        match text.word() {
+            b"table" => table_line(out, text, &mut self.table),
+            b"rising" => rising_line(out, text, &mut self.table),
+            b"bitmap" => self.build_line(out, text),
+            b"record" => self.record_line(out, text),
+            b"print" => self.print_line(out, text),
+            b"look" => say_answer(out, self.lookup(text.held())),
+            b"sweep" => sweep(out, text.held(), self),
+            _ => bad_line(out, text),
         }
     }
 }
 
-// Before the first case: no table, a record of zeros, no rows.
-fn start(at: usize) -> State {
-    let held = cases::no_table(at);
-    State {
-        held,
-        record: Bitmap {
-            width: 0,
-            supernodes: 0,
-            hops: 0,
-        },
-        lists: Lists {
-            internal: 0,
-            external: 0,
-            child: 0,
-            first: 0,
-            hop_rows: 0,
-            next: at,
-        },
-        at,
-    }
-}
-
-fn run(
-    out: &impl Print,
-    text: &[u8],
-    values: &mut [u32],
-    lengths: &mut [u8],
-    hops: &mut [u16],
-    scratch: &mut [u64],
-    internal: &mut [u16],
-    external: &mut [u16],
-    child: &mut [u32],
-    first: &mut [u32],
-    hop_rows: &mut [u16],
-) -> io::Result<()> {
-    let count = cases::number(text, 0);
-    let mut state = start(count.next);
-    let mut left = count.value;
-    while left > 0 {
-        state = line(
-            out, text, state, values, lengths, hops, scratch, internal, external, child, first,
-            hop_rows,
-        )?;
-        say(out, b"\n")?;
-        left -= 1;
-    }
-    Ok(())
-}
-
 fn main(rt: HostRuntime) -> io::Result<()> {
-    let mut page = cases::page();
-    let n = read_page(&mut rt.stdin(), &mut page)?;
-    if n == page.len() {
-        return say(&rt, b"text too long\n");
-    }
-    let mut values = cases::values();
-    let mut lengths = cases::lengths();
-    let mut hops = cases::hops();
-    let mut scratch = cases::scratch();
-    let mut internal = cases::maps();
-    let mut external = cases::maps();
-    let mut child = cases::firsts();
-    let mut first = cases::firsts();
-    let mut hop_rows = cases::hop_rows();
-    run(
-        &rt,
-        &page[..n],
-        &mut values,
-        &mut lengths,
-        &mut hops,
-        &mut scratch,
-        &mut internal,
-        &mut external,
-        &mut child,
-        &mut first,
-        &mut hop_rows,
-    )
+    let mut builds = Builds::new(rt.alloc())?;
+    run(&rt, &mut rt.stdin(), rt.alloc(), &mut builds)
 }

@@ -9,536 +9,130 @@
 // and changes nothing. A text that fills the page is answered `text too long`.
 #![tactic(auto)]
 
-use cases::{FourLengths, Held, element_rows, four_at, is_past, no_lists};
+use cases::{ElementRows, FourLengths, Table, Text, front, front_mut};
 use printing::{
-    read_page, say, say_answer, say_elements, say_kept_rows, say_outcome, say_scratch, say_swept,
-    say_trie_record,
+    Lookup, Program, bad_line, entries, lent_rows, mark_rows, rising_line, run, say_answer,
+    say_elements, say_kept_rows, say_outcome, say_scratch, say_trie_record, sweep, table_line,
+    trie_record,
 };
+use std::alloc::{AllocError, Global};
 use std::io;
-use tries::{Built, Kind, Record};
+use table::Refusal;
+use tries::Kind;
+use walk::{Answer, LookupRefusal, Record, RowsMut};
 
-// The table, the record and the lengths of the element lists of the lines below, and the next place of the text.
-#[derive(Clone, Copy)]
-struct State {
-    held: Held,
+// What the lines so far have left: the table, scratch, and the record and its rows.
+#[derive(Drop)]
+struct Builds {
+    table: Table,
+    scratch: Vec<u64>,
     record: Record,
-    lists: FourLengths,
-    at: usize,
+    rows: ElementRows,
 }
 
-// The word that begins a line.
-#[derive(Clone, Copy)]
-enum Word {
-    Table,
-    Rising,
-    Build(Kind),
-    Record,
-    Print,
-    Look,
-    Sweep,
-    Other,
-}
+impl Builds {
+    fn new(alloc: Global) -> Result<Builds, AllocError> {
+        Ok(Builds {
+            table: Table::new(alloc)?,
+            scratch: vec![in alloc; 0; cases::SCRATCH]?,
+            record: Record::default(),
+            rows: ElementRows::new(alloc)?,
+        })
+    }
 
-fn say_built(
-    out: &impl Print,
-    built: Built,
-    scratch: &[u64],
-    row_hops: &[u16],
-    row_lengths: &[u8],
-    row_links: &[u32],
-    row_strides: &[u8],
-) -> io::Result<Record> {
-    let outcome = built.outcome;
-    let record = built.record;
-    say_outcome(out, outcome)?;
-    say_trie_record(out, record)?;
-    say_scratch(out, scratch)?;
-    say_kept_rows(
-        out,
-        record.elements as usize,
-        row_hops,
-        row_lengths,
-        row_links,
-        row_strides,
-    )?;
-    Ok(record)
-}
-
-fn mark_lists(
-    scratch: &mut [u64],
-    row_hops: &mut [u16],
-    row_lengths: &mut [u8],
-    row_links: &mut [u32],
-    row_strides: &mut [u8],
-) {
-    cases::fill64(scratch, 7);
-    cases::fill16(row_hops, 9);
-    cases::fill8(row_lengths, 5);
-    cases::fill32(row_links, 9);
-    cases::fill8(row_strides, 9);
-}
-
-fn built(
-    out: &impl Print,
-    kind: Kind,
-    width: u32,
-    levels: u32,
-    links: u16,
-    values: &[u32],
-    lengths: &[u8],
-    hops: &[u16],
-    scratch: &mut [u64],
-    row_hops: &mut [u16],
-    row_lengths: &mut [u8],
-    row_links: &mut [u32],
-    row_strides: &mut [u8],
-) -> io::Result<Record> {
-    mark_lists(scratch, row_hops, row_lengths, row_links, row_strides);
-    let built = tries::build(
-        kind,
-        width,
-        levels,
-        links,
-        values,
-        lengths,
-        hops,
-        scratch,
-        row_hops,
-        row_lengths,
-        row_links,
-        row_strides,
-    );
-    say_built(
-        out,
-        built,
-        scratch,
-        row_hops,
-        row_lengths,
-        row_links,
-        row_strides,
-    )
-}
-
-fn build_held(
-    out: &impl Print,
-    kind: Kind,
-    levels: u32,
-    held: Held,
-    values: &[u32],
-    lengths: &[u8],
-    hops: &[u16],
-    scratch: &mut [u64],
-    row_hops: &mut [u16],
-    row_lengths: &mut [u8],
-    row_links: &mut [u32],
-    row_strides: &mut [u8],
-) -> io::Result<Record> {
-    let v = cases::front32(values, held.values);
-    let l = cases::front8(lengths, held.lengths);
-    let h = cases::front16(hops, held.hops);
-    built(
-        out,
-        kind,
-        held.width,
-        levels,
-        held.links,
-        v,
-        l,
-        h,
-        scratch,
-        row_hops,
-        row_lengths,
-        row_links,
-        row_strides,
-    )
-}
-
-fn word_at(text: &[u8], at: usize) -> Word {
-    if cases::is_word(text, at, b"table") {
-        return Word::Table;
-    }
-    if cases::is_word(text, at, b"rising") {
-        return Word::Rising;
-    }
-    if cases::is_word(text, at, b"fixed") {
-        return Word::Build(Kind::Fixed);
-    }
-    if cases::is_word(text, at, b"variable") {
-        return Word::Build(Kind::Variable);
-    }
-    if cases::is_word(text, at, b"record") {
-        return Word::Record;
-    }
-    if cases::is_word(text, at, b"print") {
-        return Word::Print;
-    }
-    if cases::is_word(text, at, b"look") {
-        return Word::Look;
-    }
-    if cases::is_word(text, at, b"sweep") {
-        return Word::Sweep;
-    }
-    Word::Other
-}
-
-// Says that the line is bad, and passes it over.
-fn bad_line(out: &impl Print, text: &[u8], state: State) -> io::Result<State> {
-    let at = state.at;
-    say(out, b"bad line")?;
-    let mut next = state;
-    next.at = cases::seek(text, at, b'\n', b'\n');
-    Ok(next)
-}
-
-// Lends as many places of scratch and of the element lists as the line says.
-fn build_line(
-    out: &impl Print,
-    text: &[u8],
-    kind: Kind,
-    state: State,
-    values: &[u32],
-    lengths: &[u8],
-    hops: &[u16],
-    scratch: &mut [u64],
-    row_hops: &mut [u16],
-    row_lengths: &mut [u8],
-    row_links: &mut [u32],
-    row_strides: &mut [u8],
-) -> io::Result<State> {
-    let at = state.at;
-    let held = state.held;
-    let levels = cases::number(text, at);
-    let places = cases::number(text, levels.next);
-    let lists = four_at(text, places.next);
-    if scratch.len() < places.value as usize {
-        return bad_line(out, text, state);
-    }
-    if is_past(lists, row_hops.len()) {
-        return bad_line(out, text, state);
-    }
-    let n = cases::least(places.value as usize, scratch.len());
-    let a = cases::least(lists.hops, row_hops.len());
-    let b = cases::least(lists.lengths, row_lengths.len());
-    let c = cases::least(lists.links, row_links.len());
-    let d = cases::least(lists.strides, row_strides.len());
-    let record = build_held(
-        out,
-        kind,
-        cases::held32(levels.value),
-        held,
-        values,
-        lengths,
-        hops,
-        &mut scratch[0..n],
-        &mut row_hops[0..a],
-        &mut row_lengths[0..b],
-        &mut row_links[0..c],
-        &mut row_strides[0..d],
-    )?;
-    Ok(State {
-        held,
-        record,
-        lists,
-        at: lists.next,
-    })
-}
-
-// A record's numbers: of its strides all but the first are the last number.
-fn record_at(text: &[u8], at: usize, held: Held) -> State {
-    let width = cases::number(text, at);
-    let levels = cases::number(text, width.next);
-    let elements = cases::number(text, levels.next);
-    let floor = cases::number(text, elements.next);
-    let stride = cases::number(text, floor.next);
-    let others = cases::number(text, stride.next);
-    let mut strides = [cases::held8(others.value); tries::LEVELS as usize];
-    strides[0] = cases::held8(stride.value);
-    let record = Record {
-        width: cases::held32(width.value),
-        levels: cases::held32(levels.value),
-        elements: cases::held32(elements.value),
-        floor: cases::held16(floor.value),
-        strides,
-    };
-    let lists = four_at(text, others.next);
-    State {
-        held,
-        record,
-        lists,
-        at: lists.next,
-    }
-}
-
-fn sweep(
-    out: &impl Print,
-    below: u32,
-    record: Record,
-    row_hops: &[u16],
-    row_lengths: &[u8],
-    row_links: &[u32],
-    row_strides: &[u8],
-) -> io::Result<()> {
-    say(out, b"sweep")?;
-    let mut address: u32 = 0;
-    while address < below {
-        say_swept(
-            out,
-            tries::lookup(
-                record,
-                row_hops,
-                row_lengths,
-                row_links,
-                row_strides,
-                address,
-            ),
-        )?;
-        address += 1;
-    }
-    Ok(())
-}
-
-// A question about the last record and its lists: `print`, `look` or `sweep`.
-fn ask(
-    out: &impl Print,
-    text: &[u8],
-    word: Word,
-    state: State,
-    row_hops: &[u16],
-    row_lengths: &[u8],
-    row_links: &[u32],
-    row_strides: &[u8],
-) -> io::Result<State> {
-    let at = state.at;
-    let record = state.record;
-    let lists = state.lists;
-    let mut next = state;
-    let h = cases::front16(row_hops, lists.hops);
-    let b = cases::front8(row_lengths, lists.lengths);
-    let l = cases::front32(row_links, lists.links);
-    let s = cases::front8(row_strides, lists.strides);
-    if let Word::Print = word {
-        say_elements(out, record.elements as usize, h, b, l, s)?;
-        next.at = cases::seek(text, at, b'\n', b'\n');
-        return Ok(next);
-    }
-    let number = cases::number(text, at);
-    next.at = number.next;
-    if let Word::Sweep = word {
-        sweep(out, cases::held32(number.value), record, h, b, l, s)?;
-        return Ok(next);
-    }
-    say_answer(
-        out,
-        tries::lookup(record, h, b, l, s, cases::held32(number.value)),
-    )?;
-    Ok(next)
-}
-
-// Whether the rows that the text gives next are more than the room, or one of the lists is longer than the rows.
-fn is_unfit(text: &[u8], lists: FourLengths, room: usize) -> bool {
-    let rows = cases::number(text, lists.next).value as usize;
-    if room < rows {
-        return true;
-    }
-    is_past(lists, rows)
-}
-
-// A record and rows of its own.
-fn record_line(
-    out: &impl Print,
-    text: &[u8],
-    state: State,
-    row_hops: &mut [u16],
-    row_lengths: &mut [u8],
-    row_links: &mut [u32],
-    row_strides: &mut [u8],
-) -> io::Result<State> {
-    let at = state.at;
-    let mut next = record_at(text, at, state.held);
-    if is_unfit(text, next.lists, row_hops.len()) {
-        return bad_line(out, text, state);
-    }
-    next.at = element_rows(text, next.at, row_hops, row_lengths, row_links, row_strides);
-    say(out, b"record")?;
-    Ok(next)
-}
-
-// Another table for the builds below; the record and its rows stay.
-fn table_line(
-    out: &impl Print,
-    text: &[u8],
-    state: State,
-    values: &mut [u32],
-    lengths: &mut [u8],
-    hops: &mut [u16],
-) -> io::Result<State> {
-    let at = state.at;
-    if cases::is_bad_table(text, at, values.len()) {
-        return bad_line(out, text, state);
-    }
-    say(out, b"table")?;
-    let held = cases::table_line(text, at, values, lengths, hops);
-    let mut next = state;
-    next.held = held;
-    next.at = held.at;
-    Ok(next)
-}
-
-// The same of a table that the line has made.
-fn rising_line(
-    out: &impl Print,
-    text: &[u8],
-    state: State,
-    values: &mut [u32],
-    lengths: &mut [u8],
-    hops: &mut [u16],
-) -> io::Result<State> {
-    let at = state.at;
-    if cases::is_bad_rising(text, at, values.len()) {
-        return bad_line(out, text, state);
-    }
-    say(out, b"rising")?;
-    let held = cases::rising_line(text, at, values, lengths, hops);
-    let mut next = state;
-    next.held = held;
-    next.at = held.at;
-    Ok(next)
-}
-
-// One case: the first word of the next line says which.
-fn line(
-    out: &impl Print,
-    text: &[u8],
-    before: State,
-    values: &mut [u32],
-    lengths: &mut [u8],
-    hops: &mut [u16],
-    scratch: &mut [u64],
-    row_hops: &mut [u16],
-    row_lengths: &mut [u8],
-    row_links: &mut [u32],
-    row_strides: &mut [u8],
-) -> io::Result<State> {
-    let end = cases::seek(text, before.at, b'\n', b'\n');
-    let mut state = before;
-    state.at = cases::seek(text, end, b'!', b'~');
-    let word = word_at(text, state.at);
-    match word {
-        Word::Table => table_line(out, text, state, values, lengths, hops),
-        Word::Rising => rising_line(out, text, state, values, lengths, hops),
-        Word::Build(kind) => build_line(
-            out,
-            text,
+    // Builds in so many places of scratch, and in what is lent of the element lists.
+    fn build(&mut self, kind: Kind, levels: u32, places: usize) -> Result<Record, Refusal> {
+        let held = self.table.held;
+        let lent = self.rows.lent;
+        let scratch = front_mut(&mut self.scratch, places);
+        let mut rows = RowsMut {
+            hop: front_mut(&mut self.rows.hops, lent.hops),
+            length: front_mut(&mut self.rows.lengths, lent.lengths),
+            link: front_mut(&mut self.rows.links, lent.links),
+            stride: front_mut(&mut self.rows.strides, lent.strides),
+        };
+        tries::build(
             kind,
-            state,
-            values,
-            lengths,
-            hops,
+            held.width,
+            levels,
+            held.links,
+            entries(&self.table),
             scratch,
-            row_hops,
-            row_lengths,
-            row_links,
-            row_strides,
-        ),
-        Word::Record => record_line(
-            out,
-            text,
-            state,
-            row_hops,
-            row_lengths,
-            row_links,
-            row_strides,
-        ),
-        Word::Other => bad_line(out, text, state),
-        _ => ask(
-            out,
-            text,
-            word,
-            state,
-            row_hops,
-            row_lengths,
-            row_links,
-            row_strides,
-        ),
+            &mut rows,
+        )
+    }
+
+    // Lends as many places of scratch and of the element lists as the line says.
+    fn build_line(&mut self, out: &impl Print, text: &mut Text, kind: Kind) -> io::Result<()> {
+        let mut rest = *text;
+        let levels = rest.held();
+        let places = rest.number() as usize;
+        let lent = FourLengths::read(&mut rest);
+        if self.scratch.len() < places || lent.is_past(self.rows.hops.len()) {
+            return bad_line(out, text);
+        }
+        *text = rest;
+        front_mut(&mut self.scratch, places).fill(7);
+        self.rows.lent = lent;
+        mark_rows(&mut self.rows);
+        let built = self.build(kind, levels, places);
+        self.record = built.unwrap_or_default();
+        say_outcome(out, built)?;
+        say_trie_record(out, self.record)?;
+        say_scratch(out, front(&self.scratch, places))?;
+        say_kept_rows(out, self.record.elements as usize, &self.rows)
+    }
+
+    // A record and rows of its own.
+    fn record_line(&mut self, out: &impl Print, text: &mut Text) -> io::Result<()> {
+        let mut rest = *text;
+        let record = trie_record(&mut rest);
+        let lent = FourLengths::read(&mut rest);
+        let mut ahead = rest;
+        let rows = ahead.number() as usize;
+        if self.rows.hops.len() < rows || lent.is_past(rows) {
+            return bad_line(out, text);
+        }
+        *text = rest;
+        self.record = record;
+        self.rows.lent = lent;
+        self.rows.read(text);
+        print!(out; "record")
+    }
+
+    // Rows 0 to E - 1 of the last record.
+    fn print(&self, out: &impl Print, text: &mut Text) -> io::Result<()> {
+        text.seek(b'\n', b'\n');
+        say_elements(out, self.record.elements as usize, &self.rows)
     }
 }
 
-// Before the first case: no table, a record of zeros, no rows.
-fn start(at: usize) -> State {
-    let held = cases::no_table(at);
-    State {
-        held,
-        record: Record {
-            width: 0,
-            levels: 0,
-            elements: 0,
-            floor: 0,
-            strides: [0; tries::LEVELS as usize],
-        },
-        lists: no_lists(at),
-        at,
+impl Lookup for Builds {
+    // What the last record and its rows answer for an address.
+    fn lookup(&self, address: u32) -> Result<Answer, LookupRefusal> {
+        walk::lookup(self.record, lent_rows(&self.rows), address)
     }
 }
 
-fn run(
-    out: &impl Print,
-    text: &[u8],
-    values: &mut [u32],
-    lengths: &mut [u8],
-    hops: &mut [u16],
-    scratch: &mut [u64],
-    row_hops: &mut [u16],
-    row_lengths: &mut [u8],
-    row_links: &mut [u32],
-    row_strides: &mut [u8],
-) -> io::Result<()> {
-    let count = cases::number(text, 0);
-    let mut state = start(count.next);
-    let mut left = count.value;
-    while left > 0 {
-        state = line(
-            out,
-            text,
-            state,
-            values,
-            lengths,
-            hops,
-            scratch,
-            row_hops,
-            row_lengths,
-            row_links,
-            row_strides,
-        )?;
-        say(out, b"\n")?;
-        left -= 1;
+impl Program for Builds {
+    fn line<W: Print>(&mut self, out: &W, text: &mut Text) -> io::Result<()> {
+        text.seek(b'\n', b'\n');
+        text.seek(b'!', b'~');
+        match text.word() {
+            b"table" => table_line(out, text, &mut self.table),
+            b"rising" => rising_line(out, text, &mut self.table),
+            b"fixed" => self.build_line(out, text, Kind::Fixed),
+            b"variable" => self.build_line(out, text, Kind::Variable),
+            b"record" => self.record_line(out, text),
+            b"print" => self.print(out, text),
+            b"look" => say_answer(out, self.lookup(text.held())),
+            b"sweep" => sweep(out, text.held(), self),
+            _ => bad_line(out, text),
+        }
     }
-    Ok(())
 }
 
 fn main(rt: HostRuntime) -> io::Result<()> {
-    let mut page = cases::page();
-    let n = read_page(&mut rt.stdin(), &mut page)?;
-    if n == page.len() {
-        return say(&rt, b"text too long\n");
-    }
-    let mut values = cases::values();
-    let mut lengths = cases::lengths();
-    let mut hops = cases::hops();
-    let mut scratch = cases::scratch();
-    let mut row_hops = cases::row_hops();
-    let mut row_lengths = cases::row_lengths();
-    let mut row_links = cases::row_links();
-    let mut row_strides = cases::row_strides();
-    run(
-        &rt,
-        &page[..n],
-        &mut values,
-        &mut lengths,
-        &mut hops,
-        &mut scratch,
-        &mut row_hops,
-        &mut row_lengths,
-        &mut row_links,
-        &mut row_strides,
-    )
+    let mut builds = Builds::new(rt.alloc())?;
+    run(&rt, &mut rt.stdin(), rt.alloc(), &mut builds)
 }

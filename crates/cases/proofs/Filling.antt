@@ -1,14 +1,13 @@
 -- Filling the lent slices row by row: what is still to be written from here is what all the rows write.
-use mathlib.Core.Path.{◌≡◌, refl, ◌∙◌}
+use mathlib.Core.Path.{◌≡◌, ◌∙◌}
 use mathlib.Core.List.{List}
 use Prim.Native.Nat.{ℕ, suc, ◌+◌, ◌-◌, ◌≤◌, ◌<◌, min}
-use native.Mathlib.Numerals.{add-one, unary_clauses}
+use native.Mathlib.Numerals.{add-one}
 use native.Mathlib.Omega.{arith}
 use lib.ListN.{length, set, length-set}
 use Rattle.cases.specs.Limits.{most_32, most_16, most_8}
-use Rattle.cases.specs.declared.numerals.Numeral.{Numeral}
 use Rattle.cases.specs.Numerals.{number_at}
-use Rattle.cases.specs.Triples.{put_three, fill, past, Reads}
+use Rattle.cases.specs.Triples.{second_at, third_at, put_three, fill, past, Reads}
 
 -- after i of n rows, the next at place p; only the lists' contents changed since the start
 pub record RowsRead (s : List ℕ) (n p₀ : ℕ) (a₀ b₀ c₀ : List ℕ) (p i : ℕ) (a b c : List ℕ) : Type 0 where
@@ -19,26 +18,20 @@ pub record RowsRead (s : List ℕ) (n p₀ : ℕ) (a₀ b₀ c₀ : List ℕ) (p
   pub second : length b ≡ length b₀
   pub third : length c ≡ length c₀
 
-pub rows_read_start : (s : List ℕ) (n p : ℕ) (a b c : List ℕ) → RowsRead s n p a b c p 0 a b c
-rows_read_start s n p a b c =
-    record { lists = simp unary_clauses; next = simp unary_clauses; bound = omega arith; first = refl; second = refl; third = refl }
-
 pub rows_read_on :
-    {s : List ℕ} {n p₀ : ℕ} {a₀ b₀ c₀ : List ℕ} {p i : ℕ} {a b c : List ℕ} (x y z : Numeral) (u v w : ℕ)
+    {s : List ℕ} {n p₀ : ℕ} {a₀ b₀ c₀ : List ℕ} {p i : ℕ} {a b c : List ℕ} {q u v w : ℕ}
     → RowsRead s n p₀ a₀ b₀ c₀ p i a b c
     → i < n
-    → x ≡ number_at s p
-    → y ≡ number_at s x.next
-    → z ≡ number_at s y.next
-    → u ≡ min x.value most_32
-    → v ≡ min y.value most_8
-    → w ≡ min z.value most_16
-    → RowsRead s n p₀ a₀ b₀ c₀ z.next (i + 1) (set a i u) (set b i v) (set c i w)
+    → u ≡ min (number_at s p).value most_32
+    → v ≡ min (second_at s p).value most_8
+    → w ≡ min (third_at s p).value most_16
+    → q ≡ (third_at s p).next
+    → RowsRead s n p₀ a₀ b₀ c₀ q (i + 1) (set a i u) (set b i v) (set c i w)
 unfolding fill past put_three
-rows_read_on {s} {n} {p₀} {a₀} {b₀} {c₀} {p} {i} {a} {b} {c} x y z u v w f h ex ey ez eu ev ew =
+rows_read_on {s} {n} {p₀} {a₀} {b₀} {c₀} {p} {i} {a} {b} {c} {q} {u} {v} {w} f h eu ev ew eq =
     let m : n - i ≡ suc (n - (i + 1)) = omega arith in record {
-      lists = rw (eu, ev, ew, ez, ey, ex, add-one) (rw (m, add-one) at f.lists);
-      next = rw (ez, ey, ex) (rw m at f.next);
+      lists = rw (eu, ev, ew, eq, add-one) (rw (m, add-one) at f.lists);
+      next = rw eq (rw m at f.next);
       bound = omega arith;
       first = length-set a i u ∙ f.first;
       second = length-set b i v ∙ f.second;
@@ -46,16 +39,16 @@ rows_read_on {s} {n} {p₀} {a₀} {b₀} {c₀} {p} {i} {a} {b} {c} x y z u v w
     }
 
 pub rows_read_all :
-    {s : List ℕ} {at n : ℕ} {a₀ b₀ c₀ : List ℕ} {p i : ℕ} {a b c : List ℕ} (head : Numeral)
-    → RowsRead s n head.next a₀ b₀ c₀ p i a b c
+    {s : List ℕ} {at n : ℕ} {a₀ b₀ c₀ : List ℕ} {p i : ℕ} {a b c : List ℕ}
+    → RowsRead s n (number_at s at).next a₀ b₀ c₀ p i a b c
     → n ≤ i
-    → head ≡ number_at s at
-    → n ≡ min head.value (min (length a₀) (min (length b₀) (length c₀)))
-    → Reads s at a₀ b₀ c₀ a b c (record { count = n; next = p })
+    → n ≡ min (number_at s at).value (min (length a₀) (min (length b₀) (length c₀)))
+    → Reads s at a₀ b₀ c₀ a b c p
 unfolding fill past
-rows_read_all {s} {at} {n} {a₀} {b₀} {c₀} {p} {i} {a} {b} {c} head f h e d =
+rows_read_all {s} {at} {n} {a₀} {b₀} {c₀} {p} {i} {a} {b} {c} f h d =
     let m : n - i ≡ 0 = omega arith in record {
-      count = rw e at d;
-      next = rw (m, e) at f.next;
-      lists = rw (m, e) at f.lists;
+      count = n;
+      fits = d;
+      next = rw m at f.next;
+      lists = rw m at f.lists;
     }

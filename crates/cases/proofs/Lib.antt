@@ -1,9 +1,5 @@
 pub mod Climbing
-pub mod ElementRows
+pub mod ElementLists
 pub mod Filling
-pub mod Fitting
-pub mod Holding
-pub mod Marking
 pub mod Reading
-pub mod Sizing
 pub mod Spelling

@@ -1,54 +1,60 @@
--- Reading on by one byte: each law is what a loop over the text does at a byte, or at the text's end.
-use mathlib.Core.Path.{◌≡◌, refl, sym}
-use mathlib.Core.Bool.{Bool, true, false, ◌&&◌, false≢true}
-use mathlib.Core.List.{List}
-use Prim.Native.Nat.{ℕ, ◌+◌, ◌-◌, ◌≤◌, ◌<◌}
-use native.Mathlib.Numerals.{add-one, unary_clauses}
+-- The bytes passed before a number, its digits as far as they go, and what they say.
+use mathlib.Core.Path.{◌≡◌, refl, ap, subst}
+use mathlib.Core.Bool.{Bool, true, false, not}
+use mathlib.Core.List.{List, [], ◌∷◌}
+use Prim.Native.Nat.{ℕ, suc, ◌+◌}
+use native.Mathlib.Numerals.{unary_clauses}
 use native.Mathlib.Omega.{arith}
-use borrow.Author.Tests.{leb-true}
-use lib.Dec.{leb}
-use lib.ListN.{length, take, drop, get_or, drop_of_length-le}
-use lib.Seq.{drop-cons, take_all}
+use lib.ListN.{length, drop}
+use Rattle.std.specs.List.{fold, prefix_len, take_while}
+use Rattle.std.proofs.lemmas.List.Sums.{take_while-cons}
 use Rattle.cases.specs.Limits.{first_digit, last_digit}
-use Rattle.cases.specs.Numerals.{between, seek_in, seek_at, more, digits_in}
+use Rattle.cases.specs.declared.text.Text.{Text}
+use Rattle.cases.specs.Numerals.{Numeral, between, seek_in, more, digits_in, number_at, seek_at}
 
-module _ (low high : ℕ) (s : List ℕ) (i : ℕ) where
-  pub seek_here : i < length s → between low high (get_or s i 0) ≡ true → seek_at low high s i ≡ i
-  unfolding seek_in
-  seek_here h e = rw (drop-cons s i 0 h, e)
-
-  pub seek_on : i < length s → between low high (get_or s i 0) ≡ false → seek_at low high s i ≡ seek_at low high s (i + 1)
-  unfolding seek_in
-  seek_on h e = rw (drop-cons s i 0 h, e, add-one)
-
-  pub seek_end : length s ≤ i → seek_at low high s i ≡ i
-  unfolding seek_in
-  seek_end h = rw (drop_of_length-le s h)
-
-module _ (s : List ℕ) (v i : ℕ) where
-  pub digits_on : i < length s → between first_digit last_digit (get_or s i 0) ≡ true → digits_in (drop i s) v i ≡ digits_in (drop (i + 1) s) (more v (get_or s i 0)) (i + 1)
-  unfolding digits_in
-  digits_on h e = rw (drop-cons s i 0 h, e, add-one)
-
-  pub digits_stop : i < length s → between first_digit last_digit (get_or s i 0) ≡ false → digits_in (drop i s) v i ≡ record { value = v; next = i }
-  unfolding digits_in
-  digits_stop h e = rw (drop-cons s i 0 h, e)
-
-  pub digits_end : length s ≤ i → digits_in (drop i s) v i ≡ record { value = v; next = i }
-  unfolding digits_in
-  digits_end h = rw (drop_of_length-le s h)
-
-pub between_bounds : (low high c : ℕ) → between low high c ≡ true → (low ≤ c) × (c ≤ high)
-between_bounds low high c e = go (leb low c) (leb c high) refl refl e
+pub seek_passes : (low high : ℕ) (l : List ℕ) (p : ℕ) → p + prefix_len (λ c. not (between low high c)) l ≡ seek_in low high l p
+unfolding seek_in
+seek_passes low high [] p = simp unary_clauses
+seek_passes low high (c ∷ cs) p = go (between low high c) refl (seek_passes low high cs (suc p))
   where
-    go : (a b : Bool) → leb low c ≡ a → leb c high ≡ b → (a && b) ≡ true → (low ≤ c) × (c ≤ high)
-    go true true p q r = (leb-true low c p, leb-true c high q)
-    go true false p q r = absurd (false≢true r)
-    go false b p q r = absurd (false≢true r)
+    go :
+        (t : Bool) → between low high c ≡ t
+        → suc p + prefix_len (λ d. not (between low high d)) cs ≡ seek_in low high cs (suc p)
+        → p + prefix_len (λ d. not (between low high d)) (c ∷ cs) ≡ seek_in low high (c ∷ cs) p
+    go true e h = rw e (simp unary_clauses)
+    go false e h = rw e (omega (arith, h))
 
--- the first n of a list that is shorter; and as a part of a slice says it
-pub front_all : (l : List ℕ) (n : ℕ) → length l < n → l ≡ take n l
-front_all l n h = sym (take_all n l (omega arith))
+-- a value and its digits from place p on
+abbrev digits_of : List ℕ → ℕ → ℕ → Numeral
+digits_of d v p = record { value = fold more v d; next = p + length d }
 
-pub front_part : (l : List ℕ) (n : ℕ) → take (n - 0) l ≡ take n l
-front_part l n = simp unary_clauses
+digits_fold : (l : List ℕ) (v p : ℕ) → digits_of (take_while (between first_digit last_digit) l) v p ≡ digits_in l v p
+unfolding digits_in
+digits_fold [] v p = simp unary_clauses
+digits_fold (c ∷ cs) v p = go (between first_digit last_digit c) refl (digits_fold cs (more v c) (suc p))
+  where
+    go :
+        (t : Bool) → between first_digit last_digit c ≡ t
+        → digits_of (take_while (between first_digit last_digit) cs) (more v c) (suc p) ≡ digits_in cs (more v c) (suc p)
+        → digits_of (take_while (between first_digit last_digit) (c ∷ cs)) v p ≡ digits_in (c ∷ cs) v p
+    go true e h =
+        let m : p + suc (length (take_while (between first_digit last_digit) cs)) ≡ suc p + length (take_while (between first_digit last_digit) cs) = omega arith in
+        rw (take_while-cons (between first_digit last_digit) c cs, e, m) h
+    go false e h = rw (take_while-cons (between first_digit last_digit) c cs, e) (simp unary_clauses)
+
+-- a text whose place is that of the next number, and its digits
+pub record DigitsAt (s : List ℕ) (p q : ℕ) (d : List ℕ) : Type 0 where
+  pub place : q ≡ seek_at first_digit last_digit s p
+  pub digits : d ≡ take_while (between first_digit last_digit) (drop q s)
+
+pub digits_there :
+    {t u : Text} {d : List ℕ} → u ≡ record t { at = seek_at first_digit last_digit t.bytes.now t.at }
+    → d ≡ take_while (between first_digit last_digit) (drop u.at u.bytes.now) → DigitsAt t.bytes.now t.at u.at d
+digits_there {t} {u} {d} e f =
+    record { place = ap (λ (x : Text). x.at) e; digits = subst (λ (x : List ℕ). d ≡ take_while (between first_digit last_digit) (drop u.at x)) (ap (λ (x : Text). x.bytes.now) e) f }
+
+pub number_whole :
+    (s : List ℕ) (p : ℕ) {d : List ℕ} {q v : ℕ} → v ≡ fold more 0 d → DigitsAt s p q d
+    → ◌≡◌ {A = Numeral} (record { value = v; next = q + length d }) (number_at s p)
+unfolding number_at
+number_whole s p {d} {q} {v} ev f = rw (ev, f.digits, f.place) (digits_fold _ _ _)

@@ -1,38 +1,35 @@
--- A word held to the text byte by byte: each law is a turn of the loop, or one of its ends.
-use mathlib.Core.Path.{◌≡◌}
-use mathlib.Core.Bool.{false, not}
-use mathlib.Core.List.{List}
-use Prim.Native.Nat.{ℕ, ◌+◌, ◌≤◌, ◌<◌}
-use native.Mathlib.Decide.{dec_le}
-use native.Mathlib.Numerals.{add-one}
-use native.Mathlib.Omega.{arith}
-use borrow.Author.Tests.{eq-eqb, ne_eqb}
-use lib.ListN.{length, drop, get_or, drop_of_length-le, get_or-eq_default}
-use lib.Seq.{drop-cons}
+-- The letters at a place are a word that stands there.
+use mathlib.Core.Path.{◌≡◌, refl, sym, subst}
+use mathlib.Core.Bool.{Bool, true, false}
+use mathlib.Core.List.{List, [], ◌∷◌}
+use Prim.Native.Nat.{ℕ, ◌<◌}
+use borrow.Author.Tests.{eq-eqb}
+use Rattle.std.specs.List.{All, prefix_len, take_while}
+use Rattle.std.proofs.lemmas.List.{get_or-take}
+use Rattle.std.proofs.lemmas.List.Sums.{prefix_len_passes}
+use Rattle.std.proofs.lemmas.List.Folds.{length-prefix_len}
+use Rattle.std.proofs.lemmas.List.Sums.{take_while-cons}
 use Rattle.cases.specs.Limits.{first_letter, last_letter}
 use Rattle.cases.specs.Numerals.{between}
 use Rattle.cases.specs.Words.{word_in}
 
-module _ (s word : List ℕ) (p i : ℕ) where
-  -- the text ends before the word does
-  pub word_cut : i < length word → length s ≤ p → word_in (drop i word) (drop p s) ≡ false
-  unfolding word_in
-  word_cut h e = rw (drop-cons word i 0 h, drop_of_length-le s e)
+pub letters_stand : (l : List ℕ) → word_in (take_while (between first_letter last_letter) l) l ≡ true
+unfolding word_in
+letters_stand [] = refl
+letters_stand (c ∷ cs) = go (between first_letter last_letter c) refl (letters_stand cs)
+  where
+    go :
+        (t : Bool) → between first_letter last_letter c ≡ t → word_in (take_while (between first_letter last_letter) cs) cs ≡ true
+        → word_in (take_while (between first_letter last_letter) (c ∷ cs)) (c ∷ cs) ≡ true
+    go true e h = rw (take_while-cons (between first_letter last_letter) c cs, e) (rw (eq-eqb c c refl) h)
+    go false e h = rw (take_while-cons (between first_letter last_letter) c cs, e) (rw e refl)
 
-  pub word_other : i < length word → p < length s → (get_or s p 0 ≡ get_or word i 0 → ⊥) → word_in (drop i word) (drop p s) ≡ false
-  unfolding word_in
-  word_other h b e = rw (drop-cons word i 0 h, drop-cons s p 0 b, ne_eqb _ _ e)
-
-  pub word_on :
-      i < length word → p < length s → get_or s p 0 ≡ get_or word i 0
-      → word_in (drop i word) (drop p s) ≡ word_in (drop (i + 1) word) (drop (p + 1) s)
-  unfolding word_in
-  word_on h b e = rw (drop-cons word i 0 h, drop-cons s p 0 b, eq-eqb _ _ e, add-one i, add-one p)
-
-  pub word_end : length word ≤ i → word_in (drop i word) (drop p s) ≡ not (between first_letter last_letter (get_or s p 0))
-  unfolding word_in
-  word_end h =
-      elim (dec_le (length s) p) [
-        | yes b ↦ rw (drop_of_length-le word h, drop_of_length-le s b, get_or-eq_default s 0 b)
-        | no b ↦ rw (drop_of_length-le word h, drop-cons s p 0 (omega arith))
-      ]
+pub letters_all :
+    (l : List ℕ) {w : List ℕ} → w ≡ take_while (between first_letter last_letter) l
+    → All (λ c. between first_letter last_letter c ≡ true) w
+letters_all l {w} e = subst (All (λ c. between first_letter last_letter c ≡ true)) (sym e) (here l)
+  where
+    here : (xs : List ℕ) → All (λ c. between first_letter last_letter c ≡ true) (take_while (between first_letter last_letter) xs)
+    here xs k d b =
+        let h : k < prefix_len (between first_letter last_letter) xs = rw (length-prefix_len (between first_letter last_letter) xs) at b in
+        rw (get_or-take (prefix_len (between first_letter last_letter) xs) xs k d h) (prefix_len_passes (between first_letter last_letter) xs k d h)

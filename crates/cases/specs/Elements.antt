@@ -1,5 +1,5 @@
 -- The four element lists of a line: their lengths, and rows of four numbers, hop, length, link and stride, that the line gives for them. A
--- number says how many rows, and they are written to the start of the lent lists, as many as the shortest has places, each number held at
+-- number says how many rows, and they are written to the start of the lists of the room, as many as the shortest has places, each number held at
 -- the largest that its places take.
 use Rattle.std.specs.Prelude.{◌≡◌, Bool, ◌||◌, List, ℕ, zero, suc, min, ltb, length}
 use Rattle.cases.specs.Limits.{most_32, most_16, most_8}
@@ -7,10 +7,16 @@ use Rattle.cases.specs.Numerals.{number_at}
 use Rattle.cases.specs.Triples.{second_at, third_at, fourth_at}
 use Rattle.cases.specs.Rising.{set_first}
 use Rattle.cases.specs.declared.elements.FourLengths.{FourLengths}
-use Rattle.cases.specs.declared.elements.ElementRow.{ElementRow}
 
-abbrev pub no_lists : ℕ → FourLengths
-no_lists p = record { hops = 0; lengths = 0; links = 0; strides = 0; next = p }
+-- the four numbers of a row
+pub record ElementRow : Type 0 where
+  pub hop : ℕ
+  pub length : ℕ
+  pub link : ℕ
+  pub stride : ℕ
+
+abbrev pub no_lists : FourLengths
+no_lists = record { hops = 0; lengths = 0; links = 0; strides = 0 }
 
 abbrev pub four_at : List ℕ → ℕ → FourLengths
 four_at s p =
@@ -19,7 +25,6 @@ four_at s p =
       lengths = (second_at s p).value;
       links = (third_at s p).value;
       strides = (fourth_at s p).value;
-      next = (fourth_at s p).next;
     }
 
 unfoldable pub is_past : FourLengths → ℕ → Bool
@@ -33,13 +38,12 @@ element_at s p =
       length = min (second_at s p).value most_8;
       link = min (third_at s p).value most_32;
       stride = min (fourth_at s p).value most_8;
-      next = (fourth_at s p).next;
     }
 
 -- where row i begins, of rows that begin at place p
 unfoldable pub element_place : List ℕ → ℕ → ℕ → ℕ
 element_place s p zero = p
-element_place s p (suc i) = (element_at s (element_place s p i)).next
+element_place s p (suc i) = (fourth_at s (element_place s p i)).next
 
 -- row i of them
 abbrev pub element_row : List ℕ → ℕ → ℕ → ElementRow

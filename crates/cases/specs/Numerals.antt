@@ -2,7 +2,11 @@
 -- Other bytes are skipped, so that a case's line can say what its numbers mean.
 use Rattle.std.specs.Prelude.{Bool, cond, ◌&&◌, List, [], ◌∷◌, ℕ, suc, ◌+◌, ◌-◌, ◌*◌, leb, ltb, drop}
 use Rattle.cases.specs.Limits.{first_digit, last_digit, one_more}
-use Rattle.cases.specs.declared.numerals.Numeral.{Numeral}
+
+-- a number, and the place past its last digit
+pub record Numeral : Type 0 where
+  pub value : ℕ
+  pub next : ℕ
 
 abbrev pub between : ℕ → ℕ → ℕ → Bool
 between low high c = leb low c && leb c high

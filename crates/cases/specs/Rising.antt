@@ -27,7 +27,7 @@ pub record Climbs (n step bits : ℕ) (a b c a' b' c' : List ℕ) : Type 0 where
   pub second : b' ≡ set_first (λ i. bits) count b
   pub third : c' ≡ set_first climb_hop count c
 
-pub record Risen (s : List ℕ) (p : ℕ) (a b c a' b' c' : List ℕ) (r : Held) : Type 0 where
+pub record Risen (s : List ℕ) (p : ℕ) (a b c a' b' c' : List ℕ) (r : Held) (q : ℕ) : Type 0 where
   pub width : r.width ≡ min (number_at s p).value most_32
   pub links : r.links ≡ min (second_at s p).value most_16
   pub values : r.values ≡ (third_at s p).value
@@ -36,7 +36,7 @@ pub record Risen (s : List ℕ) (p : ℕ) (a b c a' b' c' : List ℕ) (r : Held)
   pub bits : ℕ
   pub held : bits ≡ min (fourth_at s p).value most_8
   pub entries : Climbs r.values (2 ^ (r.width - bits)) bits a b c a' b' c'
-  pub at : r.at ≡ (fourth_at s p).next
+  pub at : q ≡ (fourth_at s p).next
 
 -- more entries than room
 abbrev pub bad_rising : List ℕ → ℕ → ℕ → Bool

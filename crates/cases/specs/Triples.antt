@@ -1,10 +1,8 @@
 -- Rows of three numbers in a text: a number that says how many, then the rows. They are written to the start of
--- three lent slices, as many as the shortest has places, each number held at the largest that its places take.
+-- three lists of a table, as many as the shortest has places, each number held at the largest that its places take.
 use Rattle.std.specs.Prelude.{◌≡◌, List, ℕ, zero, suc, min, length, set}
 use Rattle.cases.specs.Limits.{most_32, most_16, most_8}
-use Rattle.cases.specs.Numerals.{number_at}
-use Rattle.cases.specs.declared.numerals.Numeral.{Numeral}
-use Rattle.cases.specs.declared.triples.Listed.{Listed}
+use Rattle.cases.specs.Numerals.{Numeral, number_at}
 
 pub record ThreeLists : Type 0 where
   pub first : List ℕ
@@ -39,7 +37,8 @@ unfoldable pub past : List ℕ → ℕ → ℕ → ℕ
 past s zero p = p
 past s (suc n) p = past s n (third_at s p).next
 
-pub record Reads (s : List ℕ) (p : ℕ) (a b c a' b' c' : List ℕ) (r : Listed) : Type 0 where
-  pub count : r.count ≡ min (number_at s p).value (min (length a) (min (length b) (length c)))
-  pub next : r.next ≡ past s r.count (number_at s p).next
-  pub lists : record { first = a'; second = b'; third = c' } ≡ fill s r.count (number_at s p).next 0 (record { first = a; second = b; third = c })
+pub record Reads (s : List ℕ) (p : ℕ) (a b c a' b' c' : List ℕ) (r : ℕ) : Type 0 where
+  pub count : ℕ
+  pub fits : count ≡ min (number_at s p).value (min (length a) (min (length b) (length c)))
+  pub next : r ≡ past s count (number_at s p).next
+  pub lists : record { first = a'; second = b'; third = c' } ≡ fill s count (number_at s p).next 0 (record { first = a; second = b; third = c })

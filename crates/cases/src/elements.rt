@@ -1,120 +1,128 @@
 // The four element lists of a line: their lengths, and the rows (hop/length/link/stride) that a line gives for them.
-ghost use Rattle.std.specs.Prelude.{◌≡◌};
-ghost use Rattle.cases.specs.Elements.{no_lists, four_at, is_past, element_at, ElementsRead};
+ghost use Rattle.std.specs.Prelude.{◌≡◌, IfOk, length, take};
+ghost use Rattle.cases.specs.Limits.{ROWS};
+ghost use Rattle.cases.specs.Triples.{fourth_at};
 
-use crate::numerals::{held8, held16, held32, least, least_of_four, number};
+use crate::fronts::front;
+use crate::limits::ROWS;
+use crate::text::Text;
+use std::alloc::{AllocError, Global};
 
-// The lengths of the lists, and the next place of the text.
-#[derive(Clone, Copy)]
+// The lengths of the lists, zeros before the first of a text.
+#[derive(Clone, Copy, Default)]
 pub struct FourLengths {
     pub hops: usize,
     pub lengths: usize,
     pub links: usize,
     pub strides: usize,
-    pub next: usize,
 }
 
-// The four numbers of a row, and the next place of the text.
-#[derive(Clone, Copy)]
-pub struct ElementRow {
-    pub hop: u16,
-    pub length: u8,
-    pub link: u32,
-    pub stride: u8,
-    pub next: usize,
+// Room for element rows, and how many places of each list a line lends. (Lists with a length beside them: past it stand rows of lines
+// before, which a later line may lend again.)
+#[derive(Drop)]
+pub struct ElementRows {
+    pub lent: FourLengths,
+    pub hops: Vec<u16>,
+    pub lengths: Vec<u8>,
+    pub links: Vec<u32>,
+    pub strides: Vec<u8>,
 }
 
-// Before the first lists of a text, whose cases begin at a place.
-pub fn no_lists(at: usize) -> FourLengths
-    ensures { result ≡ no_lists at }
-{
-    FourLengths {
-        hops: 0,
-        lengths: 0,
-        links: 0,
-        strides: 0,
-        next: at,
+impl FourLengths {
+    ghost use Rattle.cases.specs.Elements.{four_at, is_past};
+
+    pub fn read(text: &mut Text) -> FourLengths
+        ensures value { result ≡ four_at text.old.bytes.now text.old.at }
+        ensures next { text.new ≡ record text.old { at = (fourth_at text.old.bytes.now text.old.at).next } }
+    {
+        FourLengths {
+            hops: text.number() as usize,
+            lengths: text.number() as usize,
+            links: text.number() as usize,
+            strides: text.number() as usize,
+        }
     }
-}
 
-pub fn four_at(text: &[u8], at: usize) -> FourLengths
-    ensures { result ≡ four_at text.now at }
-{
-    let hops = number(text, at);
-    let lengths = number(text, hops.next);
-    let links = number(text, lengths.next);
-    let strides = number(text, links.next);
-    FourLengths {
-        hops: hops.value as usize,
-        lengths: lengths.value as usize,
-        links: links.value as usize,
-        strides: strides.value as usize,
-        next: strides.next,
+    // Whether one of the four lists is longer than that. (Each struct of lengths has such a test of its own: they have other lists.)
+    #[tactic(auto, unfolding(crate::specs::Elements::is_past))]
+    pub fn is_past(self, than: usize) -> bool
+        ensures { result ≡ is_past self than }
+    {
+        let lists = [self.hops, self.lengths, self.links, self.strides];
+        lists.iter().any(|&n| than < n)
     }
 }
 
-// Whether one of the four lists is longer than that.
-pub fn is_past(lists: FourLengths, than: usize) -> bool
-    ensures { result ≡ is_past lists than }
-{
-    if than < lists.hops {
-        return true;
-    }
-    if than < lists.lengths {
-        return true;
-    }
-    if than < lists.links {
-        return true;
-    }
-    than < lists.strides
-}
+impl<'a> Text<'a> {
+    ghost use Rattle.cases.specs.Elements.{element_place};
 
-fn element_at(text: &[u8], at: usize) -> ElementRow
-    ensures { result ≡ element_at text.now at }
-{
-    let hop = number(text, at);
-    let length = number(text, hop.next);
-    let link = number(text, length.next);
-    let stride = number(text, link.next);
-    ElementRow {
-        hop: held16(hop.value),
-        length: held8(length.value),
-        link: held32(link.value),
-        stride: held8(stride.value),
-        next: stride.next,
+    // Goes on past so many rows of four numbers.
+    pub fn pass_rows(&mut self, rows: usize)
+        ensures { self.new ≡ record self.old { at = element_place self.old.bytes.now self.old.at rows } }
+    {
+        for row in 0..rows {
+            FourLengths::read(self);
+        }
     }
 }
 
-// Reads how many rows there are, then the rows, as many as the shortest list has places; returns the place past them.
-pub fn element_rows(
-    text: &[u8],
-    at: usize,
-    rowhops: &mut [u16],
-    rowlens: &mut [u8],
-    rowlinks: &mut [u32],
-    rowstrides: &mut [u8],
-) -> usize
-    ensures { ElementsRead text.now at rowhops.old rowlens.old rowlinks.old rowstrides.old
-        rowhops.new rowlens.new rowlinks.new rowstrides.new result }
-{
-    let head = number(text, at);
-    let room = least_of_four(
-        rowhops.len(),
-        rowlens.len(),
-        rowlinks.len(),
-        rowstrides.len(),
-    );
-    let n = least(head.value as usize, room);
-    let mut next = head.next;
-    let mut i = 0;
-    while i < n {
-        let row = element_at(text, next);
-        rowhops[i] = row.hop;
-        rowlens[i] = row.length;
-        rowlinks[i] = row.link;
-        rowstrides[i] = row.stride;
-        next = row.next;
-        i += 1;
+impl ElementRows {
+    ghost use Rattle.cases.specs.Elements.{ElementsRead, no_lists};
+
+    pub fn new(alloc: Global) -> Result<ElementRows, AllocError>
+        ensures room { IfOk result (λ rows. (length rows.hops.items ≡ ROWS) × (length rows.lengths.items ≡ ROWS)
+            × (length rows.links.items ≡ ROWS) × (length rows.strides.items ≡ ROWS)) }
+        ensures lent { IfOk result (λ rows. rows.lent ≡ no_lists) }
+    {
+        Ok(ElementRows {
+            lent: FourLengths::default(),
+            hops: vec![in alloc; 0; ROWS]?,
+            lengths: vec![in alloc; 0; ROWS]?,
+            links: vec![in alloc; 0; ROWS]?,
+            strides: vec![in alloc; 0; ROWS]?,
+        })
     }
-    next
+
+    // What is lent of each list.
+    pub fn hops(&self) -> &[u16]
+        ensures { result.now ≡ take self.now.lent.hops self.now.hops.items }
+    {
+        front(&self.hops, self.lent.hops)
+    }
+
+    pub fn lengths(&self) -> &[u8]
+        ensures { result.now ≡ take self.now.lent.lengths self.now.lengths.items }
+    {
+        front(&self.lengths, self.lent.lengths)
+    }
+
+    pub fn links(&self) -> &[u32]
+        ensures { result.now ≡ take self.now.lent.links self.now.links.items }
+    {
+        front(&self.links, self.lent.links)
+    }
+
+    pub fn strides(&self) -> &[u8]
+        ensures { result.now ≡ take self.now.lent.strides self.now.strides.items }
+    {
+        front(&self.strides, self.lent.strides)
+    }
+
+    // Reads how many rows there are, then the rows, as many as the shortest list has places. (By index: the clause speaks of row i.)
+    pub fn read(&mut self, text: &mut Text)
+        ensures rows { ElementsRead text.old.bytes.now text.old.at self.old.hops.items self.old.lengths.items self.old.links.items
+            self.old.strides.items self.new.hops.items self.new.lengths.items self.new.links.items self.new.strides.items text.new.at }
+        ensures text { text.new.bytes ≡ text.old.bytes }
+        ensures lent { self.new.lent ≡ self.old.lent }
+    {
+        let count = text.number() as usize;
+        let room = self.hops.len().min(self.lengths.len());
+        let room = room.min(self.links.len().min(self.strides.len()));
+        for i in 0..count.min(room) {
+            self.hops[i] = text.held();
+            self.lengths[i] = text.held();
+            self.links[i] = text.held();
+            self.strides[i] = text.held();
+        }
+    }
 }

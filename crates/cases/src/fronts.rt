@@ -1,29 +1,15 @@
-// The first n of a list, or all of it: what a case lends of its room.
+// What a case lends of its room: the first n places of a list, or all of it.
 ghost use Rattle.std.specs.Prelude.{◌≡◌, take};
 
-pub fn front32(list: &[u32], n: usize) -> &[u32]
+pub fn front<T>(list: &[T], n: usize) -> &[T]
     ensures { result.now ≡ take n list.now }
 {
-    if list.len() < n {
-        return list;
-    }
-    &list[0..n]
+    list.get(..n).unwrap_or(list)
 }
 
-pub fn front16(list: &[u16], n: usize) -> &[u16]
-    ensures { result.now ≡ take n list.now }
+pub fn front_mut<T>(list: &mut [T], n: usize) -> &mut [T]
+    ensures { result.now ≡ take n list.old }
 {
-    if list.len() < n {
-        return list;
-    }
-    &list[0..n]
-}
-
-pub fn front8(list: &[u8], n: usize) -> &[u8]
-    ensures { result.now ≡ take n list.now }
-{
-    if list.len() < n {
-        return list;
-    }
-    &list[0..n]
+    let n = n.min(list.len());
+    &mut list[..n]
 }

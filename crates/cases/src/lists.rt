@@ -1,61 +1,47 @@
 // The lengths of three lists as a line gives them, and whether they go with the rows that the line gives next.
 ghost use Rattle.std.specs.Prelude.{◌≡◌};
-ghost use Rattle.cases.specs.Lists.{three_at, is_longer, is_unfit, bad_table};
+ghost use Rattle.cases.specs.Triples.{third_at};
 
-use crate::numerals::number;
+use crate::text::Text;
 
-// The lengths, in the order of the line, and the next place of the text.
+// The lengths, in the order of the line.
 #[derive(Clone, Copy)]
 pub struct ThreeLengths {
     pub first: usize,
     pub second: usize,
     pub third: usize,
-    pub next: usize,
 }
 
-pub(crate) fn three_at(text: &[u8], at: usize) -> ThreeLengths
-    ensures { result ≡ three_at text.now at }
-{
-    let first = number(text, at);
-    let second = number(text, first.next);
-    let third = number(text, second.next);
-    ThreeLengths {
-        first: first.value as usize,
-        second: second.value as usize,
-        third: third.value as usize,
-        next: third.next,
-    }
-}
+impl ThreeLengths {
+    ghost use Rattle.cases.specs.Lists.{is_longer, is_unfit, three_at};
 
-// Whether one of the three lists is longer than that.
-pub(crate) fn is_longer(lists: ThreeLengths, than: usize) -> bool
-    ensures { result ≡ is_longer lists than }
-{
-    if than < lists.first {
-        return true;
+    pub(crate) fn read(text: &mut Text) -> ThreeLengths
+        ensures value { result ≡ three_at text.old.bytes.now text.old.at }
+        ensures next { text.new ≡ record text.old { at = (third_at text.old.bytes.now text.old.at).next } }
+    {
+        ThreeLengths {
+            first: text.number() as usize,
+            second: text.number() as usize,
+            third: text.number() as usize,
+        }
     }
-    if than < lists.second {
-        return true;
-    }
-    than < lists.third
-}
 
-// Whether the rows that the text gives next are more than the room, or one of the three lists is longer than the rows.
-pub(crate) fn is_unfit(text: &[u8], lists: ThreeLengths, room: usize) -> bool
-    ensures { result ≡ is_unfit text.now lists room }
-{
-    let rows = number(text, lists.next).value as usize;
-    if room < rows {
-        return true;
+    // Whether one of the three lists is longer than that. (`is_past` is the same of four: the structs have other lists.)
+    #[tactic(auto, unfolding(crate::specs::Lists::is_longer))]
+    pub(crate) fn is_longer(self, than: usize) -> bool
+        ensures { result ≡ is_longer self than }
+    {
+        [self.first, self.second, self.third]
+            .iter()
+            .any(|&n| than < n)
     }
-    is_longer(lists, rows)
-}
 
-// The same of a table's line, whose first numbers are the width and the number of links.
-pub fn is_bad_table(text: &[u8], at: usize, room: usize) -> bool
-    ensures { result ≡ bad_table text.now at room }
-{
-    let width = number(text, at);
-    let links = number(text, width.next);
-    is_unfit(text, three_at(text, links.next), room)
+    // Whether the rows that the text gives next are more than the room, or one of the three lists is longer than the rows.
+    #[tactic(auto, unfolding(crate::specs::Lists::is_unfit))]
+    pub(crate) fn is_unfit(self, mut text: Text, room: usize) -> bool
+        ensures { result ≡ is_unfit text.entry.bytes.now text.entry.at self room }
+    {
+        let rows = text.number() as usize;
+        room < rows || self.is_longer(rows)
+    }
 }

@@ -1,67 +1,113 @@
 // A table's line: the width, the number of links, the lengths of the three lists, and the entries (value/length>hop), for this line
 // and those below it.
-ghost use Rattle.std.specs.Prelude.{◌≡◌, get_or};
-ghost use Rattle.cases.specs.Tables.{no_table, Holds};
+ghost use Rattle.std.specs.Prelude.{◌≡◌, IfOk, length, take};
+ghost use Rattle.cases.specs.Limits.{PLACES};
 
-use crate::lists::three_at;
-use crate::numerals::{held16, held32, number};
-use crate::triples::rows;
+use crate::fronts::front;
+use crate::limits::PLACES;
+use crate::lists::ThreeLengths;
+use crate::text::Text;
+use std::alloc::{AllocError, Global};
 
-// The table of the lines below, as the lengths of its lists, and the next place of the text.
-#[derive(Clone, Copy)]
+// The width and the number of links of a table, and how many places of each list it has; zeros before the first of a text.
+#[derive(Clone, Copy, Default)]
 pub struct Held {
     pub width: u32,
     pub links: u16,
     pub values: usize,
     pub lengths: usize,
     pub hops: usize,
-    pub at: usize,
 }
 
-// Before the first table of a text, whose cases begin at a place.
-pub fn no_table(at: usize) -> Held
-    ensures { result ≡ no_table at }
-{
-    Held {
-        width: 0,
-        links: 0,
-        values: 0,
-        lengths: 0,
-        hops: 0,
-        at,
-    }
+// The table of the lines below, and room for its entries. (Lists with a length beside them: past it stand entries of lines before, which
+// a later line may lend again.)
+#[derive(Drop)]
+pub struct Table {
+    pub held: Held,
+    pub values: Vec<u32>,
+    pub lengths: Vec<u8>,
+    pub hops: Vec<u16>,
 }
 
-pub fn table_line(
-    text: &[u8],
-    at: usize,
-    values: &mut [u32],
-    lengths: &mut [u8],
-    hops: &mut [u16],
-) -> Held
-    ensures { Holds text.now at values.old lengths.old hops.old values.new lengths.new
-        hops.new result }
-{
-    let width = number(text, at);
-    let links = number(text, width.next);
-    let lists = three_at(text, links.next);
-    let entries = rows(text, lists.next, values, lengths, hops);
-    Held {
-        width: held32(width.value),
-        links: held16(links.value),
-        values: lists.first,
-        lengths: lists.second,
-        hops: lists.third,
-        at: entries.next,
-    }
-}
+impl Table {
+    ghost use Rattle.cases.specs.Lists.{bad_table};
+    ghost use Rattle.cases.specs.Tables.{Holds, no_table};
+    ghost use Rattle.cases.specs.Triples.{Reads};
 
-// The byte at a place, 0 past the end: a line's first letter says what it asks.
-pub fn byte(text: &[u8], at: usize) -> u8
-    ensures { result ≡ get_or text.now at 0 }
-{
-    if at < text.len() {
-        return text[at];
+    pub fn new(alloc: Global) -> Result<Table, AllocError>
+        ensures room { IfOk result (λ table. (length table.values.items ≡ PLACES) × (length table.lengths.items ≡ PLACES)
+            × (length table.hops.items ≡ PLACES)) }
+        ensures held { IfOk result (λ table. table.held ≡ no_table) }
+    {
+        Ok(Table {
+            held: Held::default(),
+            values: vec![in alloc; 0; PLACES]?,
+            lengths: vec![in alloc; 0; PLACES]?,
+            hops: vec![in alloc; 0; PLACES]?,
+        })
     }
-    0
+
+    // The three lists of the table.
+    pub fn values(&self) -> &[u32]
+        ensures { result.now ≡ take self.now.held.values self.now.values.items }
+    {
+        front(&self.values, self.held.values)
+    }
+
+    pub fn lengths(&self) -> &[u8]
+        ensures { result.now ≡ take self.now.held.lengths self.now.lengths.items }
+    {
+        front(&self.lengths, self.held.lengths)
+    }
+
+    pub fn hops(&self) -> &[u16]
+        ensures { result.now ≡ take self.now.held.hops self.now.hops.items }
+    {
+        front(&self.hops, self.held.hops)
+    }
+
+    // Whether a list of the line is longer than its entries, or these are more than the room.
+    pub fn is_bad(&self, text: Text) -> bool
+        ensures { result ≡ bad_table text.entry.bytes.now text.entry.at (length self.now.values.items) }
+    {
+        let mut text = text;
+        text.number();
+        text.number();
+        let lists = ThreeLengths::read(&mut text);
+        lists.is_unfit(text, self.values.len())
+    }
+
+    // Reads how many entries there are, then the entries, as many as the shortest list has places. (By index: the clause speaks of row i.)
+    fn entries(&mut self, text: &mut Text)
+        ensures lists { Reads text.old.bytes.now text.old.at self.old.values.items self.old.lengths.items self.old.hops.items
+            self.new.values.items self.new.lengths.items self.new.hops.items text.new.at }
+        ensures text { text.new.bytes ≡ text.old.bytes }
+    {
+        let count = text.number() as usize;
+        let room = self.lengths.len().min(self.hops.len());
+        for i in 0..count.min(self.values.len().min(room)) {
+            self.values[i] = text.held();
+            self.lengths[i] = text.held();
+            self.hops[i] = text.held();
+        }
+    }
+
+    // The table of a line.
+    pub fn read(&mut self, text: &mut Text)
+        ensures holds { Holds text.old.bytes.now text.old.at self.old.values.items self.old.lengths.items self.old.hops.items
+            self.new.values.items self.new.lengths.items self.new.hops.items self.new.held text.new.at }
+        ensures text { text.new.bytes ≡ text.old.bytes }
+    {
+        let width = text.held();
+        let links = text.held();
+        let lists = ThreeLengths::read(text);
+        self.entries(text);
+        self.held = Held {
+            width,
+            links,
+            values: lists.first,
+            lengths: lists.second,
+            hops: lists.third,
+        };
+    }
 }

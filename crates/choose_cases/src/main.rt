@@ -5,143 +5,79 @@
 // then holds.
 #![tactic(auto)]
 
-use cases::Held;
-use choosers::Chosen;
-use printing::{put, read_page, say, say_outcome, say_scratch, say_strides};
+use cases::{Table, Text, front, front_mut};
+use choosers::{Chosen, Kind};
+use printing::{Program, entries, read_text, run_lines, say_outcome, say_scratch, say_strides};
 use std::io;
+use table::Refusal;
 
-fn say_chosen(out: &impl Print, chosen: Chosen) -> io::Result<()> {
-    let outcome = chosen.outcome;
-    let strides = chosen.strides;
-    say_outcome(out, outcome)?;
-    say(out, b" cost")?;
-    put(out, chosen.cost)?;
-    say_strides(out, &strides)
+// The outcome, then cost and strides: zeros where it is refused.
+fn say_chosen(out: &impl Print, chosen: Result<Chosen, Refusal>) -> io::Result<()> {
+    say_outcome(out, chosen)?;
+    let chosen = chosen.unwrap_or_default();
+    let cost = chosen.cost;
+    print!(out; " cost {cost}")?;
+    say_strides(out, &chosen.strides)
 }
 
-// The word of the line says which chooser.
-fn chosen(
-    letter: u8,
-    width: u32,
-    levels: u32,
-    links: u16,
-    values: &[u32],
-    lengths: &[u8],
-    hops: &[u16],
-    scratch: &mut [u64],
-) -> Chosen {
-    if letter == b'f' {
-        return choosers::choose_fixed(width, levels, links, values, lengths, hops, scratch);
+// The table of the lines so far, and scratch.
+#[derive(Drop)]
+struct Choices {
+    table: Table,
+    scratch: Vec<u64>,
+}
+
+impl Choices {
+    // The choice in so many places of scratch.
+    fn choose(&mut self, kind: Kind, levels: u32, places: usize) -> Result<Chosen, Refusal> {
+        let held = self.table.held;
+        let scratch = front_mut(&mut self.scratch, places);
+        choosers::choose(
+            kind,
+            held.width,
+            levels,
+            held.links,
+            entries(&self.table),
+            scratch,
+        )
     }
-    choosers::choose_variable(width, levels, links, values, lengths, hops, scratch)
-}
 
-fn answer(
-    out: &impl Print,
-    letter: u8,
-    levels: u32,
-    held: Held,
-    values: &[u32],
-    lengths: &[u8],
-    hops: &[u16],
-    scratch: &mut [u64],
-) -> io::Result<()> {
-    let v = cases::front32(values, held.values);
-    let l = cases::front8(lengths, held.lengths);
-    let h = cases::front16(hops, held.hops);
-    cases::fill64(scratch, 7);
-    say_chosen(
-        out,
-        chosen(letter, held.width, levels, held.links, v, l, h, scratch),
-    )?;
-    say_scratch(out, scratch)
-}
-
-// Lends as many places of scratch as the line says. Answers the next place of the text.
-fn choose_line(
-    out: &impl Print,
-    text: &[u8],
-    at: usize,
-    held: Held,
-    values: &[u32],
-    lengths: &[u8],
-    hops: &[u16],
-    scratch: &mut [u64],
-) -> io::Result<usize> {
-    let letter = cases::byte(text, at);
-    let levels = cases::number(text, at);
-    let places = cases::number(text, levels.next);
-    let n = cases::least(places.value as usize, scratch.len());
-    answer(
-        out,
-        letter,
-        cases::held32(levels.value),
-        held,
-        values,
-        lengths,
-        hops,
-        &mut scratch[0..n],
-    )?;
-    Ok(places.next)
-}
-
-// One case: its first letter says which.
-fn line(
-    out: &impl Print,
-    text: &[u8],
-    held: Held,
-    values: &mut [u32],
-    lengths: &mut [u8],
-    hops: &mut [u16],
-    scratch: &mut [u64],
-) -> io::Result<Held> {
-    let at = cases::seek(text, held.at, b'a', b'z');
-    let letter = cases::byte(text, at);
-    if letter == b't' {
-        say(out, b"table")?;
-        return Ok(cases::table_line(text, at, values, lengths, hops));
+    // Lends as many places of scratch as the line says.
+    fn choose_line(&mut self, out: &impl Print, text: &mut Text, kind: Kind) -> io::Result<()> {
+        let levels = text.held();
+        let places = text.number() as usize;
+        front_mut(&mut self.scratch, places).fill(7);
+        let chosen = self.choose(kind, levels, places);
+        say_chosen(out, chosen)?;
+        say_scratch(out, front(&self.scratch, places))
     }
-    if letter == b'r' {
-        say(out, b"rising")?;
-        return Ok(cases::rising_line(text, at, values, lengths, hops));
-    }
-    let mut next = held;
-    next.at = choose_line(out, text, at, held, values, lengths, hops, scratch)?;
-    Ok(next)
 }
 
-fn run(
-    out: &impl Print,
-    text: &[u8],
-    values: &mut [u32],
-    lengths: &mut [u8],
-    hops: &mut [u16],
-    scratch: &mut [u64],
-) -> io::Result<()> {
-    let count = cases::number(text, 0);
-    let mut held = cases::no_table(count.next);
-    let mut left = count.value;
-    while left > 0 {
-        held = line(out, text, held, values, lengths, hops, scratch)?;
-        say(out, b"\n")?;
-        left -= 1;
+impl Program for Choices {
+    // The first letter of a line says which case it is.
+    fn line<W: Print>(&mut self, out: &W, text: &mut Text) -> io::Result<()> {
+        text.seek(b'a', b'z');
+        match text.byte() {
+            b't' => {
+                self.table.read(text);
+                print!(out; "table")
+            }
+            b'r' => {
+                self.table.rise(text);
+                print!(out; "rising")
+            }
+            b'f' => self.choose_line(out, text, Kind::Fixed),
+            _ => self.choose_line(out, text, Kind::Variable),
+        }
     }
-    Ok(())
 }
 
 fn main(rt: HostRuntime) -> io::Result<()> {
-    let mut page = cases::page();
-    let n = read_page(&mut rt.stdin(), &mut page)?;
-    let mut values = cases::values();
-    let mut lengths = cases::lengths();
-    let mut hops = cases::hops();
-    let mut scratch = cases::scratch();
-    run(
-        &rt,
-        &page[..n],
-        &mut values,
-        &mut lengths,
-        &mut hops,
-        &mut scratch,
-    )
+    let alloc = rt.alloc();
+    let text = read_text(&mut rt.stdin(), alloc)?;
+    let mut choices = Choices {
+        table: Table::new(alloc)?,
+        scratch: vec![in alloc; 0; cases::SCRATCH]?,
+    };
+    run_lines(&rt, &text, &mut choices)
 }

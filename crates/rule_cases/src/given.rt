@@ -1,13 +1,11 @@
-// The rules of a line, and what a `record` line gives: a record, rows for the element lists, then numbers for the list of tries.
-ghost use Rattle.std.specs.Prelude.{◌≤◌};
+// The rules of the lines below.
+use cases::{PLACES, Text, front};
+use fields::RuleLists;
+use std::alloc::{AllocError, Global};
 
-use cases::FourLengths;
-use verdicts::RuleRecord;
-use walk::{LEVELS, Record};
-
-// The rules of the lines below, as their width, the number of links and the lengths of their five lists, and the next place of the text.
-#[derive(Clone, Copy)]
-pub struct HeldRules {
+// The width and the number of links of the rules, and how many places of each list they have; zeros before the first of a text.
+#[derive(Clone, Copy, Default)]
+pub(crate) struct Held {
     pub width: u32,
     pub links: u16,
     pub dvals: usize,
@@ -15,227 +13,83 @@ pub struct HeldRules {
     pub svals: usize,
     pub slens: usize,
     pub actions: usize,
-    pub next: usize,
 }
 
-// The lengths of the element lists and of the list of tries, and the next place of the text.
-#[derive(Clone, Copy)]
-pub struct Lists {
-    pub elements: FourLengths,
-    pub list: usize,
-    pub next: usize,
-}
+impl Held {
+    pub(crate) fn read(text: &mut Text) -> Held {
+        Held {
+            width: text.held(),
+            links: text.held(),
+            dvals: text.number() as usize,
+            dlens: text.number() as usize,
+            svals: text.number() as usize,
+            slens: text.number() as usize,
+            actions: text.number() as usize,
+        }
+    }
 
-// So many places of scratch, of each element list and of the list of tries.
-#[derive(Clone, Copy)]
-pub struct Lent {
-    pub words: usize,
-    pub hops: usize,
-    pub lengths: usize,
-    pub links: usize,
-    pub strides: usize,
-    pub list: usize,
-}
-
-// A record and its lists, as a line gives them.
-#[derive(Clone, Copy)]
-pub struct Given {
-    pub record: RuleRecord,
-    pub lists: Lists,
-}
-
-// The five numbers of a rule, and the next place of the text.
-#[derive(Clone, Copy)]
-struct Rule {
-    dval: u32,
-    dlen: u8,
-    sval: u32,
-    slen: u8,
-    action: u16,
-    next: usize,
-}
-
-pub(crate) fn rules_at(text: &[u8], at: usize) -> HeldRules {
-    let width = cases::number(text, at);
-    let links = cases::number(text, width.next);
-    let dests = cases::number(text, links.next);
-    let dest_lengths = cases::number(text, dests.next);
-    let sources = cases::number(text, dest_lengths.next);
-    let source_lengths = cases::number(text, sources.next);
-    let actions = cases::number(text, source_lengths.next);
-    HeldRules {
-        width: cases::held32(width.value),
-        links: cases::held16(links.value),
-        dvals: dests.value as usize,
-        dlens: dest_lengths.value as usize,
-        svals: sources.value as usize,
-        slens: source_lengths.value as usize,
-        actions: actions.value as usize,
-        next: actions.next,
+    // Whether one of the five lists is longer than that. (Each struct of lengths has such a test of its own: they have other lists.)
+    pub(crate) fn is_longer(self, than: usize) -> bool {
+        let lists = [self.dvals, self.dlens, self.svals, self.slens, self.actions];
+        lists.iter().any(|&n| than < n)
     }
 }
 
-// Whether the rules that the text gives next are more than the room, or one of the five lists is longer than they are.
-pub(crate) fn is_bad_rules(text: &[u8], held: HeldRules, room: usize) -> bool {
-    let rules = cases::number(text, held.next).value as usize;
-    if room < rules {
-        return true;
-    }
-    if rules < held.dvals {
-        return true;
-    }
-    if rules < held.dlens {
-        return true;
-    }
-    if rules < held.svals {
-        return true;
-    }
-    if rules < held.slens {
-        return true;
-    }
-    rules < held.actions
+// What a line says of the rules, and room for them. (Lists with a length beside them: past it stand rules of lines before, which a later
+// line may lend again.)
+#[derive(Drop)]
+pub(crate) struct Rules {
+    pub held: Held,
+    pub dvals: Vec<u32>,
+    pub dlens: Vec<u8>,
+    pub svals: Vec<u32>,
+    pub slens: Vec<u8>,
+    pub actions: Vec<u16>,
 }
 
-fn rule_at(text: &[u8], at: usize) -> Rule {
-    let dest = cases::number(text, at);
-    let dest_length = cases::number(text, dest.next);
-    let source = cases::number(text, dest_length.next);
-    let source_length = cases::number(text, source.next);
-    let action = cases::number(text, source_length.next);
-    Rule {
-        dval: cases::held32(dest.value),
-        dlen: cases::held8(dest_length.value),
-        sval: cases::held32(source.value),
-        slen: cases::held8(source_length.value),
-        action: cases::held16(action.value),
-        next: action.next,
+impl Rules {
+    pub(crate) fn new(alloc: Global) -> Result<Rules, AllocError> {
+        Ok(Rules {
+            held: Held::default(),
+            dvals: vec![in alloc; 0; PLACES]?,
+            dlens: vec![in alloc; 0; PLACES]?,
+            svals: vec![in alloc; 0; PLACES]?,
+            slens: vec![in alloc; 0; PLACES]?,
+            actions: vec![in alloc; 0; PLACES]?,
+        })
     }
-}
 
-// Reads how many rules there are, then the rules, as many as the shortest list has places; returns the place past them.
-pub(crate) fn read_rules(
-    text: &[u8],
-    at: usize,
-    dvals: &mut [u32],
-    dlens: &mut [u8],
-    svals: &mut [u32],
-    slens: &mut [u8],
-    actions: &mut [u16],
-) -> usize {
-    let head = cases::number(text, at);
-    let room = cases::least_of_four(dvals.len(), dlens.len(), svals.len(), slens.len());
-    let n = cases::least(head.value as usize, cases::least(room, actions.len()));
-    let mut next = head.next;
-    let mut i = 0;
-    while i < n {
-        let rule = rule_at(text, next);
-        dvals[i] = rule.dval;
-        dlens[i] = rule.dlen;
-        svals[i] = rule.sval;
-        slens[i] = rule.slen;
-        actions[i] = rule.action;
-        next = rule.next;
-        i += 1;
+    // What is lent of the five lists.
+    pub(crate) fn lent(&self) -> RuleLists<'_> {
+        let held = self.held;
+        RuleLists {
+            dvals: front(&self.dvals, held.dvals),
+            dlens: front(&self.dlens, held.dlens),
+            svals: front(&self.svals, held.svals),
+            slens: front(&self.slens, held.slens),
+            actions: front(&self.actions, held.actions),
+        }
     }
-    next
-}
 
-pub(crate) fn lists_at(text: &[u8], at: usize) -> Lists {
-    let elements = cases::four_at(text, at);
-    let list = cases::number(text, elements.next);
-    Lists {
-        elements,
-        list: list.value as usize,
-        next: list.next,
+    // Whether the rules that the text gives next are more than the room, or one of the five lists is longer than they are.
+    pub(crate) fn is_unfit(&self, text: Text, held: Held) -> bool {
+        let mut text = text;
+        let rules = text.number() as usize;
+        self.dvals.len() < rules || held.is_longer(rules)
     }
-}
 
-// Whether an element list, or the list of tries, is longer than that.
-pub(crate) fn is_longer(lists: Lists, rows: usize, numbers: usize) -> bool {
-    if cases::is_past(lists.elements, rows) {
-        return true;
+    // Reads how many rules there are, then the rules, as many as the shortest list has places.
+    pub(crate) fn read(&mut self, text: &mut Text) {
+        let count = text.number() as usize;
+        let destinations = self.dvals.iter_mut().zip(self.dlens.iter_mut());
+        let sources = self.svals.iter_mut().zip(self.slens.iter_mut());
+        let rules = destinations.zip(sources).zip(self.actions.iter_mut());
+        for (((dval, dlen), (sval, slen)), action) in rules.take(count) {
+            *dval = text.held();
+            *dlen = text.held();
+            *sval = text.held();
+            *slen = text.held();
+            *action = text.held();
+        }
     }
-    numbers < lists.list
-}
-
-// What a build line is lent: what it asks for, as far as the room goes.
-pub(crate) fn within_room(words: usize, lists: Lists, room: Lent) -> Lent
-    ensures { (result.words ≤ room.words) × (result.hops ≤ room.hops) × (result.lengths ≤ room.lengths) × (result.links ≤ room.links) × (result.strides ≤ room.strides)
-        × (result.list ≤ room.list) }
-{
-    Lent {
-        words: cases::least(words, room.words),
-        hops: cases::least(lists.elements.hops, room.hops),
-        lengths: cases::least(lists.elements.lengths, room.lengths),
-        links: cases::least(lists.elements.links, room.links),
-        strides: cases::least(lists.elements.strides, room.strides),
-        list: cases::least(lists.list, room.list),
-    }
-}
-
-// A record's numbers: of its strides all but the first are the sixth, and the last is the E of all tries.
-pub(crate) fn given_at(text: &[u8], at: usize) -> Given {
-    let width = cases::number(text, at);
-    let levels = cases::number(text, width.next);
-    let elements = cases::number(text, levels.next);
-    let floor = cases::number(text, elements.next);
-    let stride = cases::number(text, floor.next);
-    let others = cases::number(text, stride.next);
-    let all = cases::number(text, others.next);
-    let mut strides = [cases::held8(others.value); LEVELS as usize];
-    strides[0] = cases::held8(stride.value);
-    Given {
-        record: RuleRecord {
-            dest: Record {
-                width: cases::held32(width.value),
-                levels: cases::held32(levels.value),
-                elements: cases::held32(elements.value),
-                floor: cases::held16(floor.value),
-                strides,
-            },
-            elements: cases::held32(all.value),
-        },
-        lists: lists_at(text, all.next),
-    }
-}
-
-// How many numbers the text gives for the list of tries: that stands behind the rows, which are passed over and not kept, so
-// that a bad line changes nothing.
-fn numbers_past(text: &[u8], at: usize, rows: usize) -> usize {
-    let mut next = at;
-    let mut i = 0;
-    while i < rows {
-        next = cases::four_at(text, next).next;
-        i += 1;
-    }
-    cases::number(text, next).value as usize
-}
-
-// Whether the rows or the numbers that the text gives next are more than the room, or a list is longer than what is given for it.
-pub(crate) fn is_unfit(text: &[u8], lists: Lists, room: usize, list_room: usize) -> bool {
-    let head = cases::number(text, lists.next);
-    let rows = head.value as usize;
-    if room < rows {
-        return true;
-    }
-    let numbers = numbers_past(text, head.next, rows);
-    if list_room < numbers {
-        return true;
-    }
-    is_longer(lists, rows, numbers)
-}
-
-// Reads how many numbers there are for the list of tries, then the numbers, as many as it has places; returns the place past them.
-pub(crate) fn read_list(text: &[u8], at: usize, list: &mut [u32]) -> usize {
-    let head = cases::number(text, at);
-    let n = cases::least(head.value as usize, list.len());
-    let mut next = head.next;
-    let mut i = 0;
-    while i < n {
-        let number = cases::number(text, next);
-        list[i] = cases::held32(number.value);
-        next = number.next;
-        i += 1;
-    }
-    next
 }

@@ -13,483 +13,230 @@
 mod given;
 mod saying;
 
+use cases::{ElementRows, FourLengths, LIST, Text, front, front_mut};
 use choosers::Kind;
-use given::{
-    HeldRules, Lent, Lists, given_at, is_bad_rules, is_longer, is_unfit, lists_at, read_list,
-    read_rules, rules_at, within_room,
+use given::{Held, Rules};
+use printing::{
+    Program, bad_line, lent_rows, mark_rows, put_all, run, say_elements, say_kept_rows,
+    say_outcome, say_scratch, say_trie_record, trie_record,
 };
-use printing::{read_page, say};
 use rules::build_rules;
-use saying::{print, say_built, say_verdict, sweep};
+use saying::{Short, say_verdict};
+use std::alloc::{AllocError, Global};
 use std::io;
-use verdicts::{RuleRecord, classify};
-use walk::{LEVELS, Record};
+use table::Refusal;
+use verdicts::{RuleRecord, Verdict, classify};
+use walk::{LookupRefusal, RowsMut};
 
-// The rules, the record and the lengths of its lists for the lines below, and the next place of the text.
-#[derive(Clone, Copy)]
-struct State {
-    held: HeldRules,
+// What the lines so far have left: the rules, scratch, the record and its rows, and the list of tries, of which so many places are lent:
+// the numbers past them stay, and a later line may lend them again.
+#[derive(Drop)]
+struct Builds {
+    rules: Rules,
+    scratch: Vec<u64>,
     record: RuleRecord,
-    lists: Lists,
-    at: usize,
+    rows: ElementRows,
+    tries: Vec<u32>,
+    lent: usize,
 }
 
-// The word that begins a line.
-#[derive(Clone, Copy)]
-enum Word {
-    Rules,
-    Build(Kind),
-    Record,
-    Print,
-    Look,
-    Sweep,
-    Other,
-}
+impl Builds {
+    // Before the first case: no rules, a record of zeros, no rows.
+    fn new(alloc: Global) -> Result<Builds, AllocError> {
+        Ok(Builds {
+            rules: Rules::new(alloc)?,
+            scratch: vec![in alloc; 0; cases::SCRATCH]?,
+            record: RuleRecord::default(),
+            rows: ElementRows::new(alloc)?,
+            tries: vec![in alloc; 0; LIST]?,
+            lent: 0,
+        })
+    }
 
-fn word_at(text: &[u8], at: usize) -> Word {
-    if cases::is_word(text, at, b"rules") {
-        return Word::Rules;
+    // The list of tries, as far as it is lent.
+    fn list(&self) -> &[u32] {
+        front(&self.tries, self.lent)
     }
-    if cases::is_word(text, at, b"fixed") {
-        return Word::Build(Kind::Fixed);
-    }
-    if cases::is_word(text, at, b"variable") {
-        return Word::Build(Kind::Variable);
-    }
-    if cases::is_word(text, at, b"record") {
-        return Word::Record;
-    }
-    if cases::is_word(text, at, b"print") {
-        return Word::Print;
-    }
-    if cases::is_word(text, at, b"look") {
-        return Word::Look;
-    }
-    if cases::is_word(text, at, b"sweep") {
-        return Word::Sweep;
-    }
-    Word::Other
-}
 
-fn mark_lists(
-    scratch: &mut [u64],
-    row_hops: &mut [u16],
-    row_lengths: &mut [u8],
-    row_links: &mut [u32],
-    row_strides: &mut [u8],
-    list: &mut [u32],
-) {
-    cases::fill64(scratch, 7);
-    cases::fill16(row_hops, 9);
-    cases::fill8(row_lengths, 5);
-    cases::fill32(row_links, 9);
-    cases::fill8(row_strides, 9);
-    cases::fill32(list, 9);
-}
-
-fn built(
-    out: &impl Print,
-    kind: Kind,
-    width: u32,
-    levels: u32,
-    links: u16,
-    dvals: &[u32],
-    dlens: &[u8],
-    svals: &[u32],
-    slens: &[u8],
-    actions: &[u16],
-    scratch: &mut [u64],
-    row_hops: &mut [u16],
-    row_lengths: &mut [u8],
-    row_links: &mut [u32],
-    row_strides: &mut [u8],
-    list: &mut [u32],
-) -> io::Result<RuleRecord> {
-    mark_lists(scratch, row_hops, row_lengths, row_links, row_strides, list);
-    let built = build_rules(
-        kind,
-        width,
-        levels,
-        links,
-        dvals,
-        dlens,
-        svals,
-        slens,
-        actions,
-        scratch,
-        row_hops,
-        row_lengths,
-        row_links,
-        row_strides,
-        list,
-    );
-    say_built(
-        out,
-        built,
-        scratch,
-        row_hops,
-        row_lengths,
-        row_links,
-        row_strides,
-        list,
-    )
-}
-
-// Lends as many places of scratch and of the lists as a line asks for, as far as the room goes.
-fn build_lent(
-    out: &impl Print,
-    kind: Kind,
-    levels: u32,
-    held: HeldRules,
-    words: usize,
-    lists: Lists,
-    dvals: &[u32],
-    dlens: &[u8],
-    svals: &[u32],
-    slens: &[u8],
-    actions: &[u16],
-    scratch: &mut [u64],
-    row_hops: &mut [u16],
-    row_lengths: &mut [u8],
-    row_links: &mut [u32],
-    row_strides: &mut [u8],
-    list: &mut [u32],
-) -> io::Result<RuleRecord> {
-    let room = Lent {
-        words: scratch.len(),
-        hops: row_hops.len(),
-        lengths: row_lengths.len(),
-        links: row_links.len(),
-        strides: row_strides.len(),
-        list: list.len(),
-    };
-    let lent = within_room(words, lists, room);
-    let n = lent.words;
-    let a = lent.hops;
-    let b = lent.lengths;
-    let c = lent.links;
-    let d = lent.strides;
-    let e = lent.list;
-    built(
-        out,
-        kind,
-        held.width,
-        levels,
-        held.links,
-        cases::front32(dvals, held.dvals),
-        cases::front8(dlens, held.dlens),
-        cases::front32(svals, held.svals),
-        cases::front8(slens, held.slens),
-        cases::front16(actions, held.actions),
-        &mut scratch[0..n],
-        &mut row_hops[0..a],
-        &mut row_lengths[0..b],
-        &mut row_links[0..c],
-        &mut row_strides[0..d],
-        &mut list[0..e],
-    )
-}
-
-// Says that the line is bad, and passes it over.
-fn bad_line(out: &impl Print, text: &[u8], at: usize, state: State) -> io::Result<State> {
-    say(out, b"bad line")?;
-    let mut next = state;
-    next.at = cases::seek(text, at, b'\n', b'\n');
-    Ok(next)
-}
-
-// A build of the rules, in lists of the lengths that the line gives.
-fn build_line(
-    out: &impl Print,
-    text: &[u8],
-    at: usize,
-    kind: Kind,
-    state: State,
-    dvals: &[u32],
-    dlens: &[u8],
-    svals: &[u32],
-    slens: &[u8],
-    actions: &[u16],
-    scratch: &mut [u64],
-    row_hops: &mut [u16],
-    row_lengths: &mut [u8],
-    row_links: &mut [u32],
-    row_strides: &mut [u8],
-    list: &mut [u32],
-) -> io::Result<State> {
-    let held = state.held;
-    let levels = cases::number(text, at);
-    let words = cases::number(text, levels.next);
-    let lists = lists_at(text, words.next);
-    if scratch.len() < words.value as usize {
-        return bad_line(out, text, at, state);
+    // Whether an element list, or the list of tries, is longer than that.
+    fn is_longer(lists: FourLengths, list: usize, rows: usize, numbers: usize) -> bool {
+        numbers < list || lists.is_past(rows)
     }
-    if is_longer(lists, row_hops.len(), list.len()) {
-        return bad_line(out, text, at, state);
-    }
-    let record = build_lent(
-        out,
-        kind,
-        cases::held32(levels.value),
-        held,
-        words.value as usize,
-        lists,
-        dvals,
-        dlens,
-        svals,
-        slens,
-        actions,
-        scratch,
-        row_hops,
-        row_lengths,
-        row_links,
-        row_strides,
-        list,
-    )?;
-    Ok(State {
-        held,
-        record,
-        lists,
-        at: lists.next,
-    })
-}
 
-// A record, rows and a list of tries of its own.
-fn record_line(
-    out: &impl Print,
-    text: &[u8],
-    at: usize,
-    state: State,
-    row_hops: &mut [u16],
-    row_lengths: &mut [u8],
-    row_links: &mut [u32],
-    row_strides: &mut [u8],
-    list: &mut [u32],
-) -> io::Result<State> {
-    let held = state.held;
-    let given = given_at(text, at);
-    let record = given.record;
-    let lists = given.lists;
-    if is_unfit(text, lists, row_hops.len(), list.len()) {
-        return bad_line(out, text, at, state);
+    // Other rules for the builds below; the record and its lists stay.
+    fn rules_line(&mut self, out: &impl Print, text: &mut Text) -> io::Result<()> {
+        let mut rest = *text;
+        let held = Held::read(&mut rest);
+        if self.rules.is_unfit(rest, held) {
+            return bad_line(out, text);
+        }
+        *text = rest;
+        self.rules.held = held;
+        self.rules.read(text);
+        print!(out; "rules")
     }
-    let past = cases::element_rows(
-        text,
-        lists.next,
-        row_hops,
-        row_lengths,
-        row_links,
-        row_strides,
-    );
-    let end = read_list(text, past, list);
-    say(out, b"record")?;
-    Ok(State {
-        held,
-        record,
-        lists,
-        at: end,
-    })
-}
 
-// Other rules for the builds below; the record and its lists stay.
-fn rules_line(
-    out: &impl Print,
-    text: &[u8],
-    at: usize,
-    state: State,
-    dvals: &mut [u32],
-    dlens: &mut [u8],
-    svals: &mut [u32],
-    slens: &mut [u8],
-    actions: &mut [u16],
-) -> io::Result<State> {
-    let held = rules_at(text, at);
-    if is_bad_rules(text, held, dvals.len()) {
-        return bad_line(out, text, at, state);
-    }
-    say(out, b"rules")?;
-    let mut next = state;
-    next.held = held;
-    next.at = read_rules(text, held.next, dvals, dlens, svals, slens, actions);
-    Ok(next)
-}
-
-// A question about the last record and its lists: `print`, `look` or `sweep`; or a line of another word.
-fn ask(
-    out: &impl Print,
-    text: &[u8],
-    at: usize,
-    word: Word,
-    state: State,
-    row_hops: &[u16],
-    row_lengths: &[u8],
-    row_links: &[u32],
-    row_strides: &[u8],
-    list: &[u32],
-) -> io::Result<State> {
-    if let Word::Other = word {
-        return bad_line(out, text, at, state);
-    }
-    let mut next = state;
-    let record = state.record;
-    let lists = state.lists;
-    let h = cases::front16(row_hops, lists.elements.hops);
-    let b = cases::front8(row_lengths, lists.elements.lengths);
-    let l = cases::front32(row_links, lists.elements.links);
-    let s = cases::front8(row_strides, lists.elements.strides);
-    let t = cases::front32(list, lists.list);
-    if let Word::Print = word {
-        print(out, record.elements as usize, h, b, l, s, t)?;
-        next.at = cases::seek(text, at, b'\n', b'\n');
-        return Ok(next);
-    }
-    let first = cases::number(text, at);
-    let second = cases::number(text, first.next);
-    next.at = second.next;
-    let dest = cases::held32(first.value);
-    let source = cases::held32(second.value);
-    if let Word::Sweep = word {
-        sweep(out, dest, source, record, h, b, l, s, t)?;
-        return Ok(next);
-    }
-    say_verdict(out, classify(record, h, b, l, s, t, dest, source))?;
-    Ok(next)
-}
-
-// One case: the first word of the next line says which.
-fn line(
-    out: &impl Print,
-    text: &[u8],
-    state: State,
-    dvals: &mut [u32],
-    dlens: &mut [u8],
-    svals: &mut [u32],
-    slens: &mut [u8],
-    actions: &mut [u16],
-    scratch: &mut [u64],
-    hops: &mut [u16],
-    lens: &mut [u8],
-    links: &mut [u32],
-    strides: &mut [u8],
-    list: &mut [u32],
-) -> io::Result<State> {
-    let end = cases::seek(text, state.at, b'\n', b'\n');
-    let at = cases::seek(text, end, b'!', b'~');
-    let word = word_at(text, at);
-    match word {
-        Word::Rules => rules_line(out, text, at, state, dvals, dlens, svals, slens, actions),
-        Word::Build(kind) => build_line(
-            out, text, at, kind, state, dvals, dlens, svals, slens, actions, scratch, hops, lens,
-            links, strides, list,
-        ),
-        Word::Record => record_line(out, text, at, state, hops, lens, links, strides, list),
-        _ => ask(out, text, at, word, state, hops, lens, links, strides, list),
-    }
-}
-
-// Before the first case: no rules, a record of zeros, no rows.
-fn start(at: usize) -> State {
-    State {
-        held: HeldRules {
-            width: 0,
-            links: 0,
-            dvals: 0,
-            dlens: 0,
-            svals: 0,
-            slens: 0,
-            actions: 0,
-            next: at,
-        },
-        record: RuleRecord {
-            dest: Record {
-                width: 0,
-                levels: 0,
-                elements: 0,
-                floor: 0,
-                strides: [0u8; LEVELS as usize],
-            },
-            elements: 0,
-        },
-        lists: Lists {
-            elements: cases::no_lists(at),
-            list: 0,
-            next: at,
-        },
-        at,
-    }
-}
-
-fn run(
-    out: &impl Print,
-    text: &[u8],
-    dvals: &mut [u32],
-    dlens: &mut [u8],
-    svals: &mut [u32],
-    slens: &mut [u8],
-    actions: &mut [u16],
-    scratch: &mut [u64],
-    row_hops: &mut [u16],
-    row_lengths: &mut [u8],
-    row_links: &mut [u32],
-    row_strides: &mut [u8],
-    list: &mut [u32],
-) -> io::Result<()> {
-    let count = cases::number(text, 0);
-    let mut state = start(count.next);
-    let mut left = count.value;
-    while left > 0 {
-        state = line(
-            out,
-            text,
-            state,
-            dvals,
-            dlens,
-            svals,
-            slens,
-            actions,
+    // Builds in so many places of scratch, and in what is lent of the element lists and of the list of tries.
+    fn build(&mut self, kind: Kind, levels: u32, words: usize) -> Result<RuleRecord, Refusal> {
+        let held = self.rules.held;
+        let lent = self.rows.lent;
+        let scratch = front_mut(&mut self.scratch, words);
+        let mut rows = RowsMut {
+            hop: front_mut(&mut self.rows.hops, lent.hops),
+            length: front_mut(&mut self.rows.lengths, lent.lengths),
+            link: front_mut(&mut self.rows.links, lent.links),
+            stride: front_mut(&mut self.rows.strides, lent.strides),
+        };
+        let list = front_mut(&mut self.tries, self.lent);
+        build_rules(
+            kind,
+            held.width,
+            levels,
+            held.links,
+            self.rules.lent(),
             scratch,
-            row_hops,
-            row_lengths,
-            row_links,
-            row_strides,
+            &mut rows,
             list,
-        )?;
-        say(out, b"\n")?;
-        left -= 1;
+        )
     }
-    Ok(())
+
+    // What is printed of a build in so many places of scratch.
+    fn say_built(&self, out: &impl Print, words: usize) -> io::Result<()> {
+        let elements = self.record.elements;
+        let nines = cases::count(self.list(), 0, &9);
+        say_trie_record(out, self.record.dest)?;
+        print!(out; " all {elements}")?;
+        say_scratch(out, front(&self.scratch, words))?;
+        say_kept_rows(out, elements as usize, &self.rows)?;
+        print!(out; " nines {nines}")
+    }
+
+    // Lends as many places of scratch and of the lists as the line says.
+    fn build_line(&mut self, out: &impl Print, text: &mut Text, kind: Kind) -> io::Result<()> {
+        let mut rest = *text;
+        let levels = rest.held();
+        let words = rest.number() as usize;
+        let lists = FourLengths::read(&mut rest);
+        let list = rest.number() as usize;
+        let longer = Builds::is_longer(lists, list, self.rows.hops.len(), self.tries.len());
+        if self.scratch.len() < words || longer {
+            return bad_line(out, text);
+        }
+        *text = rest;
+        self.rows.lent = lists;
+        self.lent = list;
+        front_mut(&mut self.scratch, words).fill(7);
+        front_mut(&mut self.tries, list).fill(9);
+        mark_rows(&mut self.rows);
+        let built = self.build(kind, levels, words);
+        self.record = built.unwrap_or_default();
+        say_outcome(out, built)?;
+        self.say_built(out, words)
+    }
+
+    // Whether the rows or the numbers that the text gives next are more than the room, or a list is longer than what is given for it.
+    // The numbers stand behind the rows, which are passed over and not kept, so that a bad line changes nothing.
+    fn is_unfit(&self, text: Text, lists: FourLengths, list: usize) -> bool {
+        let mut text = text;
+        let rows = text.number() as usize;
+        if self.rows.hops.len() < rows {
+            return true;
+        }
+        text.pass_rows(rows);
+        let numbers = text.number() as usize;
+        self.tries.len() < numbers || Builds::is_longer(lists, list, rows, numbers)
+    }
+
+    // Reads how many numbers there are for the list of tries, then the numbers, as many as it has places. (bitmap_cases' `read_hops` is the
+    // same of hops: one of both would be a public call with a clause and a definition, for these four lines.)
+    fn read_list(&mut self, text: &mut Text) {
+        let count = text.number() as usize;
+        for number in self.tries.iter_mut().take(count) {
+            *number = text.held();
+        }
+    }
+
+    // A record, rows and a list of tries of its own: behind the destinations' record stands the E of all tries.
+    fn record_line(&mut self, out: &impl Print, text: &mut Text) -> io::Result<()> {
+        let mut rest = *text;
+        let record = RuleRecord {
+            dest: trie_record(&mut rest),
+            elements: rest.held(),
+        };
+        let lists = FourLengths::read(&mut rest);
+        let list = rest.number() as usize;
+        if self.is_unfit(rest, lists, list) {
+            return bad_line(out, text);
+        }
+        *text = rest;
+        self.record = record;
+        self.rows.lent = lists;
+        self.lent = list;
+        self.rows.read(text);
+        self.read_list(text);
+        print!(out; "record")
+    }
+
+    // The rows of all tries, then the list of tries.
+    fn print_line(&self, out: &impl Print, text: &mut Text) -> io::Result<()> {
+        text.seek(b'\n', b'\n');
+        say_elements(out, self.record.elements as usize, &self.rows)?;
+        print!(out; " list")?;
+        put_all(out, self.list())
+    }
+
+    // What the last record and its lists answer for a destination and a source.
+    fn classify(&self, dest: u32, source: u32) -> Result<Verdict, LookupRefusal> {
+        let rows = lent_rows(&self.rows);
+        classify(self.record, rows, self.list(), dest, source)
+    }
+
+    // One destination and source.
+    fn look(&self, out: &impl Print, text: &mut Text) -> io::Result<()> {
+        let dest = text.held();
+        let source = text.held();
+        say_verdict(out, self.classify(dest, source))
+    }
+
+    // All sources below a number with one destination.
+    fn sweep_sources(&self, out: &impl Print, dest: u32, sources: u32) -> io::Result<()> {
+        for source in 0..sources {
+            let short = Short(self.classify(dest, source));
+            print!(out; " {short}")?;
+        }
+        Ok(())
+    }
+
+    // All destinations below a number, each with all sources below another.
+    fn sweep(&self, out: &impl Print, text: &mut Text) -> io::Result<()> {
+        let dests: u32 = text.held();
+        let sources = text.held();
+        print!(out; "sweep")?;
+        for dest in 0..dests {
+            self.sweep_sources(out, dest, sources)?;
+        }
+        Ok(())
+    }
+}
+
+impl Program for Builds {
+    fn line<W: Print>(&mut self, out: &W, text: &mut Text) -> io::Result<()> {
+        text.seek(b'\n', b'\n');
+        text.seek(b'!', b'~');
+        match text.word() {
+            b"rules" => self.rules_line(out, text),
+            b"fixed" => self.build_line(out, text, Kind::Fixed),
+            b"variable" => self.build_line(out, text, Kind::Variable),
+            b"record" => self.record_line(out, text),
+            b"print" => self.print_line(out, text),
+            b"look" => self.look(out, text),
+            b"sweep" => self.sweep(out, text),
+            _ => bad_line(out, text),
+        }
+    }
 }
 
 fn main(rt: HostRuntime) -> io::Result<()> {
-    let mut page = cases::page();
-    let n = read_page(&mut rt.stdin(), &mut page)?;
-    if n == page.len() {
-        return say(&rt, b"text too long\n");
-    }
-    let mut dvals = cases::values();
-    let mut dlens = cases::lengths();
-    let mut svals = cases::values();
-    let mut slens = cases::lengths();
-    let mut actions = cases::hops();
-    let mut scratch = cases::scratch();
-    let mut row_hops = cases::row_hops();
-    let mut row_lengths = cases::row_lengths();
-    let mut row_links = cases::row_links();
-    let mut row_strides = cases::row_strides();
-    let mut list = cases::list_of_tries();
-    run(
-        &rt,
-        &page[..n],
-        &mut dvals,
-        &mut dlens,
-        &mut svals,
-        &mut slens,
-        &mut actions,
-        &mut scratch,
-        &mut row_hops,
-        &mut row_lengths,
-        &mut row_links,
-        &mut row_strides,
-        &mut list,
-    )
+    let mut builds = Builds::new(rt.alloc())?;
+    run(&rt, &mut rt.stdin(), rt.alloc(), &mut builds)
 }

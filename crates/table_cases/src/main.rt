@@ -6,152 +6,92 @@
 // `zone` asks for a prefix's zone in that table; `shared` for the shared length of two prefixes.
 #![tactic(auto)]
 
-use cases::Held;
-use printing::{put, put_all, read_page, say, say_outcome, say_refused};
+use cases::{Table, Text};
+use printing::{Program, entries, put_all, read_text, run_lines, say_outcome, say_refusal};
 use std::io;
-use table::{Shared, Span};
+use table::{Refusal, Span};
 
-fn say_shared(out: &impl Print, shared: Shared) -> io::Result<()> {
+fn say_shared(out: &impl Print, shared: Result<u32, Refusal>) -> io::Result<()> {
     match shared {
-        Shared::Length(bits) => {
-            say(out, b"length")?;
-            put(out, bits as u64)
-        }
-        Shared::Refused { number, detail } => say_refused(out, number, detail),
+        Ok(bits) => print!(out; "length {bits}"),
+        Err(refusal) => say_refusal(out, refusal),
     }
 }
 
-fn say_span(out: &impl Print, span: Span) -> io::Result<()> {
+fn say_span(out: &impl Print, span: Result<Span, Refusal>) -> io::Result<()> {
     match span {
-        Span::Part { index, count } => {
-            say(out, b"part")?;
-            put(out, index as u64)?;
-            put(out, count as u64)
-        }
-        Span::Refused { number, detail } => say_refused(out, number, detail),
+        Ok(Span { index, count }) => print!(out; "part {index} {count}"),
+        Err(refusal) => say_refusal(out, refusal),
     }
 }
 
 // The part handed back: its length, then its values.
 fn say_part(out: &impl Print, part: &[u32]) -> io::Result<()> {
-    say(out, b" holds")?;
-    put(out, part.len() as u64)?;
-    say(out, b":")?;
+    let n = part.len();
+    print!(out; " holds {n}:")?;
     put_all(out, part)
 }
 
-fn check_held(
-    out: &impl Print,
-    held: Held,
-    values: &[u32],
-    lengths: &[u8],
-    hops: &[u16],
-) -> io::Result<()> {
-    let v = cases::front32(values, held.values);
-    let l = cases::front8(lengths, held.lengths);
-    let h = cases::front16(hops, held.hops);
-    say_outcome(out, table::check_table(held.width, held.links, v, l, h))
+// The shared length of the line's two prefixes of a width.
+fn shared_line(out: &impl Print, text: &mut Text) -> io::Result<()> {
+    let width = text.held();
+    let a = text.held();
+    let a_length = text.held();
+    let b = text.held();
+    let b_length = text.held();
+    say_shared(out, table::shared_length(width, a, a_length, b, b_length))
 }
 
-fn zone_line(
-    out: &impl Print,
-    text: &[u8],
-    at: usize,
-    held: Held,
-    values: &[u32],
-    lengths: &[u8],
-    hops: &[u16],
-) -> io::Result<usize> {
-    let value = cases::number(text, at);
-    let length = cases::number(text, value.next);
-    let prefix = cases::held32(value.value);
-    let bits = cases::held8(length.value);
-    let v = cases::front32(values, held.values);
-    let l = cases::front8(lengths, held.lengths);
-    let h = cases::front16(hops, held.hops);
-    say_span(
-        out,
-        table::zone_span(held.width, held.links, v, l, h, prefix, bits),
-    )?;
-    say_part(
-        out,
-        table::zone(held.width, held.links, v, l, h, prefix, bits),
-    )?;
-    Ok(length.next)
+// The table of the lines so far.
+#[derive(Drop)]
+struct Tables {
+    table: Table,
 }
 
-fn shared_line(out: &impl Print, text: &[u8], at: usize) -> io::Result<usize> {
-    let width = cases::number(text, at);
-    let a = cases::number(text, width.next);
-    let a_length = cases::number(text, a.next);
-    let b = cases::number(text, a_length.next);
-    let b_length = cases::number(text, b.next);
-    say_shared(
-        out,
-        table::shared_length(
-            cases::held32(width.value),
-            cases::held32(a.value),
-            cases::held8(a_length.value),
-            cases::held32(b.value),
-            cases::held8(b_length.value),
-        ),
-    )?;
-    Ok(b_length.next)
+impl Tables {
+    fn check(&self, out: &impl Print) -> io::Result<()> {
+        let held = self.table.held;
+        let outcome = table::check_table(held.width, held.links, entries(&self.table));
+        say_outcome(out, outcome)
+    }
+
+    fn zone_line(&self, out: &impl Print, text: &mut Text) -> io::Result<()> {
+        let prefix = text.held();
+        let bits = text.held();
+        let width = self.table.held.width;
+        let links = self.table.held.links;
+        let entries = entries(&self.table);
+        let span = table::zone_span(width, links, entries, prefix, bits);
+        say_span(out, span)?;
+        let part = table::zone(width, links, entries, prefix, bits);
+        say_part(out, part)
+    }
 }
 
-// One case: its first letter says which.
-fn line(
-    out: &impl Print,
-    text: &[u8],
-    held: Held,
-    values: &mut [u32],
-    lengths: &mut [u8],
-    hops: &mut [u16],
-) -> io::Result<Held> {
-    let at = cases::seek(text, held.at, b'a', b'z');
-    let letter = cases::byte(text, at);
-    if letter == b't' {
-        let new = cases::table_line(text, at, values, lengths, hops);
-        check_held(out, new, values, lengths, hops)?;
-        return Ok(new);
+impl Program for Tables {
+    // The first letter of a line says which case it is.
+    fn line<W: Print>(&mut self, out: &W, text: &mut Text) -> io::Result<()> {
+        text.seek(b'a', b'z');
+        match text.byte() {
+            b't' => {
+                self.table.read(text);
+                self.check(out)
+            }
+            b'r' => {
+                self.table.rise(text);
+                self.check(out)
+            }
+            b'z' => self.zone_line(out, text),
+            _ => shared_line(out, text),
+        }
     }
-    if letter == b'r' {
-        let new = cases::rising_line(text, at, values, lengths, hops);
-        check_held(out, new, values, lengths, hops)?;
-        return Ok(new);
-    }
-    let mut next = held;
-    if letter == b'z' {
-        next.at = zone_line(out, text, at, held, values, lengths, hops)?;
-        return Ok(next);
-    }
-    next.at = shared_line(out, text, at)?;
-    Ok(next)
-}
-
-fn run(
-    out: &impl Print,
-    text: &[u8],
-    values: &mut [u32],
-    lengths: &mut [u8],
-    hops: &mut [u16],
-) -> io::Result<()> {
-    let count = cases::number(text, 0);
-    let mut held = cases::no_table(count.next);
-    let mut left = count.value;
-    while left > 0 {
-        held = line(out, text, held, values, lengths, hops)?;
-        say(out, b"\n")?;
-        left -= 1;
-    }
-    Ok(())
 }
 
 fn main(rt: HostRuntime) -> io::Result<()> {
-    let mut page = cases::page();
-    let n = read_page(&mut rt.stdin(), &mut page)?;
-    let mut values = cases::values();
-    let mut lengths = cases::lengths();
-    let mut hops = cases::hops();
-    run(&rt, &page[..n], &mut values, &mut lengths, &mut hops)
+    let alloc = rt.alloc();
+    let text = read_text(&mut rt.stdin(), alloc)?;
+    let mut tables = Tables {
+        table: Table::new(alloc)?,
+    };
+    run_lines(&rt, &text, &mut tables)
 }

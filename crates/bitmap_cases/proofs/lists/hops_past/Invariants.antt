@@ -1,9 +1,0 @@
--- The rows left fall.
-use Rattle.std.proofs.Common.{◌-◌, ◌≤◌}
-use Rattle.bitmap_cases.proofs.lists.hops_past.Given as goal
-
-abbrev pub invariant-loop-i : goal.invariant-loop-i
-invariant-loop-i l = l.i ≤ l.rows
-
-abbrev pub decreases-loop-i : goal.decreases-loop-i
-decreases-loop-i l = l.rows - l.i
