@@ -30,7 +30,7 @@ fn within(list: &[u8], low: u8, high: u8) -> usize
     passed.count()
 }
 
-// The same of those that lie elsewhere.
+// The same of those that lie elsewhere. (Two functions: one over any test would want that test's contract beside it.)
 fn outside(list: &[u8], low: u8, high: u8) -> usize
     ensures { result ≡ prefix_len (λ c. not (between low high c)) list.now }
 {

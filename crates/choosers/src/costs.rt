@@ -104,7 +104,7 @@ struct Pass {
 }
 
 // (From here on rows, link, pass, line and sums stay parameters: rows and sums are lent to be written, and a struct of them would be made
-// and taken apart at each call.)
+// and taken apart at each call. What is asked of the tree is of the rows as they stand, so no field can hold it.)
 
 // Stores the choices of row x with from + 1 to `to` levels left. What the blocks below cost with r levels left stands in the column
 // of the sums that begins r - from places after `first`.

@@ -31,7 +31,8 @@ pub(crate) fn longest_length(lens: &[u8]) -> usize
     longest
 }
 
-// The choices for the d levels from level i on, where level i has n nodes and the rows after i are filled.
+// The choices for the d levels from level i on, where level i has n nodes and the rows after i are filled. (The two lists stay apart:
+// `Column` reads one of them, and both are written.)
 fn fill_row(n: usize, i: usize, d: usize, levels: usize, costs: &mut [u64], strides: &mut [u64])
     requires costs_len { (length costs.old ≡ level_cells) × (length strides.old ≡ level_cells) }
     requires n_bound { (n ≤ ENTRIES) × (1 ≤ d) × (i + d ≤ WIDTH) × (levels ≤ LEVELS) }

@@ -46,7 +46,8 @@ fn grown(used: usize, y: usize) -> usize
 }
 
 // Puts the entry of the last n + 1 bits of v, with the mark h, into the tree at row x; `used` is the next free row, and
-// the result the one after.
+// the result the one after. (v, n and h stay numbers: each step goes on with one bit fewer, and `add` and `add_counted` ask another of
+// them.)
 fn insert(rows: &mut [u64], x: usize, used: usize, v: usize, n: usize, h: usize) -> usize
     requires { InsertIn rows.old x used v n }
     ensures { Inserted rows.old x used v n h result rows.new }
@@ -138,6 +139,7 @@ pub(crate) fn make_rows(rows: &mut [u64], counts: &mut [u64], width: u32, entrie
     for i in 0..value.len() {
         let l = length[i];
         let mark = mark_of(hop[i], l);
+        // A cast of the length: with `from` the call takes nine lines.
         used = add_counted(rows, counts, used, w, value[i] as usize, l as usize, mark);
     }
     root_link(used)

@@ -21,7 +21,7 @@ pub const BEFORE_STRIDES: usize = STRIDE - 1;
 // Numbers in a row.
 pub const ROW: usize = STRIDE + SLOTS;
 
-// Column c of the row that the link k names; 0 where it names none.
+// Column c of the row that the link k names; 0 where it names none. (Each call asks that the row is there: rows are lent to be written.)
 #[tactic(auto, unfolding(crate::specs::Scratch::ask))]
 pub(crate) fn asked(rows: &[u64], k: usize, c: usize) -> usize
     requires { (k * ROW ≤ length rows.now) × (c < ROW) }

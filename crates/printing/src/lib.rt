@@ -1,6 +1,7 @@
 // What the vector programs read and print alike: a run's text and its lines, a table's lines, an outcome, strides, a trie's record, what
 // a lent scratch holds, element rows and the marks kept past them, and what a lookup answers.
-// Nothing that prints has a contract: each is proved safe and ending, and the bytes are compared with the reference's.
+// Nothing that prints has a contract: each is proved safe and ending, and the bytes are compared with the reference's. Answers are said by
+// functions: their types are other crates', which print nothing.
 #![tactic(auto)]
 
 ghost use Rattle.std.specs.Io.{ReadsAtMost};

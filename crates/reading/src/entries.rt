@@ -8,7 +8,7 @@ use crate::lines::{BadLine, Lines};
 impl Lines<'_> {
     ghost use Rattle.reading.specs.Entries.{EntriesTook, QueriesTook};
 
-    // Reads n entries into the lists.
+    // Reads n entries into the lists. (Lists, as `Contents` has them: they meet in this call alone.)
     pub(crate) fn entries(
         &mut self,
         n: usize,
@@ -31,7 +31,7 @@ impl Lines<'_> {
         Ok(())
     }
 
-    // Reads n addresses into the lists.
+    // Reads n addresses into the lists. (Lists, for the same reason.)
     pub(crate) fn queries(
         &mut self,
         n: usize,

@@ -96,7 +96,8 @@ fn build_split(
 
 // Turns rules into a destination trie whose entries lead to source tries, all in lent arrays, each with the least number of rows of its
 // kind; or refuses them by the first of the tests 1 to 7, where 6 and 7 count over all tries and 7 tests the elements, then the list of
-// tries. Refused, neither elements nor list change; 1 to 6 keep scratch too, else all of it is 0.
+// tries. Refused, neither elements nor list change; 1 to 6 keep scratch too, else all of it is 0. (Width, levels and links stay numbers, as
+// choosers has them.)
 pub fn build_rules(
     kind: Kind,
     width: u32,

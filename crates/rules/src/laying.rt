@@ -125,7 +125,8 @@ fn put_row(list: &mut [u32], g: usize, rec: Record, place: usize, next: usize)
     list[row + NEXT] = next as u32;
 }
 
-// Builds source trie g at a place and writes its row of the list. Answers its number of rows.
+// Builds source trie g at a place and writes its row of the list. Answers its number of rows. (What is lent to be written stays apart, and
+// `CanLayAt` is of it: a struct would be taken apart at once.)
 fn lay_source(
     split: &Split,
     g: usize,

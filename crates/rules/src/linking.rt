@@ -19,7 +19,7 @@ fn is_begun(width: u32, p: u32, b: u8, v: u32) -> bool
 }
 
 // The number of the last destination before g that begins it; 0 and no Option where none does, since it goes into the list so. One by one:
-// those that begin it do not stand together, so there is no search by halves.
+// those that begin it do not stand together, so there is no search by halves. (Two of a table's three lists: no more is read.)
 pub(crate) fn nearest(width: u32, vals: &[u32], lens: &[u8], g: usize) -> usize
     requires width_le_width_limit { (width ≤ width_limit) × (length lens.now ≡ length vals.now) × (g < length vals.now) }
     requires short { Short width lens.now }

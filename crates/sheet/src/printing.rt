@@ -1,4 +1,5 @@
 // The report's lines, each put at the end of a page. The page is long enough for the longest number in every line, so none of them tests.
+// Bytes are put one by one and not by `Display`: the promise is of the bytes.
 ghost use Rattle.std.specs.Prelude.{◌≡◌, ◌+◌, ◌≤◌, ◌++◌, length};
 ghost use Rattle.arrayvec.specs.ArrayVec.{array_vec_len};
 ghost use Rattle.reading.specs.Limits.{BITS, decimal_digits};

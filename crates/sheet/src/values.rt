@@ -6,7 +6,7 @@ ghost use Rattle.sheet.specs.Values.{value_of, values_of};
 
 use reading::{COUNT, Contents};
 
-// The value of `len` leading bits at a width; 0 where it has none.
+// The value of `len` leading bits at a width; 0 and no Option where it has none: `value_of` says so.
 fn placed(width: u32, bits: u32, len: u8) -> u32
     requires { bits < 2 ^ len }
     ensures { result ≡ value_of width bits len }

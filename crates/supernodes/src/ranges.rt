@@ -6,7 +6,7 @@ ghost use Rattle.supernodes.specs.Spans.{Parted, CountAsk, CountedNodes};
 
 use table::Entries;
 
-// Whether bit n of x, from the right, is 1.
+// Whether bit n of x, from the right, is 1. (visits asks the same of 16 bits: as a public call this would have a `requires`.)
 fn is_one(x: u32, n: u32) -> bool
     requires { n < 32 }
     ensures { result ≡ eqb (x / 2 ^ n % 2) 1 }
@@ -38,7 +38,7 @@ pub(crate) fn past(lens: &[u8], d: u32, from: usize) -> usize
     from
 }
 
-// Its mark, 0 where there is none. (The test is that of `past`, which `nodes_in` asks alone.)
+// Its mark, 0 where there is none. (The test is that of `past`, which `nodes_in` asks alone. Two of a table's three lists: no more is read.)
 pub(crate) fn first_mark(lens: &[u8], hops: &[u16], d: u32, from: usize) -> usize
     requires { (from < length lens.now) × (from < length hops.now) }
     ensures { result ≡ cond (eqb (at lens.now from) d) (at hops.now from) 0 }
@@ -49,7 +49,7 @@ pub(crate) fn first_mark(lens: &[u8], hops: &[u16], d: u32, from: usize) -> usiz
     0
 }
 
-// How many nodes the trie of the entries from..to has, which start with the same d bits.
+// How many nodes the trie of the entries from..to has, which start with the same d bits. (Numbers, as of `grow`.)
 pub(crate) fn nodes_in(width: u32, entries: Entries, d: u32, from: usize, to: usize) -> usize
     requires { CountAsk width entries.value.now entries.length.now d from to }
     ensures { CountedNodes width entries.entry.value.now entries.entry.length.now d from to result }

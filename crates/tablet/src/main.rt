@@ -20,7 +20,7 @@ enum Failed {
 }
 
 impl Failed {
-    // The line for standard error.
+    // The line for standard error. (No `Display`: nothing else is printed.)
     fn line(self) -> &'static str {
         match self {
             Failed::Reading => "tablet: standard input cannot be read: no report\n",

@@ -29,7 +29,8 @@ fn given(k: usize, v: usize) -> usize
     if k == 0 { 0 } else { v }
 }
 
-// (A mark stays a number, with its bound in the clauses: a struct for it would be made and unmade at each row.)
+// (A mark stays a number, with its bound in the clauses: a struct for it would be made and unmade at each row. From here on k, r, base, best
+// and free are numbers too: each call goes on with others.)
 
 // The best mark below the link k on a side, where `best` is the one so far in the block: a nonzero mark is the new best.
 fn best_below(trie: &Source, k: usize, side: usize, best: u32) -> u32

@@ -42,7 +42,8 @@ fn floor_hop(entries: Entries) -> u16
     }
 }
 
-// Past test 6, with the plan in scratch: refuses for room (7) or writes the rows.
+// Past test 6, with the plan in scratch: refuses for room (7) or writes the rows. (Width, levels and links stay numbers, as choosers has
+// them.)
 fn build_rows(
     p: Plan,
     width: u32,

@@ -1,5 +1,6 @@
 // How the builder reads the scratch rows that a plan left (choosers, `specs/Scratch.antt`): by links, a number of a row, and the stride of
 // a block. The choosers read a number in the same way; a function that needs a row to be there is no public call, so it stands here again.
+// 0 for none is as choosers' scratch has it.
 ghost use Rattle.std.specs.Prelude.{◌≡◌, ◌*◌, ◌<◌, ◌≤◌, length};
 ghost use Rattle.walk.specs.Limits.{LEVELS};
 ghost use Rattle.choosers.specs.Scratch.{ROW, ask, stride_at};

@@ -67,6 +67,7 @@ impl<'a> Tries<'a> {
         requires { row.place + row.elements ≤ self.elements }
         ensures { numbers_of result ≡ answer_numbers (lookup_in WIDTH self.entry.width self.entry.levels (lent self.entry.rows) self.entry.source row) }
     {
+        // (Not `u8::try_from`: its error would have to be made this one, in as many lines.)
         if LARGEST_BYTE < row.root {
             return Err(LookupRefusal::Damage);
         }
