@@ -9,6 +9,7 @@ pub(crate) const SLOTS: usize = LEVELS as usize;
 pub(crate) const BYTE: usize = 256;
 
 // Every length is below this: hop and length of an entry are one mark, `hop * LENGTHS + length` (layout's Marks.antt has the same one).
+// One number and no struct: a row has one column for the mark of each side.
 pub const LENGTHS: usize = 256;
 
 // Costs are held here: above what any choice for the widest address costs, so it never bites.

@@ -20,7 +20,7 @@ use walk::{Record, RowsMut};
 pub fn is_crowded(e: u64, room: usize) -> bool
     ensures { result ≡ (ltb room e || ltb ELEMENTS e) }
 {
-    (room as u64) < e || (ELEMENTS as u64) < e
+    (room as u64) < e || u64::from(ELEMENTS) < e
 }
 
 // The hop of the entry of length 0, which can only be a table's first; 0 where there is none, as the record holds it.

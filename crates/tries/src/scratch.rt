@@ -39,6 +39,6 @@ impl Source<'_> {
         if self.plan[0] == 0 {
             return self.asked(k, BEFORE_STRIDES + r);
         }
-        self.plan[self.plan.len() - r] as usize
+        usize::from(self.plan[self.plan.len() - r])
     }
 }
