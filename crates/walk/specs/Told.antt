@@ -33,3 +33,8 @@ case_of (code.TheVariants.NoRoute r) = NoRoute r
 abbrev pub said : Result code.Answer LookupRefusal → Answer
 said (Ok a) = case_of a
 said (Err e) = Refused (lookup_refusal_number e)
+
+-- an answer of the code, or a refusal's number, as the laws have it
+abbrev pub said_number : Result code.Answer ℕ → Answer
+said_number (Ok a) = case_of a
+said_number (Err n) = Refused n

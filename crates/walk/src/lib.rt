@@ -11,7 +11,7 @@ mod walk;
 
 pub use address::is_beyond;
 pub use limits::LEVELS;
-pub use numbers::{AnswerNumbers, Found, LookupRefusal};
+pub use numbers::{AnswerNumbers, Found, LookupRefusal, hop_numbers, refusal_numbers};
 pub use record::Record;
 pub use rows::{Rows, RowsMut};
-pub use walk::{Answer, find, lookup};
+pub use walk::{Answer, answer_of, find, lookup};

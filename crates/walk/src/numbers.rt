@@ -2,6 +2,7 @@
 // foresee, and so there is no jump on it. And the same in numbers, as C is told it.
 ghost use Rattle.std.specs.Prelude.{◌≡◌};
 ghost use Rattle.walk.specs.Answers.{answer, answer_numbers};
+ghost use Rattle.walk.specs.Cases.{Refused};
 ghost use Rattle.walk.specs.Told.{found_numbers, lookup_refusal_number, numbers_of};
 ghost use Rattle.walk.specs.Packed.{unpacked, IsPacked};
 
@@ -78,5 +79,29 @@ impl From<Result<Found, LookupRefusal>> for AnswerNumbers {
                 reads: 0,
             },
         }
+    }
+}
+
+// The numbers of a lookup that came to its end, over rows of any layout: any hop, and any length beside it, which no route has not.
+pub fn hop_numbers(hop: u16, length: u8, reads: u32) -> AnswerNumbers
+    ensures { result ≡ answer_numbers (answer hop length reads) }
+{
+    AnswerNumbers {
+        number: 0,
+        hop,
+        length: if hop == 0 { 0 } else { length },
+        reads,
+    }
+}
+
+// Those of a refused lookup: any number, no hop, no length and 0 reads.
+pub fn refusal_numbers(number: u32) -> AnswerNumbers
+    ensures { result ≡ answer_numbers (Refused number) }
+{
+    AnswerNumbers {
+        number,
+        hop: 0,
+        length: 0,
+        reads: 0,
     }
 }

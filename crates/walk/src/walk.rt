@@ -6,15 +6,15 @@ ghost use Rattle.walk.specs.Limits.{WIDTH};
 ghost use Rattle.walk.specs.Rows.{shortest, row_at};
 ghost use Rattle.walk.specs.Lent.{lent};
 ghost use Rattle.table.specs.Answers.{Told};
-ghost use Rattle.walk.specs.Answers.{floor_best, answer, answer_numbers};
-ghost use Rattle.walk.specs.Told.{case_of, said, numbers_of, tested_number};
+ghost use Rattle.walk.specs.Answers.{floor_best, answer, answer_numbers, answer_of};
+ghost use Rattle.walk.specs.Told.{case_of, said, said_number, numbers_of, tested_number};
 ghost use Rattle.walk.specs.Lookup.{walk, first_refusal, lookup_of};
 ghost use Rattle.walk.specs.Meaning.{Looked};
 ghost use Rattle.walk.specs.Packed.{IsPacked, unpacked, best_with};
 
 use crate::address::{cut, is_beyond};
 use crate::limits::{HOPS, LEVELS};
-use crate::numbers::{Found, LookupRefusal};
+use crate::numbers::{AnswerNumbers, Found, LookupRefusal};
 use crate::record::Record;
 use crate::rows::Rows;
 use table::{DISCARD, WIDTH, is_outside};
@@ -39,6 +39,24 @@ impl From<Found> for Answer {
             _ => Answer::Match { hop, length, reads },
         }
     }
+}
+
+// The answer that numbers say, whatever numbers they are: a number that is not 0 is a refusal. (Its error is the number: numbers may hold
+// any, and not a lookup's four alone.)
+#[tactic(auto, unfolding(crate::specs::Answers::answer_of))]
+pub fn answer_of(numbers: AnswerNumbers) -> Result<Answer, u32>
+    ensures { said_number result ≡ answer_of numbers }
+{
+    let AnswerNumbers {
+        number,
+        hop,
+        length,
+        reads,
+    } = numbers;
+    if number != 0 {
+        return Err(number);
+    }
+    Ok(Answer::from(Found { hop, length, reads }))
 }
 
 // A nonzero hop is the new best, with the length beside it.
