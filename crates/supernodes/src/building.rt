@@ -21,7 +21,7 @@ fn tested(width: u32, links: u16, entries: Entries, words: usize) -> Result<(), 
         (up_to_scratch width links entries.entry.value.now entries.entry.length.now entries.entry.hop.now words) }
 {
     check_table(width, links, entries)?;
-    let nodes = nodes_in(width, entries, 0, 0, entries.value.len());
+    let nodes = nodes_in(width, &entries, 0, 0, entries.value.len());
     if words / NODE_ROW < nodes {
         return Err(Refusal::Scratch {
             needed: nodes as u64,
@@ -35,7 +35,7 @@ fn line_table(width: u32, entries: Entries, scratch: &mut [u64]) -> usize
     requires { FitTable width entries.value.now entries.length.now entries.hop.now scratch.old }
     ensures { TableLined width entries.entry.value.now entries.entry.length.now entries.entry.hop.now result scratch.new }
 {
-    let used = grow(scratch, width, entries, 0, 0, entries.value.len(), 0);
+    let used = grow(scratch, width, &entries, 0, 0, entries.value.len(), 0);
     line_up(scratch, link(0, used))
 }
 

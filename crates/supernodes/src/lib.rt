@@ -13,4 +13,6 @@ mod rows;
 
 pub use building::build_bitmap;
 pub use limits::NODE_ROW;
+pub use table::{Entries, Refusal};
 pub use visits::{Bitmap, Supernodes, SupernodesMut, find_bitmap, lookup_bitmap};
+pub use walk::{Answer, LookupRefusal};

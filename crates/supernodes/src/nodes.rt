@@ -55,14 +55,14 @@ pub(crate) fn link(x: usize, next: usize) -> usize
 pub(crate) fn grow(
     rows: &mut [u64],
     width: u32,
-    entries: Entries,
+    entries: &Entries,
     d: u32,
     from: usize,
     to: usize,
     used: usize,
 ) -> usize
-    requires { GrowAsk rows.old width entries.value.now entries.length.now entries.hop.now d from to used }
-    ensures { Grown rows.old width entries.entry.value.now entries.entry.length.now entries.entry.hop.now d from to used result rows.new }
+    requires { GrowAsk rows.old width entries.now.value.now entries.now.length.now entries.now.hop.now d from to used }
+    ensures { Grown rows.old width entries.now.value.now entries.now.length.now entries.now.hop.now d from to used result rows.new }
 {
     if from == to {
         return used;

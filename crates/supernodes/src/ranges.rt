@@ -49,10 +49,11 @@ pub(crate) fn first_mark(lens: &[u8], hops: &[u16], d: u32, from: usize) -> usiz
     0
 }
 
-// How many nodes the trie of the entries from..to has, which start with the same d bits. (Numbers, as of `grow`.)
-pub(crate) fn nodes_in(width: u32, entries: Entries, d: u32, from: usize, to: usize) -> usize
-    requires { CountAsk width entries.value.now entries.length.now d from to }
-    ensures { CountedNodes width entries.entry.value.now entries.entry.length.now d from to result }
+// How many nodes the trie of the entries from..to has, which start with the same d bits. (Numbers, as of `grow`. By reference, both: by
+// value the three lists were copied at each of two calls.)
+pub(crate) fn nodes_in(width: u32, entries: &Entries, d: u32, from: usize, to: usize) -> usize
+    requires { CountAsk width entries.now.value.now entries.now.length.now d from to }
+    ensures { CountedNodes width entries.now.value.now entries.now.length.now d from to result }
 {
     if from == to {
         return 0;
