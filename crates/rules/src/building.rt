@@ -1,5 +1,8 @@
 // The build of rules (02, [6]): a destination trie whose entries lead to source tries, all in lent arrays.
-ghost use Rattle.std.specs.Prelude.{◌≡◌, length, [], ◌∷◌, Ok};
+ghost use Rattle.std.specs.Prelude.{◌≡◌, length, [], ◌∷◌, Ok, false};
+ghost use Rattle.table.specs.Limits.{outside};
+ghost use Rattle.walk.specs.Limits.{LEVELS};
+ghost use Rattle.fields.specs.Rules.{check_rules_of};
 ghost use Rattle.table.specs.Refusals.{outcome, outcome_of};
 ghost use Rattle.walk.specs.Lent.{held, SameLists};
 ghost use Rattle.tries.specs.Build.{room_test};
@@ -94,11 +97,9 @@ fn build_split(
     built
 }
 
-// Turns rules into a destination trie whose entries lead to source tries, all in lent arrays, each with the least number of rows of its
-// kind; or refuses them by the first of the tests 1 to 7, where 6 and 7 count over all tries and 7 tests the elements, then the list of
-// tries. Refused, neither elements nor list change; 1 to 6 keep scratch too, else all of it is 0. (Width, levels and links stay numbers, as
-// choosers has them.)
-pub fn build_rules(
+// Past test 5: gathers the destinations, and goes on. (A function of its own: its arrays are cleared where it begins, and a refusal by 1 to 5
+// comes before. Links are what the rules were tested with.)
+fn build_gathered(
     kind: Kind,
     width: u32,
     levels: u32,
@@ -108,19 +109,12 @@ pub fn build_rules(
     rows: &mut RowsMut,
     list: &mut [u32],
 ) -> Result<RuleRecord, Refusal>
+    requires levels { outside levels LEVELS ≡ false }
+    requires accepted { check_rules_of width links (lent rules) ≡ Ok tt }
     ensures same { SameLists rows.old rows.new }
     ensures exact { RulesAre (kind_of kind) width levels links (lent rules.entry) scratch.old
         (held rows.old) list.old (outcome_of result) (rule_record_of result) scratch.new (held rows.new) list.new }
-    ensures meaning { RuleBuilds (kind_of kind) width levels links (lent rules.entry) scratch.old
-        (held rows.old) list.old (outcome_of result) (rule_record_of result) scratch.new (held rows.new) list.new }
 {
-    if is_outside(width, WIDTH) {
-        return Err(Refusal::Width);
-    }
-    if is_outside(levels, LEVELS) {
-        return Err(Refusal::Levels);
-    }
-    check_rules(width, links, rules)?;
     // Arrays of the most rules, of which the first m are used: there is no heap here.
     let mut first = [0u16; RULES + 1];
     let mut vals = [0u32; RULES];
@@ -151,4 +145,34 @@ pub fn build_rules(
         },
     };
     build_split(&split, scratch, rows, list)
+}
+
+// Turns rules into a destination trie whose entries lead to source tries, all in lent arrays, each with the least number of rows of its
+// kind; or refuses them by the first of the tests 1 to 7, where 6 and 7 count over all tries and 7 tests the elements, then the list of
+// tries. Refused, neither elements nor list change; 1 to 6 keep scratch too, else all of it is 0. (Width, levels and links stay numbers, as
+// choosers has them.)
+pub fn build_rules(
+    kind: Kind,
+    width: u32,
+    levels: u32,
+    links: u16,
+    rules: RuleLists,
+    scratch: &mut [u64],
+    rows: &mut RowsMut,
+    list: &mut [u32],
+) -> Result<RuleRecord, Refusal>
+    ensures same { SameLists rows.old rows.new }
+    ensures exact { RulesAre (kind_of kind) width levels links (lent rules.entry) scratch.old
+        (held rows.old) list.old (outcome_of result) (rule_record_of result) scratch.new (held rows.new) list.new }
+    ensures meaning { RuleBuilds (kind_of kind) width levels links (lent rules.entry) scratch.old
+        (held rows.old) list.old (outcome_of result) (rule_record_of result) scratch.new (held rows.new) list.new }
+{
+    if is_outside(width, WIDTH) {
+        return Err(Refusal::Width);
+    }
+    if is_outside(levels, LEVELS) {
+        return Err(Refusal::Levels);
+    }
+    check_rules(width, links, rules)?;
+    build_gathered(kind, width, levels, links, rules, scratch, rows, list)
 }

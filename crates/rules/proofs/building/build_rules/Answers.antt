@@ -1,16 +1,12 @@
-use Prim.Native.Nat.{◌+◌}
-use mathlib.Core.Path.{◌≡◌, sym, ◌∙◌}
-use native.Mathlib.Omega.{arith}
-use lib.ListN.{length}
+use mathlib.Core.Path.{sym, ◌∙◌}
 use Rattle.std.proofs.Common.{rules as tricks}
 use Rattle.table.specs.Refusals.{outcome_of}
 use Rattle.table.proofs.Refusals.{handed_on}
 use Rattle.walk.specs.Lent.{held}
 use Rattle.choosers.specs.Kinds.{kind_of}
-use Rattle.fields.specs.Limits.{rule_limit}
 use Rattle.fields.specs.Lent.{lent}
 use Rattle.rules.proofs.Meaning.{rules_mean}
-use Rattle.rules.proofs.Whole.{width_refused, levels_refused, rules_refused, checked_good, gathered_can, gathered_built}
+use Rattle.rules.proofs.Whole.{width_refused, levels_refused, rules_refused}
 use Rattle.rules.proofs.building.build_rules.Goals as goal
 
 pub returns-then-is_outside : goal.returns-then-is_outside
@@ -37,22 +33,12 @@ returns-in_err-check_rules c =
     (sym c.is_outside.ensures ∙ c.if-is_outside.false) (sym c.is_outside-2.ensures ∙ c.if-is_outside-2.false) _ (sym c.in_err-check_rules.ensures.exact) in
     rw (handed_on _ c.from_residual.ensures.1) (record { same = search tricks; exact = b; meaning = rules_mean b })
 
-pub gather-m-requires : goal.gather-m-requires
-gather-m-requires c =
-    let g = checked_good c.args.width c.args.links (lent c.args.rules) (sym c.in_ok-check_rules.ensures.exact) in
+pub build_gathered-requires : goal.build_gathered-requires
+build_gathered-requires c =
     record {
-      dlens_len = (g.lengths.dlengths, g.few, omega (arith, g.few));
-      dvals_in_bounds = (g.few, g.few, g.few);
+      levels = sym c.is_outside-2.ensures ∙ c.if-is_outside-2.false;
+      accepted = sym c.in_ok-check_rules.ensures.exact;
     }
 
-pub build_split-requires : goal.build_split-requires
-build_split-requires c =
-    let long : length c.gather-m.new.first ≡ rule_limit + 1 = omega (arith, c.gather-m.auto) in
-    gathered_can c.args.width c.args.links (lent c.args.rules) (sym c.in_ok-check_rules.ensures.exact) c.args.levels (sym c.is_outside-2.ensures ∙ c.if-is_outside-2.false) c.gather-m.ensures long
-
 pub returns : goal.returns
-returns c =
-    let long : length c.gather-m.new.first ≡ rule_limit + 1 = omega (arith, c.gather-m.auto) in
-    let b = gathered_built c.args.width c.args.links (lent c.args.rules) (sym c.in_ok-check_rules.ensures.exact) c.args.levels (sym c.is_outside-2.ensures ∙ c.if-is_outside-2.false) c.gather-m.ensures long
-    c.build_split.ensures.built in
-    record { same = search tricks; exact = b; meaning = rules_mean b }
+returns c = let b = c.build_gathered.ensures in record { same = b.same; exact = b.exact; meaning = rules_mean b.exact }
