@@ -2,22 +2,25 @@
 -- good, and the sheet that it says, can be read from the contents.
 use mathlib.Core.Path.{◌≡◌, refl, sym, ap, subst, ◌∙◌}
 use mathlib.Core.List.{List}
+use mathlib.Core.Bool.{Bool, true, false, ◌&&◌, cond}
 use mathlib.Core.Logic.{inl, inr}
-use Prim.Native.Nat.{ℕ, ◌≤◌}
+use Prim.Native.Nat.{ℕ, ◌+◌, ◌≤◌}
 use native.Mathlib.Omega.{arith}
 use lib.ListN.{length, take}
+use lib.Dec.{eqb}
 use lib.Seq.{length-take-le, get_or-take, ext_get_or}
 use Rattle.table.specs.Lists.{padded}
 use Rattle.table.proofs.Lists.{padded_read, padded_length}
-use Rattle.std.specs.Prelude.{Result, Ok, Err}
+use Rattle.std.specs.Prelude.{Result, Ok, Err, IfErr}
 use Rattle.reading.specs.declared.lines.BadLine.{BadLine}
 use Rattle.reading.specs.declared.parsing.Contents.{Contents}
-use Rattle.reading.specs.Limits.{COUNT}
+use Rattle.reading.specs.Limits.{COUNT, LINES}
 use Rattle.reading.specs.Sheet.{Sheet}
 use Rattle.reading.specs.Spelling.{Sound}
 use Rattle.reading.specs.Taking.{bad_at}
 use Rattle.reading.specs.Contents.{sheet_contents, TextHolds, sheet_in, GoodContents}
-use Rattle.reading.specs.Text.{Text, good, bad, text_of, contents_of}
+use Rattle.reading.specs.Text.{Text, good, bad, last_spot, sheet_of, text_of, contents_of}
+use Rattle.reading.proofs.Whole.{to_last}
 use Rattle.reading.proofs.Sound.{sheet_of_text}
 use Rattle.reading.proofs.Following.{good_is_sound, good_is_spelled}
 use Rattle.reading.proofs.FirstBad.{first_bad_unique, bad_is_first}
@@ -29,6 +32,18 @@ text_holds s = go (text_of s) refl
     go : (t : Text) → text_of s ≡ t → TextHolds s (contents_of t)
     go (good sh) e = inl (sh, good_is_sound s sh e, good_is_spelled s sh e, refl)
     go (bad line) e = inr (line, bad_is_first s line e, refl)
+
+-- a bad line is one of the lines that a good text can have, or the line after the last
+bad_few : (s : List ℕ) → IfErr (contents_of (text_of s)) (λ b. b.line ≤ LINES + 1)
+unfolding contents_of text_of
+bad_few s = go ((last_spot s).good && eqb (last_spot s).at (length s))
+  where
+    go : (t : Bool) → IfErr (contents_of (cond t (good (sheet_of s)) (bad (last_spot s).line))) (λ b. b.line ≤ LINES + 1)
+    go true = tt
+    go false = omega (arith, (to_last s).next)
+
+pub bad_line_few : (s : List ℕ) {r : Result Contents BadLine} → r ≡ contents_of (text_of s) → IfErr r (λ b. b.line ≤ LINES + 1)
+bad_line_few s e = subst (λ (r : Result Contents BadLine). IfErr r (λ b. b.line ≤ LINES + 1)) (sym e) (bad_few s)
 
 -- one answer
 pub contents_unique : {s : List ℕ} {r r' : Result Contents BadLine} → TextHolds s r → TextHolds s r' → r ≡ r'

@@ -17,29 +17,30 @@ use Rattle.reading.specs.Entries.{entry_from, address_from, after_entries, after
 use Rattle.reading.proofs.Keys.{byte_inside}
 use Rattle.reading.proofs.Digits.{count_most, value_below}
 
--- from p to q so many bytes at most were read, all of them of the text
-pub record Step (s : List ℕ) (p : Spot) (bytes : ℕ) (q : Spot) : Type 0 where
+-- from p to q so many lines at most were read, and so many bytes, all of them of the text
+pub record Step (s : List ℕ) (p : Spot) (bytes lines : ℕ) (q : Spot) : Type 0 where
   pub within : p.at ≤ length s → q.at ≤ length s
   pub near : q.at ≤ p.at + bytes
+  pub next : q.line ≤ p.line + lines
 
-pub step_none : (s : List ℕ) (p : Spot) → Step s p 0 p
-step_none s p = record { within = λ h. h; near = omega arith }
+pub step_none : (s : List ℕ) (p : Spot) → Step s p 0 0 p
+step_none s p = record { within = λ h. h; near = omega arith; next = omega arith }
 
-pub step_then : {s : List ℕ} {p q r : Spot} {b b' : ℕ} → Step s p b q → Step s q b' r → Step s p (b + b') r
-step_then f g = record { within = λ h. g.within (f.within h); near = omega (arith, f.near, g.near) }
+pub step_then : {s : List ℕ} {p q r : Spot} {b l b' l' : ℕ} → Step s p b l q → Step s q b' l' r → Step s p (b + b') (l + l') r
+step_then f g = record { within = λ h. g.within (f.within h); near = omega (arith, f.near, g.near); next = omega (arith, f.next, g.next) }
 
-pub step_widen : {s : List ℕ} {p q : Spot} {b b' : ℕ} → Step s p b q → b ≤ b' → Step s p b' q
-step_widen f h = record { within = f.within; near = omega (arith, f.near) }
+pub step_widen : {s : List ℕ} {p q : Spot} {b l b' l' : ℕ} → Step s p b l q → b ≤ b' → l ≤ l' → Step s p b' l' q
+step_widen f hb hl = record { within = f.within; near = omega (arith, f.near); next = omega (arith, f.next) }
 
 -- a line of so many bytes at most, with a value and a count of digits of which P holds
 pub record Line (s : List ℕ) (p : Spot) (size : ℕ) (P : ℕ → ℕ → Type 0) (l : Item) : Type 0 where
-  pub step : Step s p size l.spot
+  pub step : Step s p size 1 l.spot
   pub value : P l.value l.count
 
 module _ (s : List ℕ) (p : Spot) (size : ℕ) (P : ℕ → ℕ → Type 0) (none : P 0 0) where
   bad_is : Line s p size P (bad_line p)
   unfolding bad_line
-  bad_is = record { step = record { within = λ h. h; near = omega arith }; value = none }
+  bad_is = record { step = record { within = λ h. h; near = omega arith; next = omega arith }; value = none }
 
   close_is : (end : ℕ) (d : Digits) → end < p.at + size → P d.value d.count → Line s p size P (close s p end d)
   unfolding close
@@ -53,7 +54,7 @@ module _ (s : List ℕ) (p : Spot) (size : ℕ) (P : ℕ → ℕ → Type 0) (no
       go true true e =
           let f : byte_at s end ≡ LF = eqb-true _ _ e in
           record {
-            step = record { within = λ w. byte_inside s end (λ z. omega arith); near = omega arith };
+            step = record { within = λ w. byte_inside s end (λ z. omega arith); near = omega arith; next = omega arith };
             value = v;
           }
       go true false e = bad_is
@@ -119,19 +120,19 @@ pub spells_fits : {v n : ℕ} → Spells v n → v < 2 ^ BITS
 spells_fits {v} {n} h = omega (arith, h.0, pow-le-pow_right {n = 2} (lit≤ tt) {i = n} {j = BITS} h.1)
 
 module _ (s : List ℕ) (p : Spot) where
-  pub entry_step : Step s p entry_line_bytes (entry_from s p).spot
+  pub entry_step : Step s p entry_line_bytes 2 (entry_from s p).spot
   unfolding entry_from
   entry_step = step_then (bits_is bits_key s p 0).step (number_is hop_key s (bits_line 0 bits_key s p).spot number_digits SHORT).step
 
 -- ---- where the reading stands after so many entries, and after so many queries
 
-pub entries_step : (s : List ℕ) (p : Spot) (n : ℕ) → Step s p (n * entry_line_bytes) (after_entries s p n)
+pub entries_step : (s : List ℕ) (p : Spot) (n : ℕ) → Step s p (n * entry_line_bytes) (n * 2) (after_entries s p n)
 unfolding after_entries
 entries_step s p zero = step_none s p
-entries_step s p (suc n) = step_widen (step_then (entries_step s p n) (entry_step s (after_entries s p n))) (omega arith)
+entries_step s p (suc n) = step_widen (step_then (entries_step s p n) (entry_step s (after_entries s p n))) (omega arith) (omega arith)
 
-pub queries_step : (s : List ℕ) (p : Spot) (n : ℕ) → Step s p (n * query_line_bytes) (after_queries s p n)
+pub queries_step : (s : List ℕ) (p : Spot) (n : ℕ) → Step s p (n * query_line_bytes) n (after_queries s p n)
 unfolding after_queries address_from
 queries_step s p zero = step_none s p
 queries_step s p (suc n) =
-    step_widen (step_then (queries_step s p n) (bits_is address_key s (after_queries s p n) 1).step) (omega arith)
+    step_widen (step_then (queries_step s p n) (bits_is address_key s (after_queries s p n) 1).step) (omega arith) (omega arith)

@@ -12,7 +12,7 @@ use Rattle.choosers.specs.declared.chooser.Kind.{Kind}
 use Rattle.reading.specs.declared.lines.BadLine.{BadLine}
 use Rattle.reading.specs.declared.parsing.Head.{Head}
 use Rattle.reading.specs.declared.parsing.Contents.{Contents}
-use Rattle.reading.specs.Limits.{COUNT, number_digits, NUMBER, SHORT, width_bytes, kind_bytes, levels_bytes, links_bytes, count_bytes, entry_line_bytes, opening_bytes, LONGEST}
+use Rattle.reading.specs.Limits.{COUNT, number_digits, NUMBER, SHORT, LINES, width_bytes, kind_bytes, levels_bytes, links_bytes, count_bytes, entry_line_bytes, opening_bytes, LONGEST}
 use Rattle.reading.specs.Keys.{width_key, levels_key, links_key, entries_key, queries_key}
 use Rattle.reading.specs.Lines.{Spot, number_line, kind_named, kind_line}
 use Rattle.reading.specs.Entries.{after_entries, entry_bits, query_address, HoldsEntries, HoldsQueries, EntriesTook, QueriesTook}
@@ -49,7 +49,7 @@ module _ (s : List ℕ) where
   unfolding entries_item
   entries_line = number_is entries_key s (links_item s).spot number_digits COUNT
 
-  pub after_entries_lem : Step s (entries_item s).spot ((entries_item s).value * entry_line_bytes) (after_entries s (entries_item s).spot (entries_item s).value)
+  pub after_entries_lem : Step s (entries_item s).spot ((entries_item s).value * entry_line_bytes) ((entries_item s).value * 2) (after_entries s (entries_item s).spot (entries_item s).value)
   after_entries_lem = entries_step s (entries_item s).spot (entries_item s).value
 
   pub queries_line : Line s (after_entries s (entries_item s).spot (entries_item s).value) count_bytes (UpTo COUNT) (queries_item s)
@@ -57,19 +57,19 @@ module _ (s : List ℕ) where
   queries_line = number_is queries_key s (after_entries s (entries_item s).spot (entries_item s).value) number_digits COUNT
 
   -- the steps from the start: to after the first five lines, to `queries=`, and to the end
-  pub to_entries : Step s text_start opening_bytes (entries_item s).spot
+  pub to_entries : Step s text_start opening_bytes 5 (entries_item s).spot
   to_entries =
       step_then (step_then (step_then (step_then width_line.step kind_line_lem.step) levels_line.step) links_line.step) entries_line.step
 
-  pub to_queries : Step s text_start (opening_bytes + count_bytes + COUNT * entry_line_bytes) (queries_item s).spot
+  pub to_queries : Step s text_start (opening_bytes + count_bytes + COUNT * entry_line_bytes) (6 + COUNT * 2) (queries_item s).spot
   to_queries =
-      step_widen (step_then (step_then to_entries after_entries_lem) queries_line.step) (omega (arith, entries_line.value))
+      step_widen (step_then (step_then to_entries after_entries_lem) queries_line.step) (omega (arith, entries_line.value)) (omega (arith, entries_line.value))
 
-  pub to_last : Step s text_start LONGEST (last_spot s)
+  pub to_last : Step s text_start LONGEST LINES (last_spot s)
   unfolding last_spot
   to_last =
       step_widen (step_then to_queries (queries_step s (queries_item s).spot (queries_item s).value))
-      (omega (arith, queries_line.value))
+      (omega (arith, queries_line.value)) (omega (arith, queries_line.value))
 
 -- ---- a line of the whole text, read where the one before it ended
 

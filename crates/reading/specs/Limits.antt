@@ -36,6 +36,10 @@ zero_digit = 48
 abbrev pub KEY : ℕ
 KEY = 16
 
+-- no good text has more lines: 6, two for an entry, one for a query
+abbrev pub LINES : ℕ
+LINES = 6 + COUNT * 3
+
 -- the most bytes of each line: its key, its digits and LF. First the lines of the width, the kind (`kind=vst` is as long as
 -- `kind=fst`), the levels, the links, and a count (`queries=` is as long as `entries=`)
 abbrev pub width_bytes : ℕ

@@ -1,7 +1,7 @@
 // The whole text (01, "The tablet program"): what its sheet says, or its first bad line. The lists are of one size, so that any text is
 // read.
-ghost use Rattle.std.specs.Prelude.{◌≡◌, ◌≤◌, IfOk};
-ghost use Rattle.reading.specs.Limits.{COUNT};
+ghost use Rattle.std.specs.Prelude.{◌≡◌, ◌+◌, ◌≤◌, IfOk, IfErr};
+ghost use Rattle.reading.specs.Limits.{COUNT, LINES};
 ghost use Rattle.reading.specs.Lines.{spot_at};
 ghost use Rattle.reading.specs.Contents.{TextHolds};
 ghost use Rattle.reading.specs.Text.{text_start, HeadTook, text_of, contents_of};
@@ -66,6 +66,7 @@ impl Lines<'_> {
 pub fn read(text: &[u8]) -> Result<Contents, BadLine>
     ensures exact { result ≡ contents_of (text_of text.now) }
     ensures meaning { TextHolds text.now result }
+    ensures few { IfErr result (λ b. b.line ≤ LINES + 1) }
 {
     let mut lines = Lines::new(text);
     let head = lines.head()?;
