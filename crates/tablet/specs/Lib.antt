@@ -1,2 +1,3 @@
 -- What the program promises.
 pub mod Printed
+pub mod Stopping

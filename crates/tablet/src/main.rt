@@ -8,6 +8,7 @@
 ghost use Rattle.std.specs.Prelude.{◌<◌, ◌≤◌, length, take, IfOk, OnOk};
 ghost use Rattle.std.specs.Io.KnownBytes.{Consumes, IsAtEnd};
 ghost use Rattle.tablet.specs.Printed.{Prints};
+ghost use Rattle.tablet.specs.Stopping.{Stopped};
 
 use std::io;
 use std::io::{Read, Write};
@@ -31,23 +32,32 @@ impl Failed {
     }
 }
 
-// Reads until the page is full or the text ends, and answers how many bytes of the text then stand on the page.
-// (By hand: std's `read_to_end` wants a `Vec`, and the page is fixed memory. printing's `read_page` is the same loop, in a crate that uses
-// the heap: none of those is below this one.)
-fn read_text<R: Read>(input: &mut R, page: &mut [u8]) -> io::Result<usize>
-    ensures within { IfOk result (λ n. n ≤ length page.new) }
-    ensures bytes { IfOk result (λ n. Consumes (R.remaining input.old) (R.remaining input.new) (take n page.new)) }
-    ensures whole { IfOk result (λ n. n < length page.new → IsAtEnd (R.remaining input.new)) }
+// What reading came to: how many bytes of the text stand on the page, and what the last read answered (0: the text has ended).
+#[derive(Clone, Copy)]
+struct Reading {
+    count: usize,
+    last: usize,
+}
+
+// Reads until the page is full or the text ends. Of a reader whose bytes no contract knows, as standard input's, `stopped` is what there is
+// to say: it stopped for one of these.
+// (By hand: std's `read_to_end` wants a `Vec`, and the page is fixed memory. printing's `read_page` is the same loop, in a crate of the
+// vector programs: none of those is below this one.)
+fn read_text<R: Read>(input: &mut R, page: &mut [u8]) -> io::Result<Reading>
+    ensures within { IfOk result (λ r. r.count ≤ length page.new) }
+    ensures stopped { Stopped (length page.old) result }
+    ensures bytes { IfOk result (λ r. Consumes (R.remaining input.old) (R.remaining input.new) (take r.count page.new)) }
+    ensures whole { IfOk result (λ r. r.count < length page.new → IsAtEnd (R.remaining input.new)) }
 {
     let mut n = 0;
     while n < page.len() {
         let k = input.read(&mut page[n..])?;
         if k == 0 {
-            return Ok(n);
+            return Ok(Reading { count: n, last: k });
         }
         n += k;
     }
-    Ok(n)
+    Ok(Reading { count: n, last: 1 })
 }
 
 // The whole program: the report of a text of any length. (`let .. else`: tried as `.map_err(|_| ..)?`, the proof did not close.)
@@ -55,11 +65,11 @@ fn tablet<R: Read, W: Write>(input: &mut R, output: &mut W) -> Result<(), Failed
     ensures { OnOk result (Prints (R.remaining input.old) (W.contents output.old) (W.contents output.new)) }
 {
     let mut text = sheet::buffer();
-    let Ok(n) = read_text(input, &mut text) else {
+    let Ok(got) = read_text(input, &mut text) else {
         return Err(Failed::Reading);
     };
     let mut page = sheet::buffer();
-    let k = sheet::run_page(&text, n, &mut page);
+    let k = sheet::run_page(&text, got.count, &mut page);
     let Ok(()) = output.write_all(&page[..k]) else {
         return Err(Failed::Writing);
     };
