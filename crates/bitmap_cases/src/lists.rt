@@ -1,8 +1,10 @@
 // The five lists of supernodes: how many places of each a line lends, and the rows of four numbers, then the hops, that a `record` line
 // gives for them.
-use cases::{HOP_ROWS, SUPERNODES, Text, front, front_mut};
-use std::alloc::{AllocError, Global};
-use visits::{Supernodes, SupernodesMut};
+use cases::{Table, Text, front, front_mut};
+use printing::entries;
+use supernodes::build_bitmap;
+use table::Refusal;
+use visits::{Bitmap, Supernodes, SupernodesMut};
 
 // The lengths of the four lists of rows and of the hop list; zeros before the first of a text.
 #[derive(Clone, Copy, Default)]
@@ -33,62 +35,52 @@ impl Lengths {
     }
 }
 
-// Room for supernodes, and how many places of each list a line lends. (Lists with a length beside them: past it stand rows of lines
-// before, which a later line may lend again.)
+// The lists lent as room for supernodes, and how many places of each a line lends in turn. (A length beside each: past it stand rows of
+// lines before, which a later line may lend again.)
 #[derive(Drop)]
-pub(crate) struct Room {
+pub(crate) struct Room<'a> {
     pub lent: Lengths,
-    pub internal: Vec<u16>,
-    pub external: Vec<u16>,
-    pub child: Vec<u32>,
-    pub first: Vec<u32>,
-    pub hops: Vec<u16>,
+    pub internal: &'a mut [u16],
+    pub external: &'a mut [u16],
+    pub child: &'a mut [u32],
+    pub first: &'a mut [u32],
+    pub hops: &'a mut [u16],
 }
 
-impl Room {
-    pub(crate) fn new(alloc: Global) -> Result<Room, AllocError> {
-        Ok(Room {
-            lent: Lengths::default(),
-            internal: vec![in alloc; 0; SUPERNODES]?,
-            external: vec![in alloc; 0; SUPERNODES]?,
-            child: vec![in alloc; 0; SUPERNODES]?,
-            first: vec![in alloc; 0; SUPERNODES]?,
-            hops: vec![in alloc; 0; HOP_ROWS]?,
-        })
-    }
-
+impl Room<'_> {
     // What is lent of the five lists.
     pub(crate) fn rows(&self) -> Supernodes<'_> {
         let lent = self.lent;
         Supernodes {
-            internal: front(&self.internal, lent.internal),
-            external: front(&self.external, lent.external),
-            child: front(&self.child, lent.child),
-            first: front(&self.first, lent.first),
-            hops: front(&self.hops, lent.hops),
+            internal: front(self.internal, lent.internal),
+            external: front(self.external, lent.external),
+            child: front(self.child, lent.child),
+            first: front(self.first, lent.first),
+            hops: front(self.hops, lent.hops),
         }
     }
 
-    // The same, to be written.
-    pub(crate) fn lend(&mut self) -> SupernodesMut<'_> {
+    // Builds in what is lent of the five lists.
+    pub(crate) fn build(&mut self, table: &Table, scratch: &mut [u64]) -> Result<Bitmap, Refusal> {
+        let held = table.held;
         let lent = self.lent;
-        SupernodesMut {
-            internal: front_mut(&mut self.internal, lent.internal),
-            external: front_mut(&mut self.external, lent.external),
-            child: front_mut(&mut self.child, lent.child),
-            first: front_mut(&mut self.first, lent.first),
-            hops: front_mut(&mut self.hops, lent.hops),
-        }
+        let mut rows = SupernodesMut {
+            internal: front_mut(self.internal, lent.internal),
+            external: front_mut(self.external, lent.external),
+            child: front_mut(self.child, lent.child),
+            first: front_mut(self.first, lent.first),
+            hops: front_mut(self.hops, lent.hops),
+        };
+        build_bitmap(held.width, held.links, entries(table), scratch, &mut rows)
     }
 
     // Fills what is lent with nines.
     pub(crate) fn mark(&mut self) {
-        let rows = self.lend();
-        rows.internal.fill(9);
-        rows.external.fill(9);
-        rows.child.fill(9);
-        rows.first.fill(9);
-        rows.hops.fill(9);
+        front_mut(self.internal, self.lent.internal).fill(9);
+        front_mut(self.external, self.lent.external).fill(9);
+        front_mut(self.child, self.lent.child).fill(9);
+        front_mut(self.first, self.lent.first).fill(9);
+        front_mut(self.hops, self.lent.hops).fill(9);
     }
 
     // Whether the rows or the hops that the text gives next are more than the room, or a list is longer than what is given for it.

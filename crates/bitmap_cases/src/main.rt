@@ -14,51 +14,25 @@ mod saying;
 use cases::{Table, Text, front, front_mut};
 use lists::{Lengths, Room};
 use printing::{
-    Lookup, Program, bad_line, entries, rising_line, run, say_answer, say_outcome, say_scratch,
-    sweep, table_line,
+    Lookup, Program, bad_line, rising_line, run, say_answer, say_outcome, say_scratch, sweep,
+    table_line,
 };
 use saying::{print, say_kept, say_record};
-use std::alloc::{AllocError, Global};
 use std::io;
-use supernodes::{build_bitmap, lookup_bitmap};
-use table::Refusal;
+use supernodes::lookup_bitmap;
 use visits::Bitmap;
 use walk::{Answer, LookupRefusal};
 
 // What the lines so far have left: the table, scratch, and the record and its lists.
 #[derive(Drop)]
-struct Builds {
-    table: Table,
-    scratch: Vec<u64>,
+struct Builds<'a> {
+    table: Table<'a>,
+    scratch: &'a mut [u64],
     record: Bitmap,
-    room: Room,
+    room: Room<'a>,
 }
 
-impl Builds {
-    // Before the first case: no table, a record of zeros, no rows.
-    fn new(alloc: Global) -> Result<Builds, AllocError> {
-        Ok(Builds {
-            table: Table::new(alloc)?,
-            scratch: vec![in alloc; 0; cases::SCRATCH]?,
-            record: Bitmap::default(),
-            room: Room::new(alloc)?,
-        })
-    }
-
-    // Builds in so many places of scratch, and in what is lent of the five lists.
-    fn build(&mut self, places: usize) -> Result<Bitmap, Refusal> {
-        let held = self.table.held;
-        let scratch = front_mut(&mut self.scratch, places);
-        let mut rows = self.room.lend();
-        build_bitmap(
-            held.width,
-            held.links,
-            entries(&self.table),
-            scratch,
-            &mut rows,
-        )
-    }
-
+impl Builds<'_> {
     // Lends as many places of scratch and of the five lists as the line says.
     fn build_line(&mut self, out: &impl Print, text: &mut Text) -> io::Result<()> {
         let mut rest = *text;
@@ -69,14 +43,15 @@ impl Builds {
             return bad_line(out, text);
         }
         *text = rest;
-        front_mut(&mut self.scratch, places).fill(7);
+        front_mut(self.scratch, places).fill(7);
         self.room.lent = lent;
         self.room.mark();
-        let built = self.build(places);
+        let scratch = front_mut(self.scratch, places);
+        let built = self.room.build(&self.table, scratch);
         self.record = built.unwrap_or_default();
         say_outcome(out, built)?;
         say_record(out, self.record)?;
-        say_scratch(out, front(&self.scratch, places))?;
+        say_scratch(out, front(self.scratch, places))?;
         say_kept(out, self.record, self.room.rows())
     }
 
@@ -107,14 +82,14 @@ impl Builds {
     }
 }
 
-impl Lookup for Builds {
+impl Lookup for Builds<'_> {
     // What the last record and its lists answer for an address.
     fn lookup(&self, address: u32) -> Result<Answer, LookupRefusal> {
         lookup_bitmap(self.record, self.room.rows(), address)
     }
 }
 
-impl Program for Builds {
+impl Program for Builds<'_> {
     fn line<W: Print>(&mut self, out: &W, text: &mut Text) -> io::Result<()> {
         text.seek(b'\n', b'\n');
         text.seek(b'!', b'~');
@@ -131,7 +106,30 @@ impl Program for Builds {
     }
 }
 
+// Before the first case: no table, a record of zeros, no rows.
 fn main(rt: HostRuntime) -> io::Result<()> {
-    let mut builds = Builds::new(rt.alloc())?;
-    run(&rt, &mut rt.stdin(), rt.alloc(), &mut builds)
+    let mut page = cases::page();
+    let mut values = cases::values();
+    let mut lengths = cases::lengths();
+    let mut hops = cases::hops();
+    let mut scratch = cases::scratch();
+    let mut internal = cases::maps();
+    let mut external = cases::maps();
+    let mut child = cases::firsts();
+    let mut first = cases::firsts();
+    let mut hop_rows = cases::hop_rows();
+    let mut builds = Builds {
+        table: Table::new(&mut values, &mut lengths, &mut hops),
+        scratch: &mut scratch,
+        record: Bitmap::default(),
+        room: Room {
+            lent: Lengths::default(),
+            internal: &mut internal,
+            external: &mut external,
+            child: &mut child,
+            first: &mut first,
+            hops: &mut hop_rows,
+        },
+    };
+    run(&rt, &mut rt.stdin(), &mut page, &mut builds)
 }

@@ -15,7 +15,6 @@ use printing::{
     say_elements, say_kept_rows, say_outcome, say_scratch, say_trie_record, sweep, table_line,
     trie_record,
 };
-use std::alloc::{AllocError, Global};
 use std::io;
 use table::Refusal;
 use tries::Kind;
@@ -23,45 +22,42 @@ use walk::{Answer, LookupRefusal, Record, RowsMut};
 
 // What the lines so far have left: the table, scratch, and the record and its rows.
 #[derive(Drop)]
-struct Builds {
-    table: Table,
-    scratch: Vec<u64>,
+struct Builds<'a> {
+    table: Table<'a>,
+    scratch: &'a mut [u64],
     record: Record,
-    rows: ElementRows,
+    rows: ElementRows<'a>,
 }
 
-impl Builds {
-    fn new(alloc: Global) -> Result<Builds, AllocError> {
-        Ok(Builds {
-            table: Table::new(alloc)?,
-            scratch: vec![in alloc; 0; cases::SCRATCH]?,
-            record: Record::default(),
-            rows: ElementRows::new(alloc)?,
-        })
-    }
+// Builds in what is lent of the element lists. (Over the rows and not `Builds`: a part of a list behind two references is not covered by the
+// check.)
+fn build(
+    kind: Kind,
+    levels: u32,
+    table: &Table,
+    scratch: &mut [u64],
+    rows: &mut ElementRows,
+) -> Result<Record, Refusal> {
+    let held = table.held;
+    let lent = rows.lent;
+    let mut rows = RowsMut {
+        hop: front_mut(rows.hops, lent.hops),
+        length: front_mut(rows.lengths, lent.lengths),
+        link: front_mut(rows.links, lent.links),
+        stride: front_mut(rows.strides, lent.strides),
+    };
+    tries::build(
+        kind,
+        held.width,
+        levels,
+        held.links,
+        entries(table),
+        scratch,
+        &mut rows,
+    )
+}
 
-    // Builds in so many places of scratch, and in what is lent of the element lists.
-    fn build(&mut self, kind: Kind, levels: u32, places: usize) -> Result<Record, Refusal> {
-        let held = self.table.held;
-        let lent = self.rows.lent;
-        let scratch = front_mut(&mut self.scratch, places);
-        let mut rows = RowsMut {
-            hop: front_mut(&mut self.rows.hops, lent.hops),
-            length: front_mut(&mut self.rows.lengths, lent.lengths),
-            link: front_mut(&mut self.rows.links, lent.links),
-            stride: front_mut(&mut self.rows.strides, lent.strides),
-        };
-        tries::build(
-            kind,
-            held.width,
-            levels,
-            held.links,
-            entries(&self.table),
-            scratch,
-            &mut rows,
-        )
-    }
-
+impl Builds<'_> {
     // Lends as many places of scratch and of the element lists as the line says.
     fn build_line(&mut self, out: &impl Print, text: &mut Text, kind: Kind) -> io::Result<()> {
         let mut rest = *text;
@@ -72,15 +68,16 @@ impl Builds {
             return bad_line(out, text);
         }
         *text = rest;
-        front_mut(&mut self.scratch, places).fill(7);
+        front_mut(self.scratch, places).fill(7);
         self.rows.lent = lent;
         mark_rows(&mut self.rows);
-        let built = self.build(kind, levels, places);
+        let scratch = front_mut(self.scratch, places);
+        let built = build(kind, levels, &self.table, scratch, &mut self.rows);
         self.record = built.unwrap_or_default();
         say_outcome(out, built)?;
         say_trie_record(out, self.record)?;
-        say_scratch(out, front(&self.scratch, places))?;
-        say_kept_rows(out, self.record.elements as usize, &self.rows)
+        say_scratch(out, front(self.scratch, places))?;
+        say_kept_rows(out, self.record.elements as usize, lent_rows(&self.rows))
     }
 
     // A record and rows of its own.
@@ -103,18 +100,18 @@ impl Builds {
     // Rows 0 to E - 1 of the last record.
     fn print(&self, out: &impl Print, text: &mut Text) -> io::Result<()> {
         text.seek(b'\n', b'\n');
-        say_elements(out, self.record.elements as usize, &self.rows)
+        say_elements(out, self.record.elements as usize, lent_rows(&self.rows))
     }
 }
 
-impl Lookup for Builds {
+impl Lookup for Builds<'_> {
     // What the last record and its rows answer for an address.
     fn lookup(&self, address: u32) -> Result<Answer, LookupRefusal> {
         walk::lookup(self.record, lent_rows(&self.rows), address)
     }
 }
 
-impl Program for Builds {
+impl Program for Builds<'_> {
     fn line<W: Print>(&mut self, out: &W, text: &mut Text) -> io::Result<()> {
         text.seek(b'\n', b'\n');
         text.seek(b'!', b'~');
@@ -133,6 +130,25 @@ impl Program for Builds {
 }
 
 fn main(rt: HostRuntime) -> io::Result<()> {
-    let mut builds = Builds::new(rt.alloc())?;
-    run(&rt, &mut rt.stdin(), rt.alloc(), &mut builds)
+    let mut page = cases::page();
+    let mut values = cases::values();
+    let mut lengths = cases::lengths();
+    let mut hops = cases::hops();
+    let mut scratch = cases::scratch();
+    let mut row_hops = cases::row_hops();
+    let mut row_lengths = cases::row_lengths();
+    let mut row_links = cases::row_links();
+    let mut row_strides = cases::row_strides();
+    let mut builds = Builds {
+        table: Table::new(&mut values, &mut lengths, &mut hops),
+        scratch: &mut scratch,
+        record: Record::default(),
+        rows: ElementRows::new(
+            &mut row_hops,
+            &mut row_lengths,
+            &mut row_links,
+            &mut row_strides,
+        ),
+    };
+    run(&rt, &mut rt.stdin(), &mut page, &mut builds)
 }

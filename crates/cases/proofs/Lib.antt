@@ -2,4 +2,5 @@ pub mod Climbing
 pub mod ElementLists
 pub mod Filling
 pub mod Reading
+pub mod Sizing
 pub mod Spelling

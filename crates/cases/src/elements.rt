@@ -1,12 +1,9 @@
 // The four element lists of a line: their lengths, and the rows (hop/length/link/stride) that a line gives for them.
-ghost use Rattle.std.specs.Prelude.{◌≡◌, IfOk, length, take};
-ghost use Rattle.cases.specs.Limits.{ROWS};
+ghost use Rattle.std.specs.Prelude.{◌≡◌, take};
 ghost use Rattle.cases.specs.Triples.{fourth_at};
 
 use crate::fronts::front;
-use crate::limits::ROWS;
 use crate::text::Text;
-use std::alloc::{AllocError, Global};
 
 // The lengths of the lists, zeros before the first of a text.
 #[derive(Clone, Copy, Default)]
@@ -17,15 +14,15 @@ pub struct FourLengths {
     pub strides: usize,
 }
 
-// Room for element rows, and how many places of each list a line lends. (Lists with a length beside them: past it stand rows of lines
-// before, which a later line may lend again.)
+// The lists lent as room for element rows, and how many places of each a line lends in turn. (A length beside each: past it stand rows
+// of lines before, which a later line may lend again.)
 #[derive(Drop)]
-pub struct ElementRows {
+pub struct ElementRows<'a> {
     pub lent: FourLengths,
-    pub hops: Vec<u16>,
-    pub lengths: Vec<u8>,
-    pub links: Vec<u32>,
-    pub strides: Vec<u8>,
+    pub hops: &'a mut [u16],
+    pub lengths: &'a mut [u8],
+    pub links: &'a mut [u32],
+    pub strides: &'a mut [u8],
 }
 
 impl FourLengths {
@@ -66,52 +63,62 @@ impl<'a> Text<'a> {
     }
 }
 
-impl ElementRows {
+impl<'a> ElementRows<'a> {
     ghost use Rattle.cases.specs.Elements.{ElementsRead, no_lists};
+    ghost use Rattle.cases.specs.Lent.{SameRows};
 
-    pub fn new(alloc: Global) -> Result<ElementRows, AllocError>
-        ensures room { IfOk result (λ rows. (length rows.hops.items ≡ ROWS) × (length rows.lengths.items ≡ ROWS)
-            × (length rows.links.items ≡ ROWS) × (length rows.strides.items ≡ ROWS)) }
-        ensures lent { IfOk result (λ rows. rows.lent ≡ no_lists) }
+    // Nothing lent yet, over lists of any lengths.
+    pub fn new(
+        hops: &'a mut [u16],
+        lengths: &'a mut [u8],
+        links: &'a mut [u32],
+        strides: &'a mut [u8],
+    ) -> ElementRows<'a>
+        ensures lent { result.lent ≡ no_lists }
+        ensures hops { result.hops ≡ hops.entry }
+        ensures lengths { result.lengths ≡ lengths.entry }
+        ensures links { result.links ≡ links.entry }
+        ensures strides { result.strides ≡ strides.entry }
     {
-        Ok(ElementRows {
+        ElementRows {
             lent: FourLengths::default(),
-            hops: vec![in alloc; 0; ROWS]?,
-            lengths: vec![in alloc; 0; ROWS]?,
-            links: vec![in alloc; 0; ROWS]?,
-            strides: vec![in alloc; 0; ROWS]?,
-        })
+            hops,
+            lengths,
+            links,
+            strides,
+        }
     }
 
     // What is lent of each list.
     pub fn hops(&self) -> &[u16]
-        ensures { result.now ≡ take self.now.lent.hops self.now.hops.items }
+        ensures { result.now ≡ take self.now.lent.hops self.now.hops.now }
     {
-        front(&self.hops, self.lent.hops)
+        front(self.hops, self.lent.hops)
     }
 
     pub fn lengths(&self) -> &[u8]
-        ensures { result.now ≡ take self.now.lent.lengths self.now.lengths.items }
+        ensures { result.now ≡ take self.now.lent.lengths self.now.lengths.now }
     {
-        front(&self.lengths, self.lent.lengths)
+        front(self.lengths, self.lent.lengths)
     }
 
     pub fn links(&self) -> &[u32]
-        ensures { result.now ≡ take self.now.lent.links self.now.links.items }
+        ensures { result.now ≡ take self.now.lent.links self.now.links.now }
     {
-        front(&self.links, self.lent.links)
+        front(self.links, self.lent.links)
     }
 
     pub fn strides(&self) -> &[u8]
-        ensures { result.now ≡ take self.now.lent.strides self.now.strides.items }
+        ensures { result.now ≡ take self.now.lent.strides self.now.strides.now }
     {
-        front(&self.strides, self.lent.strides)
+        front(self.strides, self.lent.strides)
     }
 
     // Reads how many rows there are, then the rows, as many as the shortest list has places. (By index: the clause speaks of row i.)
     pub fn read(&mut self, text: &mut Text)
-        ensures rows { ElementsRead text.old.bytes.now text.old.at self.old.hops.items self.old.lengths.items self.old.links.items
-            self.old.strides.items self.new.hops.items self.new.lengths.items self.new.links.items self.new.strides.items text.new.at }
+        ensures same { SameRows self.old self.new }
+        ensures rows { ElementsRead text.old.bytes.now text.old.at self.old.hops.now self.old.lengths.now self.old.links.now
+            self.old.strides.now self.new.hops.now self.new.lengths.now self.new.links.now self.new.strides.now text.new.at }
         ensures text { text.new.bytes ≡ text.old.bytes }
         ensures lent { self.new.lent ≡ self.old.lent }
     {

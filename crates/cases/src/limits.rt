@@ -1,4 +1,4 @@
-// The sizes of the rooms of a run, and the limits of rising entries. `specs/Limits.antt` has those that a promise names.
+// The sizes of the rooms of a run, named once. `specs/Limits.antt` has the same ones for the promises.
 
 // The bytes of a run's text: a mebibyte, more than the cases of any run have.
 pub const TEXT: usize = 1048576;
@@ -6,8 +6,8 @@ pub const TEXT: usize = 1048576;
 // The places of a table's lists: a table has at most 65,536 entries, and the cases go past that.
 pub const PLACES: usize = 65600;
 
-// The words of scratch: 8,333 rows of a trie's 72. A table of 65,536 entries is refused for them by the choosers and the build; the
-// tree bitmap of some such tables, whose rows have 4 words, is built.
+// The words of scratch: 8,333 rows of a trie's 72, of the 8 MiB of stack that a program has. A table of 65,536 entries is refused
+// for them by the choosers and the build; the tree bitmap of some such tables, whose rows have 4 words, is built.
 pub const SCRATCH: usize = 600000;
 
 // The places of an element list: more than the rows of the largest build.

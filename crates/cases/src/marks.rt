@@ -4,5 +4,9 @@ ghost use Rattle.std.specs.Prelude.{◌≡◌, count_by, drop};
 pub fn count<T: PartialEq>(list: &[T], from: usize, mark: &T) -> usize
     ensures { result ≡ count_by (λ y. T.eq y mark.now) (drop from list.now) }
 {
-    list.iter().skip(from).filter(|&y| y == mark).count()
+    let mut n = 0;
+    for y in list.get(from..).unwrap_or(&[]) {
+        n += usize::from(y == mark);
+    }
+    n
 }

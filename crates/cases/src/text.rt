@@ -87,6 +87,15 @@ impl<'a> Text<'a> {
         self.span(b'a', b'z')
     }
 
+    // Whether a word stands here, with no small letter after it.
+    pub fn is_word(&self, word: &[u8]) -> bool
+        ensures { result ≡ word_at self.now.bytes.now self.now.at word.now }
+    {
+        let rest = self.rest();
+        let next = rest.get(word.len()).copied().unwrap_or(0);
+        rest.starts_with(word) && !is_within(b'a', b'z', next)
+    }
+
     // Goes on to the next place whose byte lies from `low` to `high`, or to the text's end where none does.
     pub fn seek(&mut self, low: u8, high: u8)
         ensures { self.new ≡ record self.old { at = seek_at low high self.old.bytes.now self.old.at } }

@@ -22,16 +22,16 @@ fn say_chosen(out: &impl Print, chosen: Result<Chosen, Refusal>) -> io::Result<(
 
 // The table of the lines so far, and scratch.
 #[derive(Drop)]
-struct Choices {
-    table: Table,
-    scratch: Vec<u64>,
+struct Choices<'a> {
+    table: Table<'a>,
+    scratch: &'a mut [u64],
 }
 
-impl Choices {
+impl Choices<'_> {
     // The choice in so many places of scratch.
     fn choose(&mut self, kind: Kind, levels: u32, places: usize) -> Result<Chosen, Refusal> {
         let held = self.table.held;
-        let scratch = front_mut(&mut self.scratch, places);
+        let scratch = front_mut(self.scratch, places);
         choosers::choose(
             kind,
             held.width,
@@ -46,14 +46,14 @@ impl Choices {
     fn choose_line(&mut self, out: &impl Print, text: &mut Text, kind: Kind) -> io::Result<()> {
         let levels = text.held();
         let places = text.number() as usize;
-        front_mut(&mut self.scratch, places).fill(7);
+        front_mut(self.scratch, places).fill(7);
         let chosen = self.choose(kind, levels, places);
         say_chosen(out, chosen)?;
-        say_scratch(out, front(&self.scratch, places))
+        say_scratch(out, front(self.scratch, places))
     }
 }
 
-impl Program for Choices {
+impl Program for Choices<'_> {
     // The first letter of a line says which case it is.
     fn line<W: Print>(&mut self, out: &W, text: &mut Text) -> io::Result<()> {
         text.seek(b'a', b'z');
@@ -73,11 +73,15 @@ impl Program for Choices {
 }
 
 fn main(rt: HostRuntime) -> io::Result<()> {
-    let alloc = rt.alloc();
-    let text = read_text(&mut rt.stdin(), alloc)?;
+    let mut page = cases::page();
+    let text = read_text(&mut rt.stdin(), &mut page)?;
+    let mut values = cases::values();
+    let mut lengths = cases::lengths();
+    let mut hops = cases::hops();
+    let mut scratch = cases::scratch();
     let mut choices = Choices {
-        table: Table::new(alloc)?,
-        scratch: vec![in alloc; 0; cases::SCRATCH]?,
+        table: Table::new(&mut values, &mut lengths, &mut hops),
+        scratch: &mut scratch,
     };
-    run_lines(&rt, &text, &mut choices)
+    run_lines(&rt, text, &mut choices)
 }

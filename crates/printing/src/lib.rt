@@ -1,14 +1,17 @@
 // What the vector programs read and print alike: a run's text and its lines, a table's lines, an outcome, strides, a trie's record, what
 // a lent scratch holds, element rows and the marks kept past them, and what a lookup answers.
-// Nothing that prints has a contract: each is proved safe and ending, and the bytes are compared with the reference's. Answers are said by
-// functions: their types are other crates', which print nothing.
+// What is printed has no contract: each call that prints is proved safe and ending, and the bytes are compared with the reference's. What a
+// line leaves of its text and its table has one. Answers are said by functions: their types are other crates', which print nothing.
 #![tactic(auto)]
 
 ghost use Rattle.std.specs.Io.{ReadsAtMost};
-ghost use Rattle.std.specs.Prelude.{◌≡◌, ◌≤◌, IfOk, length, take};
+ghost use Rattle.std.specs.Prelude.{◌≡◌, ◌≤◌, IfOk, false, length, take, true};
+ghost use Rattle.cases.specs.Lent.{SameRows, SameTable};
+ghost use Rattle.cases.specs.Lists.{bad_table};
+ghost use Rattle.cases.specs.Rising.{bad_rising};
+ghost use Rattle.printing.specs.Lines.{HoldsLine, RisenLine, bad_for, passed};
 
-use cases::{ElementRows, Table, Text, front_mut};
-use std::alloc::Global;
+use cases::{ElementRows, Table, Text, front, front_mut};
 use std::io::Read;
 use std::{fmt, io};
 use table::{Entries, Refusal};
@@ -20,7 +23,7 @@ pub trait Program {
 }
 
 // Reads until the page is full or the text ends, and answers how many bytes then stand on the page. (By hand: std's `read_to_end` goes on
-// past the page, and says little after an error. tablet reads alike by itself: no crate that uses the heap is below it.)
+// past the page, and says little after an error. tablet reads alike by itself: no crate of the vector programs is below it.)
 pub fn read_page(input: &mut impl Read, page: &mut [u8]) -> io::Result<usize>
     ensures { ReadsAtMost result page.new }
 {
@@ -35,14 +38,12 @@ pub fn read_page(input: &mut impl Read, page: &mut [u8]) -> io::Result<usize>
     Ok(n)
 }
 
-// The text of a run, as far as a page of it goes.
-pub fn read_text(input: &mut impl Read, alloc: Global) -> io::Result<Vec<u8>>
-    ensures { IfOk result (λ bytes. length bytes.items ≤ 1048576) }
+// The text of a run, as far as the page that is lent goes.
+pub fn read_text<'a>(input: &mut impl Read, page: &'a mut [u8]) -> io::Result<&'a [u8]>
+    ensures { IfOk result (λ bytes. length bytes.now ≤ length page.old) }
 {
-    let mut page = vec![in alloc; 0u8; cases::TEXT]?;
-    let n = read_page(input, &mut page)?;
-    page.truncate(n);
-    Ok(page)
+    let n = read_page(input, page)?;
+    Ok(front(page, n))
 }
 
 // Runs the lines of a text: first their number, then one after another, with a line of output each.
@@ -56,28 +57,36 @@ pub fn run_lines<W: Print, P: Program>(out: &W, bytes: &[u8], program: &mut P) -
     Ok(())
 }
 
-// Runs the text of an input. One that fills the page is answered `text too long`.
+// Runs the text of an input, which is read onto the page that is lent. One that fills it is answered `text too long`.
 pub fn run<W: Print, P: Program>(
     out: &W,
     input: &mut impl Read,
-    alloc: Global,
+    page: &mut [u8],
     program: &mut P,
 ) -> io::Result<()> {
-    let bytes = read_text(input, alloc)?;
-    if bytes.len() == cases::TEXT {
+    let room = page.len();
+    let bytes = read_text(input, page)?;
+    if bytes.len() == room {
         return print!(out; "text too long\n");
     }
-    run_lines(out, &bytes, program)
+    run_lines(out, bytes, program)
 }
 
 // Says that the line is bad, and passes it over.
-pub fn bad_line(out: &impl Print, text: &mut Text) -> io::Result<()> {
+pub fn bad_line(out: &impl Print, text: &mut Text) -> io::Result<()>
+    ensures { text.new ≡ passed text.old }
+{
     text.seek(b'\n', b'\n');
     print!(out; "bad line")
 }
 
 // Another table for the lines below.
-pub fn table_line(out: &impl Print, text: &mut Text, table: &mut Table) -> io::Result<()> {
+pub fn table_line(out: &impl Print, text: &mut Text, table: &mut Table) -> io::Result<()>
+    ensures text { text.new.bytes ≡ text.old.bytes }
+    ensures same { SameTable table.old table.new }
+    ensures bad { bad_for bad_table text.old table.old ≡ true → (text.new ≡ passed text.old) × (table.new ≡ table.old) }
+    ensures taken { bad_for bad_table text.old table.old ≡ false → HoldsLine text.old table.old text.new table.new }
+{
     if table.is_bad(*text) {
         return bad_line(out, text);
     }
@@ -86,7 +95,12 @@ pub fn table_line(out: &impl Print, text: &mut Text, table: &mut Table) -> io::R
 }
 
 // The same of a table that the line has made.
-pub fn rising_line(out: &impl Print, text: &mut Text, table: &mut Table) -> io::Result<()> {
+pub fn rising_line(out: &impl Print, text: &mut Text, table: &mut Table) -> io::Result<()>
+    ensures text { text.new.bytes ≡ text.old.bytes }
+    ensures same { SameTable table.old table.new }
+    ensures bad { bad_for bad_rising text.old table.old ≡ true → (text.new ≡ passed text.old) × (table.new ≡ table.old) }
+    ensures taken { bad_for bad_rising text.old table.old ≡ false → RisenLine text.old table.old text.new table.new }
+{
     if table.is_bad_rising(*text) {
         return bad_line(out, text);
     }
@@ -115,10 +129,10 @@ pub fn trie_record(text: &mut Text) -> Record
 }
 
 // What is lent of a table.
-pub fn entries(table: &Table) -> Entries<'_>
-    ensures value { result.value.now ≡ take table.now.held.values table.now.values.items }
-    ensures length { result.length.now ≡ take table.now.held.lengths table.now.lengths.items }
-    ensures hop { result.hop.now ≡ take table.now.held.hops table.now.hops.items }
+pub fn entries<'a>(table: &'a Table) -> Entries<'a>
+    ensures value { result.value.now ≡ take table.now.held.values table.now.values.now }
+    ensures length { result.length.now ≡ take table.now.held.lengths table.now.lengths.now }
+    ensures hop { result.hop.now ≡ take table.now.held.hops table.now.hops.now }
 {
     Entries {
         value: table.values(),
@@ -128,11 +142,11 @@ pub fn entries(table: &Table) -> Entries<'_>
 }
 
 // What is lent of element rows.
-pub fn lent_rows(rows: &ElementRows) -> Rows<'_>
-    ensures hop { result.hop.now ≡ take rows.now.lent.hops rows.now.hops.items }
-    ensures length { result.length.now ≡ take rows.now.lent.lengths rows.now.lengths.items }
-    ensures link { result.link.now ≡ take rows.now.lent.links rows.now.links.items }
-    ensures stride { result.stride.now ≡ take rows.now.lent.strides rows.now.strides.items }
+pub fn lent_rows<'a>(rows: &'a ElementRows) -> Rows<'a>
+    ensures hop { result.hop.now ≡ take rows.now.lent.hops rows.now.hops.now }
+    ensures length { result.length.now ≡ take rows.now.lent.lengths rows.now.lengths.now }
+    ensures link { result.link.now ≡ take rows.now.lent.links rows.now.links.now }
+    ensures stride { result.stride.now ≡ take rows.now.lent.strides rows.now.strides.now }
 {
     Rows {
         hop: rows.hops(),
@@ -187,31 +201,33 @@ pub fn say_scratch(out: &impl Print, scratch: &[u64]) -> io::Result<()> {
 
 // Fills what is lent of the element rows with marks: fives in the length list, nines in the others.
 pub fn mark_rows(rows: &mut ElementRows)
-    ensures { rows.new.lent ≡ rows.old.lent }
+    ensures same { SameRows rows.old rows.new }
+    ensures lent { rows.new.lent ≡ rows.old.lent }
 {
-    front_mut(&mut rows.hops, rows.lent.hops).fill(9);
-    front_mut(&mut rows.lengths, rows.lent.lengths).fill(5);
-    front_mut(&mut rows.links, rows.lent.links).fill(9);
-    front_mut(&mut rows.strides, rows.lent.strides).fill(9);
+    let hops = rows.lent.hops.min(rows.hops.len());
+    rows.hops[..hops].fill(9);
+    let lengths = rows.lent.lengths.min(rows.lengths.len());
+    rows.lengths[..lengths].fill(5);
+    let links = rows.lent.links.min(rows.links.len());
+    rows.links[..links].fill(9);
+    let strides = rows.lent.strides.min(rows.strides.len());
+    rows.strides[..strides].fill(9);
 }
 
 // The marks of the element rows from a place on, as a build should keep them: fives in the length list, nines in the others.
-pub fn say_kept_rows(out: &impl Print, from: usize, rows: &ElementRows) -> io::Result<()> {
-    let hops = cases::count(rows.hops(), from, &9);
-    let lengths = cases::count(rows.lengths(), from, &5);
-    let links = cases::count(rows.links(), from, &9);
-    let strides = cases::count(rows.strides(), from, &9);
+pub fn say_kept_rows(out: &impl Print, from: usize, rows: Rows) -> io::Result<()> {
+    let hops = cases::count(rows.hop, from, &9);
+    let lengths = cases::count(rows.length, from, &5);
+    let links = cases::count(rows.link, from, &9);
+    let strides = cases::count(rows.stride, from, &9);
     print!(out; " kept {hops} {lengths} {links} {strides}")
 }
 
 // Element rows 0 to E - 1, as far as the shortest list goes.
-pub fn say_elements(out: &impl Print, elements: usize, rows: &ElementRows) -> io::Result<()> {
+pub fn say_elements(out: &impl Print, elements: usize, rows: Rows) -> io::Result<()> {
     print!(out; "rows")?;
-    let hops = rows.hops().iter();
-    let all = hops
-        .zip(rows.lengths())
-        .zip(rows.links())
-        .zip(rows.strides());
+    let hops = rows.hop.iter();
+    let all = hops.zip(rows.length).zip(rows.link).zip(rows.stride);
     for (((hop, length), link), stride) in all.take(elements) {
         print!(out; " {hop}/{length}/{link}/{stride}")?;
     }

@@ -1,7 +1,6 @@
 // The rules of the lines below.
-use cases::{PLACES, Text, front};
+use cases::{Text, front};
 use fields::RuleLists;
-use std::alloc::{AllocError, Global};
 
 // The width and the number of links of the rules, and how many places of each list they have; zeros before the first of a text.
 #[derive(Clone, Copy, Default)]
@@ -35,39 +34,28 @@ impl Held {
     }
 }
 
-// What a line says of the rules, and room for them. (Lists with a length beside them: past it stand rules of lines before, which a later
-// line may lend again.)
+// What a line says of the rules, and the lists lent as room for them. (A length beside each: past it stand rules of lines before, which a
+// later line may lend again.)
 #[derive(Drop)]
-pub(crate) struct Rules {
+pub(crate) struct Rules<'a> {
     pub held: Held,
-    pub dvals: Vec<u32>,
-    pub dlens: Vec<u8>,
-    pub svals: Vec<u32>,
-    pub slens: Vec<u8>,
-    pub actions: Vec<u16>,
+    pub dvals: &'a mut [u32],
+    pub dlens: &'a mut [u8],
+    pub svals: &'a mut [u32],
+    pub slens: &'a mut [u8],
+    pub actions: &'a mut [u16],
 }
 
-impl Rules {
-    pub(crate) fn new(alloc: Global) -> Result<Rules, AllocError> {
-        Ok(Rules {
-            held: Held::default(),
-            dvals: vec![in alloc; 0; PLACES]?,
-            dlens: vec![in alloc; 0; PLACES]?,
-            svals: vec![in alloc; 0; PLACES]?,
-            slens: vec![in alloc; 0; PLACES]?,
-            actions: vec![in alloc; 0; PLACES]?,
-        })
-    }
-
+impl Rules<'_> {
     // What is lent of the five lists.
     pub(crate) fn lent(&self) -> RuleLists<'_> {
         let held = self.held;
         RuleLists {
-            dvals: front(&self.dvals, held.dvals),
-            dlens: front(&self.dlens, held.dlens),
-            svals: front(&self.svals, held.svals),
-            slens: front(&self.slens, held.slens),
-            actions: front(&self.actions, held.actions),
+            dvals: front(self.dvals, held.dvals),
+            dlens: front(self.dlens, held.dlens),
+            svals: front(self.svals, held.svals),
+            slens: front(self.slens, held.slens),
+            actions: front(self.actions, held.actions),
         }
     }
 

@@ -13,7 +13,7 @@
 mod given;
 mod saying;
 
-use cases::{ElementRows, FourLengths, LIST, Text, front, front_mut};
+use cases::{ElementRows, FourLengths, Text, front, front_mut};
 use choosers::Kind;
 use given::{Held, Rules};
 use printing::{
@@ -22,7 +22,6 @@ use printing::{
 };
 use rules::build_rules;
 use saying::{Short, say_verdict};
-use std::alloc::{AllocError, Global};
 use std::io;
 use table::Refusal;
 use verdicts::{RuleRecord, Verdict, classify};
@@ -31,31 +30,49 @@ use walk::{LookupRefusal, RowsMut};
 // What the lines so far have left: the rules, scratch, the record and its rows, and the list of tries, of which so many places are lent:
 // the numbers past them stay, and a later line may lend them again.
 #[derive(Drop)]
-struct Builds {
-    rules: Rules,
-    scratch: Vec<u64>,
+struct Builds<'a> {
+    rules: Rules<'a>,
+    scratch: &'a mut [u64],
     record: RuleRecord,
-    rows: ElementRows,
-    tries: Vec<u32>,
+    rows: ElementRows<'a>,
+    tries: &'a mut [u32],
     lent: usize,
 }
 
-impl Builds {
-    // Before the first case: no rules, a record of zeros, no rows.
-    fn new(alloc: Global) -> Result<Builds, AllocError> {
-        Ok(Builds {
-            rules: Rules::new(alloc)?,
-            scratch: vec![in alloc; 0; cases::SCRATCH]?,
-            record: RuleRecord::default(),
-            rows: ElementRows::new(alloc)?,
-            tries: vec![in alloc; 0; LIST]?,
-            lent: 0,
-        })
-    }
+// Builds in what is lent of the element lists, and in the list of tries. (Over the rows and not `Builds`: a part of a list behind two
+// references is not covered by the check.)
+fn build(
+    kind: Kind,
+    levels: u32,
+    rules: &Rules,
+    scratch: &mut [u64],
+    rows: &mut ElementRows,
+    list: &mut [u32],
+) -> Result<RuleRecord, Refusal> {
+    let held = rules.held;
+    let lent = rows.lent;
+    let mut rows = RowsMut {
+        hop: front_mut(rows.hops, lent.hops),
+        length: front_mut(rows.lengths, lent.lengths),
+        link: front_mut(rows.links, lent.links),
+        stride: front_mut(rows.strides, lent.strides),
+    };
+    build_rules(
+        kind,
+        held.width,
+        levels,
+        held.links,
+        rules.lent(),
+        scratch,
+        &mut rows,
+        list,
+    )
+}
 
+impl Builds<'_> {
     // The list of tries, as far as it is lent.
     fn list(&self) -> &[u32] {
-        front(&self.tries, self.lent)
+        front(self.tries, self.lent)
     }
 
     // Whether an element list, or the list of tries, is longer than that.
@@ -76,38 +93,14 @@ impl Builds {
         print!(out; "rules")
     }
 
-    // Builds in so many places of scratch, and in what is lent of the element lists and of the list of tries.
-    fn build(&mut self, kind: Kind, levels: u32, words: usize) -> Result<RuleRecord, Refusal> {
-        let held = self.rules.held;
-        let lent = self.rows.lent;
-        let scratch = front_mut(&mut self.scratch, words);
-        let mut rows = RowsMut {
-            hop: front_mut(&mut self.rows.hops, lent.hops),
-            length: front_mut(&mut self.rows.lengths, lent.lengths),
-            link: front_mut(&mut self.rows.links, lent.links),
-            stride: front_mut(&mut self.rows.strides, lent.strides),
-        };
-        let list = front_mut(&mut self.tries, self.lent);
-        build_rules(
-            kind,
-            held.width,
-            levels,
-            held.links,
-            self.rules.lent(),
-            scratch,
-            &mut rows,
-            list,
-        )
-    }
-
     // What is printed of a build in so many places of scratch.
     fn say_built(&self, out: &impl Print, words: usize) -> io::Result<()> {
         let elements = self.record.elements;
         let nines = cases::count(self.list(), 0, &9);
         say_trie_record(out, self.record.dest)?;
         print!(out; " all {elements}")?;
-        say_scratch(out, front(&self.scratch, words))?;
-        say_kept_rows(out, elements as usize, &self.rows)?;
+        say_scratch(out, front(self.scratch, words))?;
+        say_kept_rows(out, elements as usize, lent_rows(&self.rows))?;
         print!(out; " nines {nines}")
     }
 
@@ -125,10 +118,12 @@ impl Builds {
         *text = rest;
         self.rows.lent = lists;
         self.lent = list;
-        front_mut(&mut self.scratch, words).fill(7);
-        front_mut(&mut self.tries, list).fill(9);
+        front_mut(self.scratch, words).fill(7);
+        front_mut(self.tries, list).fill(9);
         mark_rows(&mut self.rows);
-        let built = self.build(kind, levels, words);
+        let scratch = front_mut(self.scratch, words);
+        let numbers = front_mut(self.tries, list);
+        let built = build(kind, levels, &self.rules, scratch, &mut self.rows, numbers);
         self.record = built.unwrap_or_default();
         say_outcome(out, built)?;
         self.say_built(out, words)
@@ -180,7 +175,7 @@ impl Builds {
     // The rows of all tries, then the list of tries.
     fn print_line(&self, out: &impl Print, text: &mut Text) -> io::Result<()> {
         text.seek(b'\n', b'\n');
-        say_elements(out, self.record.elements as usize, &self.rows)?;
+        say_elements(out, self.record.elements as usize, lent_rows(&self.rows))?;
         print!(out; " list")?;
         put_all(out, self.list())
     }
@@ -219,7 +214,7 @@ impl Builds {
     }
 }
 
-impl Program for Builds {
+impl Program for Builds<'_> {
     fn line<W: Print>(&mut self, out: &W, text: &mut Text) -> io::Result<()> {
         text.seek(b'\n', b'\n');
         text.seek(b'!', b'~');
@@ -236,7 +231,39 @@ impl Program for Builds {
     }
 }
 
+// Before the first case: no rules, a record of zeros, no rows.
 fn main(rt: HostRuntime) -> io::Result<()> {
-    let mut builds = Builds::new(rt.alloc())?;
-    run(&rt, &mut rt.stdin(), rt.alloc(), &mut builds)
+    let mut page = cases::page();
+    let mut dvals = cases::values();
+    let mut dlens = cases::lengths();
+    let mut svals = cases::values();
+    let mut slens = cases::lengths();
+    let mut actions = cases::hops();
+    let mut scratch = cases::scratch();
+    let mut row_hops = cases::row_hops();
+    let mut row_lengths = cases::row_lengths();
+    let mut row_links = cases::row_links();
+    let mut row_strides = cases::row_strides();
+    let mut tries = cases::list_of_tries();
+    let mut builds = Builds {
+        rules: Rules {
+            held: Held::default(),
+            dvals: &mut dvals,
+            dlens: &mut dlens,
+            svals: &mut svals,
+            slens: &mut slens,
+            actions: &mut actions,
+        },
+        scratch: &mut scratch,
+        record: RuleRecord::default(),
+        rows: ElementRows::new(
+            &mut row_hops,
+            &mut row_lengths,
+            &mut row_links,
+            &mut row_strides,
+        ),
+        tries: &mut tries,
+        lent: 0,
+    };
+    run(&rt, &mut rt.stdin(), &mut page, &mut builds)
 }

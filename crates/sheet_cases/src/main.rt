@@ -24,6 +24,7 @@ impl Program for Reports {
 }
 
 fn main(rt: HostRuntime) -> io::Result<()> {
-    let text = read_text(&mut rt.stdin(), rt.alloc())?;
-    run_lines(&rt, &text, &mut Reports)
+    let mut page = cases::page();
+    let text = read_text(&mut rt.stdin(), &mut page)?;
+    run_lines(&rt, text, &mut Reports)
 }

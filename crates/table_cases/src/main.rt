@@ -44,11 +44,11 @@ fn shared_line(out: &impl Print, text: &mut Text) -> io::Result<()> {
 
 // The table of the lines so far.
 #[derive(Drop)]
-struct Tables {
-    table: Table,
+struct Tables<'a> {
+    table: Table<'a>,
 }
 
-impl Tables {
+impl Tables<'_> {
     fn check(&self, out: &impl Print) -> io::Result<()> {
         let held = self.table.held;
         let outcome = table::check_table(held.width, held.links, entries(&self.table));
@@ -63,12 +63,20 @@ impl Tables {
         let entries = entries(&self.table);
         let span = table::zone_span(width, links, entries, prefix, bits);
         say_span(out, span)?;
-        let part = table::zone(width, links, entries, prefix, bits);
+        let part = table::zone(
+            width,
+            links,
+            entries.value,
+            entries.length,
+            entries.hop,
+            prefix,
+            bits,
+        );
         say_part(out, part)
     }
 }
 
-impl Program for Tables {
+impl Program for Tables<'_> {
     // The first letter of a line says which case it is.
     fn line<W: Print>(&mut self, out: &W, text: &mut Text) -> io::Result<()> {
         text.seek(b'a', b'z');
@@ -88,10 +96,13 @@ impl Program for Tables {
 }
 
 fn main(rt: HostRuntime) -> io::Result<()> {
-    let alloc = rt.alloc();
-    let text = read_text(&mut rt.stdin(), alloc)?;
+    let mut page = cases::page();
+    let text = read_text(&mut rt.stdin(), &mut page)?;
+    let mut values = cases::values();
+    let mut lengths = cases::lengths();
+    let mut hops = cases::hops();
     let mut tables = Tables {
-        table: Table::new(alloc)?,
+        table: Table::new(&mut values, &mut lengths, &mut hops),
     };
-    run_lines(&rt, &text, &mut tables)
+    run_lines(&rt, text, &mut tables)
 }

@@ -7,14 +7,21 @@ use Rattle.cases.proofs.tables.Table.entries.Goals as goal
 pub loop-i-preserved : goal.loop-i-preserved
 loop-i-preserved c =
     let v = c.loop-i.invariant in
+    let on =
+    rows_read_on v.rows c.loop-i-test.true c.held.ensures.value
+    (rw c.held.ensures.next at c.held-in-loop-i.ensures.value)
+    (rw (c.held-in-loop-i.ensures.next, c.held.ensures.next) at c.held-in-loop-i-2.ensures.value)
+    refl in
     rw (c.held-in-loop-i-2.ensures.next, c.held-in-loop-i.ensures.next, c.held.ensures.next)
     record {
       text = v.text;
-      rows =
-          rows_read_on v.rows c.loop-i-test.true c.held.ensures.value
-          (rw c.held.ensures.next at c.held-in-loop-i.ensures.value)
-          (rw (c.held-in-loop-i.ensures.next, c.held.ensures.next) at c.held-in-loop-i-2.ensures.value)
-          refl;
+      same =
+          record {
+            values = record { name = v.same.values.name; long = on.first };
+            lengths = record { name = v.same.lengths.name; long = on.second };
+            hops = record { name = v.same.hops.name; long = on.third };
+          };
+      rows = on;
     }
 
 pub returns-clause-lists : goal.returns-clause-lists

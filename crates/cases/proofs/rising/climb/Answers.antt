@@ -1,5 +1,5 @@
 use Rattle.cases.proofs.Climbing.{climbed_start, climbed_on}
-use Rattle.cases.proofs.tables.Table.climb.Goals as goal
+use Rattle.cases.proofs.rising.climb.Goals as goal
 
 pub loop-i-init : goal.loop-i-init
 loop-i-init c = climbed_start _ _ _ _ _ _
