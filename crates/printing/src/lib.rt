@@ -6,6 +6,8 @@
 
 ghost use Rattle.std.specs.Io.{ReadsAtMost};
 ghost use Rattle.std.specs.Prelude.{◌≡◌, ◌≤◌, IfOk, false, length, take, true};
+ghost use Rattle.table.specs.Refusals.{refusal_detail, refusal_number};
+ghost use Rattle.walk.specs.Told.{lookup_refusal_number};
 ghost use Rattle.cases.specs.Lent.{SameRows, SameTable};
 ghost use Rattle.cases.specs.Lists.{bad_table};
 ghost use Rattle.cases.specs.Rising.{bad_rising};
@@ -164,14 +166,55 @@ pub fn put_all<T: fmt::Display>(out: &impl Print, numbers: &[T]) -> io::Result<(
     Ok(())
 }
 
-pub fn say_refusal(out: &impl Print, refusal: Refusal) -> io::Result<()> {
-    let number = refusal.number();
-    let detail = refusal.detail();
+// What any refusal is said by: its number, and its detail where that is said. (A lookup's has none: 0.)
+#[derive(Clone, Copy, Debug, PartialEq, Eq)]
+pub struct RefusalNumbers {
+    pub number: u32,
+    pub detail: u64,
+}
+
+impl From<Refusal> for RefusalNumbers {
+    ghost from_gives = { λ refusal numbers. (numbers.number ≡ refusal_number refusal) × (numbers.detail ≡ refusal_detail refusal) };
+
+    fn from(refusal: Refusal) -> RefusalNumbers {
+        RefusalNumbers {
+            number: refusal.number(),
+            detail: refusal.detail(),
+        }
+    }
+}
+
+impl From<LookupRefusal> for RefusalNumbers {
+    ghost from_gives = { λ refusal numbers. (numbers.number ≡ lookup_refusal_number refusal) × (numbers.detail ≡ 0) };
+
+    fn from(refusal: LookupRefusal) -> RefusalNumbers {
+        RefusalNumbers::from(refusal.number())
+    }
+}
+
+// A number alone, as `walk::answer_of` has it.
+impl From<u32> for RefusalNumbers {
+    ghost from_gives = { λ number numbers. (numbers.number ≡ number) × (numbers.detail ≡ 0) };
+
+    fn from(number: u32) -> RefusalNumbers {
+        RefusalNumbers { number, detail: 0 }
+    }
+}
+
+pub fn say_refused(out: &impl Print, number: u32, detail: u64) -> io::Result<()> {
     print!(out; "refused {number} {detail}")
 }
 
+pub fn say_refusal<E: Into<RefusalNumbers>>(out: &impl Print, refusal: E) -> io::Result<()> {
+    let numbers = refusal.into();
+    say_refused(out, numbers.number, numbers.detail)
+}
+
 // Whether a call was accepted, whatever it answers then.
-pub fn say_outcome<T: Copy>(out: &impl Print, answer: Result<T, Refusal>) -> io::Result<()> {
+pub fn say_outcome<T: Copy, E: Into<RefusalNumbers>>(
+    out: &impl Print,
+    answer: Result<T, E>,
+) -> io::Result<()> {
     match answer {
         Ok(_) => print!(out; "accepted"),
         Err(refusal) => say_refusal(out, refusal),
@@ -235,7 +278,10 @@ pub fn say_elements(out: &impl Print, elements: usize, rows: Rows) -> io::Result
 }
 
 // What a lookup answers.
-pub fn say_answer(out: &impl Print, answer: Result<Answer, LookupRefusal>) -> io::Result<()> {
+pub fn say_answer<E: Into<RefusalNumbers>>(
+    out: &impl Print,
+    answer: Result<Answer, E>,
+) -> io::Result<()> {
     match answer {
         Ok(Answer::Match { hop, length, reads }) => print!(out;
             "match {hop} length {length} reads {reads}"
@@ -245,7 +291,7 @@ pub fn say_answer(out: &impl Print, answer: Result<Answer, LookupRefusal>) -> io
         ),
         Ok(Answer::NoRoute { reads }) => print!(out; "none reads {reads}"),
         Err(refusal) => {
-            let number = refusal.number();
+            let number = refusal.into().number;
             print!(out; "refused {number}")
         }
     }
@@ -253,23 +299,26 @@ pub fn say_answer(out: &impl Print, answer: Result<Answer, LookupRefusal>) -> io
 
 // An answer in short: hop/length/reads, d for a discard's hop, 0/reads for no route, or r and the number of the refusal.
 #[derive(Clone, Copy)]
-pub struct Short(pub Result<Answer, LookupRefusal>);
+pub struct Short<E = LookupRefusal>(pub Result<Answer, E>);
 
-impl fmt::Display for Short {
+impl<E: Copy + Into<RefusalNumbers>> fmt::Display for Short<E> {
     fn fmt<W: fmt::Write>(&self, f: &mut fmt::Formatter<W>) -> fmt::Result {
         match self.0 {
             Ok(Answer::Match { hop, length, reads }) => write!(f, "{hop}/{length}/{reads}"),
             Ok(Answer::Discard { length, reads }) => write!(f, "d/{length}/{reads}"),
             Ok(Answer::NoRoute { reads }) => write!(f, "0/{reads}"),
             Err(refusal) => {
-                let number = refusal.number();
+                let number = refusal.into().number;
                 write!(f, "r{number}")
             }
         }
     }
 }
 
-pub fn say_swept(out: &impl Print, answer: Result<Answer, LookupRefusal>) -> io::Result<()> {
+pub fn say_swept<E: Copy + Into<RefusalNumbers>>(
+    out: &impl Print,
+    answer: Result<Answer, E>,
+) -> io::Result<()> {
     let short = Short(answer);
     print!(out; " {short}")
 }
