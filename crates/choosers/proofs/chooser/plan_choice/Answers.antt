@@ -22,5 +22,6 @@ planned-requires c =
 pub returns : goal.returns
 unfolding outcome_of
 returns c =
+    let passed = sym c.in_ok-tested.ensures in
     let b = plan_accepted _ c.args.width c.args.levels c.args.links c.args.entries.value.now c.args.entries.length.now c.args.entries.hop.now c.args.scratch.now
-    (sym c.in_ok-tested.ensures) c.planned.ensures in record { exact = b; meaning = plan_means b }
+    passed c.planned.ensures in record { exact = b; meaning = plan_means b }
