@@ -88,6 +88,12 @@ longer_by_line old key n e = omega (arith, ap length e, length-append old (line_
 pub longer_by_address : (old : List ℕ) {new : List ℕ} (v n : ℕ) → new ≡ old ++ address_line v n → length new ≡ length old + (n + address_bytes)
 longer_by_address old v n e = omega (arith, ap length e, length-append old (address_line v n), length_address v n)
 
+-- a query's four lines, put one after the other, where each number has the answer's value
+pub lines_put : (old : List ℕ) {p q r new : List ℕ} (v n : ℕ) {a b c hop len reads : ℕ}
+    → p ≡ old ++ address_line v n → q ≡ p ++ line_of hop_key a → r ≡ q ++ line_of length_key b → new ≡ r ++ line_of reads_key c
+    → a ≡ hop → b ≡ len → c ≡ reads → new ≡ old ++ (address_line v n ++ line_of hop_key hop ++ line_of length_key len ++ line_of reads_key reads)
+lines_put old v n e f g h i j k = rw (h, g, f, e, i, j, k) (simp append_assoc)
+
 pub length_refusal : (a b : ℕ) → length (refusal_lines a b) ≤ refusal_bytes
 unfolding refusal_lines
 length_refusal a b = omega (arith, length-append (line_of refusal_key a) (line_of detail_key b), length_line refusal_key a, length_line detail_key b)

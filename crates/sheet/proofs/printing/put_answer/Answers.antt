@@ -1,10 +1,10 @@
 -- The address line, then three lines, one after the other.
-use Rattle.std.proofs.Common.{◌≡◌, ◌+◌, ◌≤◌, arith, length, append_assoc}
+use Rattle.std.proofs.Common.{◌≡◌, ◌+◌, ◌≤◌, arith, length}
 use Rattle.reading.specs.Keys.{hop_key}
 use Rattle.sheet.specs.Keys.{length_key}
 use Rattle.sheet.specs.Limits.{address_bytes, decimal_bytes}
 use Rattle.sheet.specs.Printing.{answer_lines}
-use Rattle.sheet.proofs.Writing.{longer_by_line, longer_by_address}
+use Rattle.sheet.proofs.Writing.{longer_by_line, longer_by_address, lines_put}
 use Rattle.sheet.proofs.printing.put_answer.Goals as goal
 
 pub put_line-requires : goal.put_line-requires
@@ -28,5 +28,5 @@ put_line-requires-3 c =
 pub returns : goal.returns
 unfolding answer_lines
 returns c =
-    rw (c.put_line-3.ensures, c.put_line-2.ensures, c.put_line.ensures, c.put_address.ensures, c.from.ensures, c.from-2.ensures, c.from-3.ensures)
-    (simp append_assoc)
+    lines_put c.args.page.now.items c.args.address c.args.n c.put_address.ensures c.put_line.ensures c.put_line-2.ensures c.put_line-3.ensures
+    (omega arith) (omega arith) (omega arith)
