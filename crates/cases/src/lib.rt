@@ -16,6 +16,7 @@ mod text;
 
 pub use elements::{ElementRows, FourLengths};
 pub use fronts::{front, front_mut};
+pub use limits::{HOP_ROWS, LIST, PLACES, ROWS, SCRATCH, SUPERNODES, TEXT};
 pub use marks::count;
 pub use numbers::Number;
 pub use rising::is_bad_rising;
